@@ -15,7 +15,7 @@ use Rattle.sg_mailbox.specs.declared.sides.Side.{Side}
 use Rattle.sg_profile.specs.declared.entry.Entry.{Entry}
 use Rattle.sg_profile.specs.declared.entry.Entry.TheVariants as entry
 use Rattle.sg_profile.specs.declared.turn.Turn.{Turn}
-use Rattle.sg_profile.specs.Profiles.{entry_at, rows_at, stepped}
+use Rattle.sg_profile.specs.Profiles.{entry_at, rows_due, turns_after_row}
 use Rattle.sg_rows.specs.declared.network.Network.{Network}
 use Rattle.sg_states.specs.declared.state.Blocking.{Blocking}
 use Rattle.sg_states.specs.Actors.{blocking_in, joiners}
@@ -151,7 +151,7 @@ entry_leaves network (Some (entry.LinkOn link on)) under = refl
 enter_kept : (P : Core → Type 0) (Q : Record → Type 0) → Flowing P → (setup : Setup) (row : ℕ) (core : Core) → P core → Kept P Q (enters_one setup row core)
 enter_kept P Q flowing setup row core p =
     still P Q (counted (enters setup row core)) None (flowing.counted (enters setup row core)
-    (flowing.moved (applied_if setup.network (entry_at setup.profiles core.turns row) core.under) (stepped setup.profiles row core.turns) core (entry_leaves setup.network (entry_at setup.profiles core.turns row) core.under) p))
+    (flowing.moved (applied_if setup.network (entry_at setup.profiles core.turns row) core.under) (turns_after_row setup.profiles row core.turns) core (entry_leaves setup.network (entry_at setup.profiles core.turns row) core.under) p))
 
 change_kept : (P : Core → Type 0) (Q : Record → Type 0) → Finishing P Q → Flowing P → (setup : Setup) (row : ℕ) (core : Core) → P core → Kept P Q (changes setup row core)
 change_kept P Q finishing flowing setup row core p =
@@ -175,7 +175,7 @@ end_kept P Q finishing flowing setup serial core p = by (task_at core.under.task
 date_kept : (P : Core → Type 0) (Q : Record → Type 0) → Finishing P Q → Flowing P → (setup : Setup) (core : Core) (span : Option ℕ) → P core → Kept P Q (pass_at setup core span)
 date_kept P Q finishing flowing setup core None p = still P Q core (Some _) p
 date_kept P Q finishing flowing setup core (Some span) p =
-    let rows = rows_at (core.under.date + span) setup.profiles core.turns in
+    let rows = rows_due (core.under.date + span) setup.profiles core.turns in
     let serials = due_in span core.under in
     let moved = core_later span core in
     unless P Q setup core (all_of (stretches setup span core) moved) p

@@ -13,8 +13,8 @@ use Rattle.sg_activity.specs.Links.{is_off}
 use Rattle.sg_activity.specs.Task.{is_cut}
 use Rattle.sg_mailbox.specs.declared.sides.Post.{Post}
 use Rattle.sg_mailbox.specs.declared.sides.Side.{Side}
-use Rattle.sg_mailbox.specs.Posts.{meets}
-use Rattle.sg_requests.specs.Requested.{oldest, queue_at, taken, without_requests}
+use Rattle.sg_mailbox.specs.Posts.{partner}
+use Rattle.sg_requests.specs.Requested.{oldest, queue_at, queues_without_oldest, without_requests}
 use Rattle.sg_route.specs.declared.router.RouteFault.{RouteFault}
 use Rattle.sg_route.specs.Roads.{Roads}
 use Rattle.sg_route.specs.Route.{Route}
@@ -158,7 +158,7 @@ found_spares resting Q rests None roads setup comer core apart e = part_spares r
 found_spares resting Q rests (Some post) roads setup comer core apart e = route_spares resting Q rests (route_between roads setup (sender_of comer post.side) (receiver_of comer post.side)) setup comer post core apart e
 
 comes_spares : (resting : ℕ) (Q : State → List Await → Type 0) (rests : Rests Q) (roads : Roads) (setup : Setup) (comer : Comer) (core : Core) → Apart resting comer.side.actor.0 → Stays resting Q core → Spares resting Q (comes roads setup comer core)
-comes_spares resting Q rests roads setup comer core apart e = found_spares resting Q rests (meets comer.sends (posts_at comer.mailbox core)) roads setup comer core apart e
+comes_spares resting Q rests roads setup comer core apart e = found_spares resting Q rests (partner comer.sends (posts_at comer.mailbox core)) roads setup comer core apart e
 
 until_spares : (resting : ℕ) (Q : State → List Await → Type 0) (rests : Rests Q) (over : Option Answer) (actor : ℕ) (on : Await) (core : Core) → Apart resting actor → Stays resting Q core → Spares resting Q (waits_until over actor on core)
 until_spares resting Q rests (Some over) actor on core apart e = now_spares resting Q rests actor call.Wait 0 over core apart e
@@ -166,7 +166,7 @@ until_spares resting Q rests None actor on core apart e = blocks_spares resting 
 
 wait_spares : (resting : ℕ) (Q : State → List Await → Type 0) (rests : Rests Q) (found : Option Await) (actor : ℕ) (core : Core) → Apart resting actor → Stays resting Q core → Spares resting Q (waits_by found actor core)
 wait_spares resting Q rests None actor core apart e = now_spares resting Q rests actor call.Wait 0 answer.Refused core apart e
-wait_spares resting Q rests (Some on) actor core apart e = until_spares resting Q rests (answer_of_over (whose_at core on.serial.0)) actor on (record core { requests = taken core.requests actor }) apart (queue_stays (state_of core resting) core.requests resting Q actor _ apart e)
+wait_spares resting Q rests (Some on) actor core apart e = until_spares resting Q rests (answer_of_over (whose_at core on.serial.0)) actor on (record core { requests = queues_without_oldest core.requests actor }) apart (queue_stays (state_of core resting) core.requests resting Q actor _ apart e)
 
 -- ---- executions
 held_ended : (resting : ℕ) (Q : State → List Await → Type 0) (rests : Rests Q) (b : Bool) (serial : ℕ) (core : Core) → Stays resting Q core → Stays resting Q (held_if b serial core)

@@ -8,7 +8,7 @@ use Rattle.sg_base.specs.declared.call.Answer.{Answer}
 use Rattle.sg_base.specs.declared.call.Call.{Call}
 use Rattle.sg_base.specs.declared.ids.ActorId.{ActorId}
 use Rattle.sg_activity.specs.Task.{Task}
-use Rattle.sg_requests.specs.Requested.{entered, queue_at, rising, serial_of}
+use Rattle.sg_requests.specs.Requested.{rising_numbers_with, queue_at, rising_numbers, serial_of}
 use Rattle.sg_states.specs.declared.state.Actor.{Actor}
 use Rattle.sg_states.specs.declared.state.State.{State}
 use Rattle.sg_states.specs.declared.state.State.TheVariants.{Unstarted, Ready, Blocked, Ended}
@@ -30,12 +30,12 @@ abbrev pub Has : ℕ → List ℕ → Type 0
 Has n [] = ⊥
 Has n (m ∷ more) = (n ≡ m) ⊎ Has n more
 
-has_entered : (n m : ℕ) (xs : List ℕ) → Has n (m ∷ xs) → Has n (entered m xs)
-unfolding entered
+has_entered : (n m : ℕ) (xs : List ℕ) → Has n (m ∷ xs) → Has n (rising_numbers_with m xs)
+unfolding rising_numbers_with
 has_entered n m [] h = h
 has_entered n m (k ∷ xs) h = by (nat_lt m k) (m == k) refl (has_entered n m xs) h
   where
-    by : (less same : Bool) → (m == k) ≡ same → (Has n (m ∷ xs) → Has n (entered m xs)) → Has n (m ∷ k ∷ xs) → Has n (cond less (m ∷ k ∷ xs) (cond same (k ∷ xs) (k ∷ entered m xs)))
+    by : (less same : Bool) → (m == k) ≡ same → (Has n (m ∷ xs) → Has n (rising_numbers_with m xs)) → Has n (m ∷ k ∷ xs) → Has n (cond less (m ∷ k ∷ xs) (cond same (k ∷ xs) (k ∷ rising_numbers_with m xs)))
     by true same e more h = h
     by false true e more (inl is) = inl (let one : m ≡ k = grind (arith, e) in is ∙ one)
     by false true e more (inr h) = h
@@ -43,11 +43,11 @@ has_entered n m (k ∷ xs) h = by (nat_lt m k) (m == k) refl (has_entered n m xs
     by false false e more (inr (inl is)) = inl is
     by false false e more (inr (inr h)) = inr (more (inr h))
 
-pub has_rising : (n : ℕ) (xs : List ℕ) → Has n xs → Has n (rising xs)
-unfolding rising
+pub has_rising : (n : ℕ) (xs : List ℕ) → Has n xs → Has n (rising_numbers xs)
+unfolding rising_numbers
 has_rising n [] h = h
-has_rising n (m ∷ xs) (inl is) = has_entered n m (rising xs) (inl is)
-has_rising n (m ∷ xs) (inr h) = has_entered n m (rising xs) (inr (has_rising n xs h))
+has_rising n (m ∷ xs) (inl is) = has_entered n m (rising_numbers xs) (inl is)
+has_rising n (m ∷ xs) (inr h) = has_entered n m (rising_numbers xs) (inr (has_rising n xs h))
 
 pub has_contains : (n : ℕ) (xs : List ℕ) → Has n xs → Contains xs n
 has_contains n [] h = absurd h

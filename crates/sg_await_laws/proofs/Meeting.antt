@@ -11,8 +11,8 @@ use Rattle.sg_activity.specs.Task.{Task, is_cut}
 use Rattle.sg_activity.specs.Underway.{begun, drawn}
 use Rattle.sg_mailbox.specs.declared.sides.Post.{Post}
 use Rattle.sg_mailbox.specs.declared.sides.Side.{Side}
-use Rattle.sg_mailbox.specs.Posts.{is_other, meets}
-use Rattle.sg_requests.specs.Requested.{oldest, queue_at, taken}
+use Rattle.sg_mailbox.specs.Posts.{is_other, partner}
+use Rattle.sg_requests.specs.Requested.{oldest, queue_at, queues_without_oldest}
 use Rattle.sg_route.specs.declared.router.RouteFault.{RouteFault}
 use Rattle.sg_route.specs.Roads.{Roads}
 use Rattle.sg_route.specs.Route.{Route}
@@ -107,12 +107,12 @@ awaited_route (Ok route) setup comer post core some within was none caller a =
     task = comm_over setup route sender receiver
 
 pub awaited_comes : (roads : Roads) (setup : Setup) (comer : Comer) (core : Core) → joined_by comer.what ≡ None → IsCaller comer.side.actor.0 core → AreAwaited Nobody [] core → AreAwaited Nobody [] (comes roads setup comer core).core
-awaited_comes roads setup comer core none caller a = by (meets comer.sends (posts_at comer.mailbox core)) refl
+awaited_comes roads setup comer core none caller a = by (partner comer.sends (posts_at comer.mailbox core)) refl
   where
     only : (target : ActorId) → (comer.side.actor.0 == target.0) ≡ true → target.0 ≡ comer.side.actor.0
     only target is = grind (arith, is)
 
-    by : (found : Option Post) → meets comer.sends (posts_at comer.mailbox core) ≡ found → AreAwaited Nobody [] (comes_by found roads setup comer core).core
+    by : (found : Option Post) → partner comer.sends (posts_at comer.mailbox core) ≡ found → AreAwaited Nobody [] (comes_by found roads setup comer core).core
     by None e =
         awaited_part comer.waits comer (length core.under.tasks + 1) (posted comer (counted core)) none caller
         (awaited_pushed comer.side.actor.0 (drawn core.under) (Posted comer.mailbox comer.sends comer.side) (counted core) (omega (arith, length-append core.under.tasks (None ∷ []))) only a)
@@ -132,7 +132,7 @@ awaited_waits None actor core e caller a = awaited_ready Nobody [] actor answer.
 awaited_waits (Some on) actor core e caller a = until (answer_of_over (whose_at core on.serial.0)) refl
   where
     rest : Core
-    rest = record core { requests = taken core.requests actor }
+    rest = record core { requests = queues_without_oldest core.requests actor }
 
     lacking : AreAwaited (Lacks actor on.serial.0) [] rest
     lacking = awaited_taken actor on core e a

@@ -7,7 +7,7 @@ use Rattle.sg_base.specs.declared.ids.ActorId.{ActorId}
 use Rattle.sg_base.specs.declared.ids.BoxId.{BoxId}
 use Rattle.sg_activity.specs.Underway.{Underway}
 use Rattle.sg_mailbox.specs.declared.sides.Side.{Side}
-use Rattle.sg_requests.specs.Requested.{oldest, queue_at, rest_of, serial_of, taken}
+use Rattle.sg_requests.specs.Requested.{oldest, queue_at, rest_of, serial_of, queues_without_oldest}
 use Rattle.sg_states.specs.Actors.{blocking_in}
 use Rattle.sg_kernel.specs.declared.owners.How.{How}
 use Rattle.sg_kernel.specs.declared.owners.How.TheVariants as how
@@ -186,7 +186,7 @@ oldest_is : (queue : List Await) (on : Await) → oldest queue ≡ Some on → q
 oldest_is [] on e = absurd (cc e)
 oldest_is (first ∷ rest) on e = (let same : first ≡ on = cc e in ap (λ o. o ∷ rest) same)
 
-pub awaited_taken : (actor : ℕ) (on : Await) (core : Core) → oldest (queue_at core.requests actor) ≡ Some on → AreAwaited Nobody [] core → AreAwaited (Lacks actor on.serial.0) [] (record core { requests = taken core.requests actor })
+pub awaited_taken : (actor : ℕ) (on : Await) (core : Core) → oldest (queue_at core.requests actor) ≡ Some on → AreAwaited Nobody [] core → AreAwaited (Lacks actor on.serial.0) [] (record core { requests = queues_without_oldest core.requests actor })
 awaited_taken actor on core first a = record {
   numbered = a.numbered;
   rooms = omega (arith, a.rooms, length-set core.requests (actor - 1) rest);

@@ -13,11 +13,11 @@ use Rattle.sg_activity.specs.Task.{Task, is_cut, phase_after, task_at}
 use Rattle.sg_activity.specs.Underway.{Underway, gone_on, held, hits, is_computing, is_kept, with_bandwidth, with_host_on, with_link_on, with_speed, with_task}
 use Rattle.sg_mailbox.specs.declared.sides.Post.{Post}
 use Rattle.sg_mailbox.specs.declared.sides.Side.{Side}
-use Rattle.sg_mailbox.specs.Posts.{meets}
+use Rattle.sg_mailbox.specs.Posts.{partner}
 use Rattle.sg_profile.specs.declared.entry.Entry.{Entry}
 use Rattle.sg_profile.specs.declared.entry.Entry.TheVariants as entry
 use Rattle.sg_profile.specs.Profiles.{entry_at}
-use Rattle.sg_requests.specs.Requested.{oldest, queue_at, taken}
+use Rattle.sg_requests.specs.Requested.{oldest, queue_at, queues_without_oldest}
 use Rattle.sg_route.specs.declared.router.RouteFault.{RouteFault}
 use Rattle.sg_route.specs.Roads.{Roads}
 use Rattle.sg_route.specs.Route.{Route}
@@ -123,7 +123,7 @@ module _ (R : Underway → Objects → Type 0) (lasting : Lasting R) (May : ℕ 
       begun = joined setup post.serial.0 route (sender_of comer post.side) (receiver_of comer post.side) (counted core)
 
   comes_kept : (roads : Roads) (setup : Setup) (comer : Comer) (core : Core) → P core → Still (comes roads setup comer core)
-  comes_kept roads setup comer core p = by (meets comer.sends (posts_at comer.mailbox core))
+  comes_kept roads setup comer core p = by (partner comer.sends (posts_at comer.mailbox core))
     where
       by : (found : Option Post) → Still (comes_by found roads setup comer core)
       by None = (let new = posted comer (counted core) in part_kept comer.waits comer (length core.under.tasks + 1) new (lasting core.under new.under core.objects refl refl p))
@@ -133,7 +133,7 @@ module _ (R : Underway → Objects → Type 0) (lasting : Lasting R) (May : ℕ 
   waits_kept None actor core p = well _ _ None p
   waits_kept (Some on) actor core p = by (answer_of_over (whose_at core on.serial.0))
     where
-      by : (over : Option Answer) → Still (waits_until over actor on (record core { requests = taken core.requests actor }))
+      by : (over : Option Answer) → Still (waits_until over actor on (record core { requests = queues_without_oldest core.requests actor }))
       by (Some over) = well _ _ None p
       by None = well _ _ None p
 

@@ -21,8 +21,8 @@ use Rattle.sg_activity.specs.Task.{Task, exec_of, is_cut, rekinded, task_at, tim
 use Rattle.sg_activity.specs.Underway.{Underway, begun, gone_on, held, is_computing, is_kept, started, turned}
 use Rattle.sg_mailbox.specs.declared.sides.Post.{Post}
 use Rattle.sg_mailbox.specs.declared.sides.Side.{Side}
-use Rattle.sg_mailbox.specs.Posts.{is_other, meets}
-use Rattle.sg_requests.specs.Requested.{oldest, queue_at, rising, serial_of, taken}
+use Rattle.sg_mailbox.specs.Posts.{is_other, partner}
+use Rattle.sg_requests.specs.Requested.{oldest, queue_at, rising_numbers, serial_of, queues_without_oldest}
 use Rattle.sg_route.specs.declared.router.RouteFault.{RouteFault}
 use Rattle.sg_route.specs.Roads.{Roads}
 use Rattle.sg_route.specs.Route.{Route}
@@ -218,7 +218,7 @@ other_kind true post e = by post.sends e
 other_kind false post e = e
 
 parts_comes : (roads : Roads) (setup : Setup) (comer : Comer) (core : Core) → 0 < comer.side.actor.0 → TakePart Nobody core → TakePart Nobody (comes roads setup comer core).core
-parts_comes roads setup comer core from p = by (meets comer.sends (posts_at comer.mailbox core)) refl
+parts_comes roads setup comer core from p = by (partner comer.sends (posts_at comer.mailbox core)) refl
   where
     new : Whose
     new = Posted comer.mailbox comer.sends comer.side
@@ -229,7 +229,7 @@ parts_comes roads setup comer core from p = by (meets comer.sends (posts_at come
     part : IsPart (core.whose ++ new ∷ []) comer.side.actor.0 (await (length core.under.tasks + 1) comer.sends)
     part = record { from = omega arith; part = subst (λ w. PartOf comer.side.actor.0 w (party_of comer.sends)) (sym (at_end core.whose new (Over how.Done) (length core.under.tasks + 1 - 1) place)) (refl, refl) }
 
-    by : (found : Option Post) → meets comer.sends (posts_at comer.mailbox core) ≡ found → TakePart Nobody (comes_by found roads setup comer core).core
+    by : (found : Option Post) → partner comer.sends (posts_at comer.mailbox core) ≡ found → TakePart Nobody (comes_by found roads setup comer core).core
     by None e =
         parts_part comer.waits comer (length core.under.tasks + 1) (posted comer (counted core)) from (omega (arith, p.numbered, length-append core.whose (new ∷ []))) part
         (parts_pushed Nobody core.actors core.under.tasks core.whose core.requests None new (λ is. refl) p)
@@ -251,7 +251,7 @@ parts_waits None actor core e from p = parts_ready Nobody core actor answer.Refu
 parts_waits (Some on) actor core e from p = until (answer_of_over (whose_at core on.serial.0)) refl
   where
     rest : Core
-    rest = record core { requests = taken core.requests actor }
+    rest = record core { requests = queues_without_oldest core.requests actor }
 
     part_rest : TakePart Nobody rest
     part_rest = parts_taken Nobody core actor from p
@@ -359,7 +359,7 @@ map_both P (x ∷ xs) ys one two = All-cons P x.serial.0 (map serial_of (xs ++ y
 
 -- what the one at a place awaits
 abbrev awaited_there : Core → ℕ → List ℕ
-awaited_there core place = rising (map serial_of (option_to_list (blocked_on (blocking_in (get_or core.actors place (not_suspended Ended)).state)) ++ get_or core.requests place []))
+awaited_there core place = rising_numbers (map serial_of (option_to_list (blocked_on (blocking_in (get_or core.actors place (not_suspended Ended)).state)) ++ get_or core.requests place []))
 
 pub awaited_belong : (actor : ℕ) (target : ActorId) (core : Core) → 0 < actor → actor - 1 ≡ target.0 - 1 → TakePart Nobody core → All (Belongs actor core.whose) (awaited target core)
 awaited_belong actor target core from same p =

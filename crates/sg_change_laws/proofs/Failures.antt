@@ -2,7 +2,7 @@
 use Rattle.std.proofs.Common.{◌≡◌, ◌≢◌, ℕ, zero, suc, ◌+◌, ◌==◌, Bool, true, false, cond, List, [], ◌∷◌, Option, None, Some, option_map, refl, ap, ◌∙◌}
 use Rattle.sg_activity.specs.Underway.{due_in, hits, work_of}
 use Rattle.sg_activity.specs.Task.{Task, phase_after, task_at}
-use Rattle.sg_profile.specs.Profiles.{rows_at}
+use Rattle.sg_profile.specs.Profiles.{rows_due}
 use Rattle.sg_route.specs.Roads.{Roads, roads_of}
 use Rattle.sg_kernel.specs.declared.owners.How.TheVariants as how
 use Rattle.sg_kernel.specs.declared.stop.Stop.{Stop}
@@ -120,8 +120,8 @@ only_ends setup serial core = by (task_at core.under.tasks serial)
 only_pass : (setup : Setup) (core : Core) (span : ℕ) → OnlyBudget (pass_at setup core (Some span))
 only_pass setup core span =
     only_unless (core.events == setup.budget) core (all_of (stretches setup span core) (core_later span core))
-    (only_two (each (changes setup) (rows_at (core.under.date + span) setup.profiles core.turns)) (each (ends setup) (due_in span core.under)) (core_later span core)
-    (only_each (changes setup) (only_changes setup) (rows_at (core.under.date + span) setup.profiles core.turns) (core_later span core))
+    (only_two (each (changes setup) (rows_due (core.under.date + span) setup.profiles core.turns)) (each (ends setup) (due_in span core.under)) (core_later span core)
+    (only_each (changes setup) (only_changes setup) (rows_due (core.under.date + span) setup.profiles core.turns) (core_later span core))
     (only_each (ends setup) (only_ends setup) (due_in span core.under)))
 
 -- ---- nothing off is used

@@ -12,7 +12,7 @@ use Rattle.sg_lives.specs.Slots.{passes, serials}
 use Rattle.sg_activity.specs.Task.{Task, is_hit, phase_after, task_at}
 use Rattle.sg_activity.specs.Underway.{due_in, hits, passed}
 use Rattle.sg_mailbox.specs.declared.sides.Side.{Side}
-use Rattle.sg_profile.specs.Profiles.{entry_at, rows_at}
+use Rattle.sg_profile.specs.Profiles.{entry_at, rows_due}
 use Rattle.sg_requests.specs.Requested.{queue_at}
 use Rattle.sg_states.specs.declared.state.Actor.{Actor}
 use Rattle.sg_states.specs.declared.state.Blocking.{Blocking}
@@ -251,7 +251,7 @@ serials_above test n (x ∷ xs) from = by (passes test x) (serials_above test (n
 parts_at : (setup : Setup) (core : Core) (span : Option ℕ) → TakePart Nobody core → TakePart Nobody (pass_at setup core span).core
 parts_at setup core None p = p
 parts_at setup core (Some span) p =
-    let rows = rows_at (core.under.date + span) setup.profiles core.turns in
+    let rows = rows_due (core.under.date + span) setup.profiles core.turns in
     let moved = core_later span core in
     parts_cond (core.events == setup.budget) (stops core [] Budget) (all_of (stretches setup span core) moved) p
     (two_keep (TakePart Nobody) (each (changes setup) rows) (each (ends setup) (due_in span core.under)) moved

@@ -12,7 +12,7 @@ use Rattle.sg_base.specs.declared.call.Msg.{Msg}
 use Rattle.sg_base.specs.declared.ids.BoxId.{BoxId}
 use Rattle.sg_mailbox.specs.declared.sides.Post.{Post}
 use Rattle.sg_mailbox.specs.declared.sides.Side.{Side}
-use Rattle.sg_mailbox.specs.Posts.{is_other, meets}
+use Rattle.sg_mailbox.specs.Posts.{is_other, partner}
 use Rattle.sg_route.specs.declared.router.RouteFault.{RouteFault}
 use Rattle.sg_route.specs.Roads.{Roads}
 use Rattle.sg_route.specs.Route.{Route}
@@ -36,7 +36,7 @@ use Rattle.sg_change_laws.proofs.CalledParts.{found_passes, other_kind}
 use Rattle.sg_change_laws.proofs.Tracked.{blocked_within}
 
 -- ---- the call leads to a meeting that fails
-comes_fails : (roads : Roads) (setup : Setup) (comer : Comer) (core : Core) (post : Post) → meets comer.sends (posts_at comer.mailbox core) ≡ Some post → side_fails (Some comer) roads setup core ≡ true → comes roads setup comer core ≡ fails_with comer post.serial post.side (counted core)
+comes_fails : (roads : Roads) (setup : Setup) (comer : Comer) (core : Core) (post : Post) → partner comer.sends (posts_at comer.mailbox core) ≡ Some post → side_fails (Some comer) roads setup core ≡ true → comes roads setup comer core ≡ fails_with comer post.serial post.side (counted core)
 comes_fails roads setup comer core post e fails =
     ap (λ o. comes_by o roads setup comer core) e ∙ route (route_between roads setup (sender_of comer post.side) (receiver_of comer post.side)) (sym (ap (λ o. meeting_fails o roads setup comer core) e) ∙ fails)
   where
@@ -102,7 +102,7 @@ module _ (core : Core) (actor : ℕ) (post : Post) (since : ℕ) (called : Call)
 answered_is : (roads : Roads) (setup : Setup) (core : Core) (actor : ℕ) (what : Call) → core.events ≢ setup.budget → answered roads setup core actor what ≡ answered_call roads setup core actor what
 answered_is roads setup core actor what left = cond-false (core.events == setup.budget) (stops core [] Budget) (answered_call roads setup core actor what) (eq_no core.events setup.budget left)
 
-kind_is : (comer : Comer) (core : Core) (post : Post) → meets comer.sends (posts_at comer.mailbox core) ≡ Some post → post.sends ≡ not comer.sends
+kind_is : (comer : Comer) (core : Core) (post : Post) → partner comer.sends (posts_at comer.mailbox core) ≡ Some post → post.sends ≡ not comer.sends
 kind_is comer core post e = other_kind comer.sends post (found_passes (is_other comer.sends) (posts_at comer.mailbox core) post e)
 
 module _ (roads : Roads) (setup : Setup) (core : Core) (actor : ℕ) (post : Post) (since : ℕ) (called : Call) (on : Await) (left : core.events ≢ setup.budget) where

@@ -12,7 +12,7 @@ use Rattle.sg_base.specs.declared.call.Call.TheVariants as call
 use Rattle.sg_base.specs.declared.ids.ActorId.{ActorId}
 use Rattle.sg_base.specs.declared.trace_record.Record.{Record}
 use Rattle.sg_mailbox.specs.declared.sides.Side.{Side}
-use Rattle.sg_requests.specs.Requested.{entered, rising}
+use Rattle.sg_requests.specs.Requested.{rising_numbers_with, rising_numbers}
 use Rattle.sg_route.specs.Roads.{Roads}
 use Rattle.sg_states.specs.declared.state.Actor.{Actor}
 use Rattle.sg_states.specs.declared.state.Blocking.{Blocking}
@@ -52,12 +52,12 @@ abbrev Rising : List ℕ → Type 0
 Rising [] = Unit {0}
 Rising (n ∷ more) = All (λ m. n ≤ m) more × Rising more
 
-entered_rises : (n : ℕ) (ns : List ℕ) → Rising ns → Rising (entered n ns)
-unfolding entered
+entered_rises : (n : ℕ) (ns : List ℕ) → Rising ns → Rising (rising_numbers_with n ns)
+unfolding rising_numbers_with
 entered_rises n [] r = (All-nil (λ m. n ≤ m), tt)
 entered_rises n (m ∷ more) r = by (nat_lt n m) (n == m) refl refl (entered_rises n more r.1)
   where
-    by : (less same : Bool) → nat_lt n m ≡ less → (n == m) ≡ same → Rising (entered n more) → Rising (cond less (n ∷ m ∷ more) (cond same (m ∷ more) (m ∷ entered n more)))
+    by : (less same : Bool) → nat_lt n m ≡ less → (n == m) ≡ same → Rising (rising_numbers_with n more) → Rising (cond less (n ∷ m ∷ more) (cond same (m ∷ more) (m ∷ rising_numbers_with n more)))
     by true same is kind rest =
         let below : n ≤ m = grind (arith, is) in
         (All-cons (λ k. n ≤ k) m more below (λ i d within. (let above = r.0 i d within in omega (arith, below, above))), r)
@@ -66,10 +66,10 @@ entered_rises n (m ∷ more) r = by (nat_lt n m) (n == m) refl refl (entered_ris
         let above : m ≤ n = grind (arith, is) in
         (entered_all (λ k. m ≤ k) n more above r.0, rest)
 
-rising_rises : (ns : List ℕ) → Rising (rising ns)
-unfolding rising
+rising_rises : (ns : List ℕ) → Rising (rising_numbers ns)
+unfolding rising_numbers
 rising_rises [] = tt
-rising_rises (n ∷ more) = entered_rises n (rising more) (rising_rises more)
+rising_rises (n ∷ more) = entered_rises n (rising_numbers more) (rising_rises more)
 
 -- ---- records that rise
 rise_append : (number : Record → ℕ) (n : ℕ) (first rest : List Record) → All (λ r. number r ≡ n) first → All (λ r. n ≤ number r) rest → Rise number rest → Rise number (first ++ rest)

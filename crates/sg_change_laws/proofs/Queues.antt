@@ -2,7 +2,7 @@
 use Rattle.std.proofs.Common.{◌≡◌, ◌≢◌, ℕ, ◌+◌, ◌==◌, Bool, true, false, cond, IsTrue, Option, None, Some, [], sym, ap, subst, ◌∙◌, arith}
 use Rattle.sg_base.specs.declared.ids.ActorId.{ActorId}
 use Rattle.sg_activity.specs.Underway.{Underway, due_in}
-use Rattle.sg_profile.specs.Profiles.{rows_at}
+use Rattle.sg_profile.specs.Profiles.{rows_due}
 use Rattle.sg_route.specs.Roads.{Roads, roads_of}
 use Rattle.sg_states.specs.Actors.{is_alive, is_answered}
 use Rattle.sg_sync.specs.Objects.{Objects, waiting}
@@ -57,7 +57,7 @@ pass_nowhere target setup core (Some span) is = by (core.events == setup.budget)
 
     by : (b : Bool) → waiting (cond b (stops core [] Budget) (all_of (stretches setup span core) moved)).core.objects target ≡ 0
     by true = is
-    by false = (stretches_then (Nowhere target) (lasting target) (Other target) (served target) setup (rows_at (core.under.date + span) setup.profiles core.turns) (due_in span core.under) moved is).holds
+    by false = (stretches_then (Nowhere target) (lasting target) (Other target) (served target) setup (rows_due (core.under.date + span) setup.profiles core.turns) (due_in span core.under) moved is).holds
 
 led_gone : (roads : Roads) (setup : Setup) (target : ActorId) (start : Core) → IsGone target start → {core : Core} → Reaches roads setup start core → IsGone target core
 led_gone roads setup target start gone here = gone

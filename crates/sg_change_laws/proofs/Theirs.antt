@@ -9,7 +9,7 @@ use Rattle.sg_base.specs.declared.call.Answer.{Answer}
 use Rattle.sg_base.specs.declared.call.Call.{Call}
 use Rattle.sg_activity.specs.Task.{Task}
 use Rattle.sg_activity.specs.Underway.{Underway}
-use Rattle.sg_requests.specs.Requested.{oldest, queue_at, rest_of, taken}
+use Rattle.sg_requests.specs.Requested.{oldest, queue_at, rest_of, queues_without_oldest}
 use Rattle.sg_states.specs.declared.state.Actor.{Actor}
 use Rattle.sg_states.specs.declared.state.State.{State}
 use Rattle.sg_states.specs.declared.state.State.TheVariants.{Ready, Blocked}
@@ -119,7 +119,7 @@ pub oldest_is : (P : Await → Type 0) (queue : List Await) (on : Await) → old
 oldest_is P [] on e all = absurd (cc e)
 oldest_is P (first ∷ queue) on e all = (let same : first ≡ on = cc e in subst P same (All-head P first queue all))
 
-pub parts_taken : (Left : ℕ → Await → Type 0) (core : Core) (actor : ℕ) → 0 < actor → TakePart Left core → TakePart Left (record core { requests = taken core.requests actor })
+pub parts_taken : (Left : ℕ → Await → Type 0) (core : Core) (actor : ℕ) → 0 < actor → TakePart Left core → TakePart Left (record core { requests = queues_without_oldest core.requests actor })
 parts_taken Left core actor from p = parts_queued Left core actor (rest_of (queue_at core.requests actor)) (own_queue core.whose actor _ from (rest_all (IsAsked core.whose actor) (queue_at core.requests actor) (p.asked actor from))) p
 
 -- ---- phases

@@ -4,7 +4,7 @@ use Rattle.sg_lives.specs.Slots.{listed}
 use Rattle.sg_activity.specs.Underway.{Underway, due_in, later, power_at, rate, used_later}
 use Rattle.sg_activity.specs.Underway as underway
 use Rattle.sg_activity.proofs.Listing.{at_listed, length-listed}
-use Rattle.sg_profile.specs.Profiles.{rows_at}
+use Rattle.sg_profile.specs.Profiles.{rows_due}
 use Rattle.sg_sync.specs.Objects.{Objects}
 use Rattle.sg_kernel.specs.declared.stop.Stop.TheVariants.{Budget}
 use Rattle.sg_kernel.specs.Passes.{core_later, next_span, pass_at, pass_of, settled, stretches}
@@ -68,7 +68,7 @@ passes_at setup core (Some span) = by (core.events == setup.budget)
     by : (b : Bool) → Passes core.under (cond b (stops core [] Budget) went).core.under
     by true = at_rest core.under core.under refl refl
     by false =
-        let k = (stretches_then (IsThen moved.under.date moved.under.energy) (lasting_then moved.under.date moved.under.energy) anyone (served_then moved.under.date moved.under.energy) setup (rows_at (core.under.date + span) setup.profiles core.turns) (due_in span core.under) moved (refl, refl)).holds in
+        let k = (stretches_then (IsThen moved.under.date moved.under.energy) (lasting_then moved.under.date moved.under.energy) anyone (served_then moved.under.date moved.under.energy) setup (rows_due (core.under.date + span) setup.profiles core.turns) (due_in span core.under) moved (refl, refl)).holds in
         later_passes span core.under went.core.under k.0 k.1
 
 pub pass_passes : (setup : Setup) (core : Core) → Passes core.under (pass_of setup core).core.under

@@ -15,7 +15,7 @@ use Rattle.sg_activity.specs.Underway.{Underway, due_in, hits, passed}
 use Rattle.sg_mailbox.specs.declared.sides.Side.{Side}
 use Rattle.sg_profile.specs.declared.entry.Entry.{Entry}
 use Rattle.sg_profile.specs.declared.entry.Entry.TheVariants as entry
-use Rattle.sg_profile.specs.Profiles.{entry_at, rows_at}
+use Rattle.sg_profile.specs.Profiles.{entry_at, rows_due}
 use Rattle.sg_rows.specs.declared.network.Network.{Network}
 use Rattle.sg_states.specs.declared.state.Actor.{Actor}
 use Rattle.sg_states.specs.declared.state.Blocking.{Blocking}
@@ -335,7 +335,7 @@ module _ (actor since : ℕ) (what : Call) (on : Option Await) where
 
       by : (b : Bool) → (state_of (cond b (stops core [] Budget) went).core actor ≡ Blocked what since on) ⊎ IsTold actor since what (cond b (stops core [] Budget) went)
       by true = inl is
-      by false = (goes_then setup (rows_at (core.under.date + span) setup.profiles core.turns) (due_in span core.under) moved from (serials_above _ 1 core.under.tasks (omega arith)) parts).0.told is
+      by false = (goes_then setup (rows_due (core.under.date + span) setup.profiles core.turns) (due_in span core.under) moved from (serials_above _ 1 core.under.tasks (omega arith)) parts).0.told is
 
 pub pass_tracks : (setup : Setup) (core : Core) (actor since : ℕ) (what : Call) (on : Option Await) → 0 < actor → TakePart Nobody core → state_of core actor ≡ Blocked what since on → (state_of (pass_of setup core).core actor ≡ Blocked what since on) ⊎ IsTold actor since what (pass_of setup core)
 pass_tracks setup core actor since what on from p is = stays_or_told actor since what on setup (settled core) (next_span setup (settled core)) from p is

@@ -6,7 +6,7 @@ use Rattle.sg_base.specs.declared.call.Answer.TheVariants as answer
 use Rattle.sg_base.specs.declared.call.Call.{Call}
 use Rattle.sg_base.specs.declared.trace_record.Record.{Record}
 use Rattle.sg_mailbox.specs.declared.sides.Post.{Post}
-use Rattle.sg_mailbox.specs.Posts.{meets}
+use Rattle.sg_mailbox.specs.Posts.{partner}
 use Rattle.sg_route.specs.Roads.{Roads}
 use Rattle.sg_states.specs.declared.state.State.TheVariants.{Ready, Blocked}
 use Rattle.sg_states.specs.Records.{record_of}
@@ -21,7 +21,7 @@ use Rattle.sg_failure_laws.specs.Laws.{call_fails}
 -- by the call of a side that comes it meets a post whose actor is another, and is blocked on that side
 pub record MeetsBlocked (core : Core) (actor : ℕ) (what : Call) (comer : Comer) (post : Post) (since : ℕ) (called : Call) (on : Await) : Type 0 where
   pub comes : comer_of actor what ≡ Some comer
-  pub meets : meets comer.sends (posts_at comer.mailbox core) ≡ Some post
+  pub meets : partner comer.sends (posts_at comer.mailbox core) ≡ Some post
   pub blocked : state_of core post.side.actor.0 ≡ Blocked called since (Some on)
   pub serial : on.serial.0 ≡ post.serial.0
   pub side : on.party ≡ party_of post.sends

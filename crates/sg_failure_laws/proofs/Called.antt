@@ -12,8 +12,8 @@ use Rattle.sg_base.specs.declared.ids.ActorId.{ActorId}
 use Rattle.sg_base.specs.declared.trace_record.Record.{Record}
 use Rattle.sg_mailbox.specs.declared.sides.Post.{Post}
 use Rattle.sg_mailbox.specs.declared.sides.Side.{Side}
-use Rattle.sg_mailbox.specs.Posts.{meets}
-use Rattle.sg_requests.specs.Requested.{oldest, queue_at, taken}
+use Rattle.sg_mailbox.specs.Posts.{partner}
+use Rattle.sg_requests.specs.Requested.{oldest, queue_at, queues_without_oldest}
 use Rattle.sg_route.specs.declared.router.RouteFault.{RouteFault}
 use Rattle.sg_route.specs.Roads.{Roads}
 use Rattle.sg_route.specs.Route.{Route}
@@ -95,7 +95,7 @@ part_well true comer serial core = All-nil GoesWell
 part_well false comer serial core = just GoesWell _ refl
 
 comes_well : (roads : Roads) (setup : Setup) (comer : Comer) (core : Core) → side_fails (Some comer) roads setup core ≡ false → All GoesWell (comes roads setup comer core).made
-comes_well roads setup comer core = by (meets comer.sends (posts_at comer.mailbox core))
+comes_well roads setup comer core = by (partner comer.sends (posts_at comer.mailbox core))
   where
     over : (post : Post) (r : Result Route RouteFault) → way_fails r setup comer post core ≡ false → All GoesWell (joins_over r setup comer post core).made
     over post (Err why) e = All-nil GoesWell
@@ -112,7 +112,7 @@ waits_well : (actor : ℕ) (core : Core) (found : Option Await) → wait_fails c
 waits_well actor core None e = just GoesWell _ refl
 waits_well actor core (Some on) e = until (whose_at core on.serial.0) e
   where
-    until : (whose : Whose) → has_failed whose ≡ false → All GoesWell (waits_until (answer_of_over whose) actor on (record (counted core) { requests = taken core.requests actor })).made
+    until : (whose : Whose) → has_failed whose ≡ false → All GoesWell (waits_until (answer_of_over whose) actor on (record (counted core) { requests = queues_without_oldest core.requests actor })).made
     until (Over how.Done) e = just GoesWell _ refl
     until (Over how.Failed) e = absurd (cc e)
     until (Alone other) e = All-nil GoesWell
@@ -186,7 +186,7 @@ both_told comer fit serial other core =
     (then_all TellsIt (other_fails comer serial other core) (comer_fails comer serial other) (other_told comer serial other core) (comer_told comer fit serial other))
 
 comes_told : (roads : Roads) (setup : Setup) (comer : Comer) (core : Core) → IsFit comer → side_fails (Some comer) roads setup core ≡ true → All TellsIt (comes roads setup comer core).made
-comes_told roads setup comer core fit = by (meets comer.sends (posts_at comer.mailbox core))
+comes_told roads setup comer core fit = by (partner comer.sends (posts_at comer.mailbox core))
   where
     over : (post : Post) (r : Result Route RouteFault) → way_fails r setup comer post core ≡ true → All TellsIt (joins_over r setup comer post core).made
     over post (Err why) e = absurd (cc e)
@@ -203,7 +203,7 @@ waits_told : (actor : ℕ) (core : Core) (found : Option Await) → wait_fails c
 waits_told actor core None e = absurd (cc e)
 waits_told actor core (Some on) e = until (whose_at core on.serial.0) e
   where
-    until : (whose : Whose) → has_failed whose ≡ true → All TellsIt (waits_until (answer_of_over whose) actor on (record (counted core) { requests = taken core.requests actor })).made
+    until : (whose : Whose) → has_failed whose ≡ true → All TellsIt (waits_until (answer_of_over whose) actor on (record (counted core) { requests = queues_without_oldest core.requests actor })).made
     until (Over how.Done) e = absurd (cc e)
     until (Over how.Failed) e = just TellsIt _ refl
     until (Alone other) e = absurd (cc e)
@@ -270,7 +270,7 @@ comer_own comer waits serial other core = by comer.waits comer.sends waits
     by false sends e = absurd (cc e)
 
 comes_own : (roads : Roads) (setup : Setup) (comer : Comer) (core : Core) → comer.waits ≡ true → side_fails (Some comer) roads setup core ≡ true → TellsCaller comer.side.actor.0 comer.what (comes roads setup comer core).made
-comes_own roads setup comer core waits = by (meets comer.sends (posts_at comer.mailbox core))
+comes_own roads setup comer core waits = by (partner comer.sends (posts_at comer.mailbox core))
   where
     over : (post : Post) (r : Result Route RouteFault) → way_fails r setup comer post core ≡ true → TellsCaller comer.side.actor.0 comer.what (joins_over r setup comer post core).made
     over post (Err why) e = absurd (cc e)
@@ -287,7 +287,7 @@ waits_own : (actor : ℕ) (core : Core) (found : Option Await) → wait_fails co
 waits_own actor core None e = absurd (cc e)
 waits_own actor core (Some on) e = until (whose_at core on.serial.0) e
   where
-    until : (whose : Whose) → has_failed whose ≡ true → TellsCaller actor call.Wait (waits_until (answer_of_over whose) actor on (record (counted core) { requests = taken core.requests actor })).made
+    until : (whose : Whose) → has_failed whose ≡ true → TellsCaller actor call.Wait (waits_until (answer_of_over whose) actor on (record (counted core) { requests = queues_without_oldest core.requests actor })).made
     until (Over how.Done) e = absurd (cc e)
     until (Over how.Failed) e = first_told actor call.Wait core.under.date 0 core.under.date []
     until (Alone other) e = absurd (cc e)

@@ -24,9 +24,9 @@ use Rattle.sg_activity.specs.Task.{Place, Task, exec_of, is_cut, is_hit, next_ph
 use Rattle.sg_activity.specs.Underway.{Underway, due_in, gone_on, held, hits, is_computing, is_kept, passed, turned}
 use Rattle.sg_mailbox.specs.declared.sides.Post.{Post}
 use Rattle.sg_mailbox.specs.declared.sides.Side.{Side}
-use Rattle.sg_mailbox.specs.Posts.{is_other, meets}
-use Rattle.sg_profile.specs.Profiles.{entry_at, rows_at}
-use Rattle.sg_requests.specs.Requested.{awaited_with, entered, oldest, queue_at, queued, rest_of, rising, serial_of, taken, without_requests}
+use Rattle.sg_mailbox.specs.Posts.{is_other, partner}
+use Rattle.sg_profile.specs.Profiles.{entry_at, rows_due}
+use Rattle.sg_requests.specs.Requested.{awaited_with, rising_numbers_with, oldest, queue_at, queues_with_request, rest_of, rising_numbers, serial_of, queues_without_oldest, without_requests}
 use Rattle.sg_route.specs.declared.router.RouteFault.{RouteFault}
 use Rattle.sg_route.specs.Roads.{Roads}
 use Rattle.sg_route.specs.Route.{Route}
@@ -308,7 +308,7 @@ oldest_own : (P : Await → Type 0) (queue : List Await) (on : Await) → oldest
 oldest_own P [] on e all = absurd (cc e)
 oldest_own P (first ∷ queue) on e all = (let same : first ≡ on = cc e in subst P same (All-head P first queue all))
 
-fit_taken : (core : Core) (actor : ℕ) → IsFit core → IsFit (record core { requests = taken core.requests actor })
+fit_taken : (core : Core) (actor : ℕ) → IsFit core → IsFit (record core { requests = queues_without_oldest core.requests actor })
 fit_taken core actor fit = fit_asked core actor (rest_of (queue_at core.requests actor)) (rest_own (IsOwn core.whose actor) (queue_at core.requests actor) (fit.asked actor)) fit
 
 -- ---- steps
@@ -509,7 +509,7 @@ few_joins route setup comer serial other core may made fit =
     (fit_lasts core.actors core.under.tasks _ core.whose _ core.requests (lasts_set core.under.tasks core.whose (serial.0 - 1) (Some _) (Pair (sender_of comer other) (receiver_of comer other)) fit.numbered (λ owner e. absurd (cc e))) fit))
 
 few_comes : (roads : Roads) (setup : Setup) (comer : Comer) (core : Core) → MayWait comer → IsFit core → TellsFew (comes roads setup comer core)
-few_comes roads setup comer core may fit = by (meets comer.sends (posts_at comer.mailbox core)) refl
+few_comes roads setup comer core may fit = by (partner comer.sends (posts_at comer.mailbox core)) refl
   where
     joins : (post : Post) → post.serial.0 - 1 < length core.whose → (r : Result Route RouteFault) → TellsFew (joins_over r setup comer post core)
     joins post made (Err why) = few_still core (Some _) fit
@@ -527,7 +527,7 @@ few_comes roads setup comer core may fit = by (meets comer.sends (posts_at comer
       shared = λ owner e. absurd (cc (sym (ap (λ k. get_or (core.whose ++ new ∷ []) k (Over how.Done)) place ∙ get_or-append-add core.whose (new ∷ []) 0 (Over how.Done)) ∙ e));
     }
 
-    by : (found : Option Post) → meets comer.sends (posts_at comer.mailbox core) ≡ found → TellsFew (comes_by found roads setup comer core)
+    by : (found : Option Post) → partner comer.sends (posts_at comer.mailbox core) ≡ found → TellsFew (comes_by found roads setup comer core)
     by None e = few_part comer (length core.under.tasks + 1) (posted comer (counted core)) may shared
         (fit_lasts core.actors core.under.tasks _ core.whose _ core.requests (lasts_push core.under.tasks core.whose None new fit.numbered) fit)
     by (Some post) e =
@@ -539,7 +539,7 @@ few_waits actor core None e fit = few_replied core actor core.under.date 0 call.
 few_waits actor core (Some on) e fit = until (answer_of_over (whose_at core on.serial.0))
   where
     rest : Core
-    rest = record core { requests = taken core.requests actor }
+    rest = record core { requests = queues_without_oldest core.requests actor }
 
     fit_rest : IsFit rest
     fit_rest = fit_taken core actor fit
@@ -662,20 +662,20 @@ few_created given actor target core fit = few_creates given actor target (counte
 
 -- ---- kills
 -- what each of the numbers that enter a list satisfies
-pub entered_all : (P : ℕ → Type 0) (n : ℕ) (list : List ℕ) → P n → All P list → All P (entered n list)
-unfolding entered
+pub entered_all : (P : ℕ → Type 0) (n : ℕ) (list : List ℕ) → P n → All P list → All P (rising_numbers_with n list)
+unfolding rising_numbers_with
 entered_all P n [] p all = All-cons P n [] p (All-nil P)
 entered_all P n (m ∷ more) p all = by (nat_lt n m) (n == m) (entered_all P n more p (All-tail P m more all))
   where
-    by : (below same : Bool) → All P (entered n more) → All P (cond below (n ∷ m ∷ more) (cond same (m ∷ more) (m ∷ entered n more)))
+    by : (below same : Bool) → All P (rising_numbers_with n more) → All P (cond below (n ∷ m ∷ more) (cond same (m ∷ more) (m ∷ rising_numbers_with n more)))
     by true same rest = All-cons P n (m ∷ more) p all
     by false true rest = all
-    by false false rest = All-cons P m (entered n more) (All-head P m more all) rest
+    by false false rest = All-cons P m (rising_numbers_with n more) (All-head P m more all) rest
 
-pub rising_all : (P : ℕ → Type 0) (list : List ℕ) → All P list → All P (rising list)
-unfolding rising
+pub rising_all : (P : ℕ → Type 0) (list : List ℕ) → All P list → All P (rising_numbers list)
+unfolding rising_numbers
 rising_all P [] all = All-nil P
-rising_all P (n ∷ more) all = entered_all P n (rising more) (All-head P n more all) (rising_all P more (All-tail P n more all))
+rising_all P (n ∷ more) all = entered_all P n (rising_numbers more) (All-head P n more all) (rising_all P more (All-tail P n more all))
 
 -- what is somebody's alone and the target awaits is the target's own
 abbrev IsOwnAt : ActorId → Core → ℕ → Type 0
@@ -890,8 +890,8 @@ few_pass : (setup : Setup) (core : Core) (span : Option ℕ) → IsFit core → 
 few_pass setup core None fit = few_still core (Some _) fit
 few_pass setup core (Some span) fit =
     few_cond (core.events == setup.budget) (stops core [] Budget) (all_of (stretches setup span core) (core_later span core)) (few_still core (Some Budget) fit)
-    (few_two (each (changes setup) (rows_at (core.under.date + span) setup.profiles core.turns)) (each (ends setup) (due_in span core.under)) (core_later span core)
-    (few_each (changes setup) (few_changes setup) (rows_at (core.under.date + span) setup.profiles core.turns) (core_later span core)
+    (few_two (each (changes setup) (rows_due (core.under.date + span) setup.profiles core.turns)) (each (ends setup) (due_in span core.under)) (core_later span core)
+    (few_each (changes setup) (few_changes setup) (rows_due (core.under.date + span) setup.profiles core.turns) (core_later span core)
     (fit_lasts core.actors core.under.tasks _ core.whose core.whose core.requests (lasts_map (passed core.under span) (λ task. refl) core.under.tasks core.whose fit.numbered) fit))
     (few_each (ends setup) (few_ends setup) (due_in span core.under)))
 

@@ -17,7 +17,7 @@ use Rattle.sg_activity.specs.Underway.{Underway, due_in, hits}
 use Rattle.sg_mailbox.specs.declared.sides.Side.{Side}
 use Rattle.sg_profile.specs.declared.entry.Entry.{Entry}
 use Rattle.sg_profile.specs.declared.entry.Entry.TheVariants as entry
-use Rattle.sg_profile.specs.Profiles.{entry_at, rows_at}
+use Rattle.sg_profile.specs.Profiles.{entry_at, rows_due}
 use Rattle.sg_rows.specs.declared.network.Network.{Network}
 use Rattle.sg_states.specs.declared.state.Actor.{Actor}
 use Rattle.sg_states.specs.declared.state.Blocking.{Blocking}
@@ -412,7 +412,7 @@ pass_tells setup core (Some span) = by (core.events == setup.budget)
     by true = All-nil (TellsHow core core)
     by false =
         all_so (TellsHow moved whole.core) (TellsHow core whole.core) (same_actors core moved whole.core refl) whole.made
-        (all_tell setup (rows_at (core.under.date + span) setup.profiles core.turns) (due_in span core.under) moved)
+        (all_tell setup (rows_due (core.under.date + span) setup.profiles core.turns) (due_in span core.under) moved)
 
 pub passes_tell : PassesTell
 passes_tell setup core =

@@ -13,7 +13,7 @@ use Rattle.sg_activity.specs.Links.{is_off}
 use Rattle.sg_activity.specs.Task.{is_cut}
 use Rattle.sg_mailbox.specs.declared.sides.Post.{Post}
 use Rattle.sg_mailbox.specs.declared.sides.Side.{Side}
-use Rattle.sg_mailbox.specs.Posts.{meets}
+use Rattle.sg_mailbox.specs.Posts.{partner}
 use Rattle.sg_requests.specs.Requested.{oldest, queue_at}
 use Rattle.sg_route.specs.declared.router.RouteFault.{RouteFault}
 use Rattle.sg_route.specs.Roads.{Roads}
@@ -83,7 +83,7 @@ meeting_fails (Some post) roads setup comer core =
 abbrev pub side_fails : Option Comer → Roads → Setup → Core → Bool
 side_fails None roads setup core = false
 side_fails (Some comer) roads setup core =
-    meeting_fails (meets comer.sends (posts_at comer.mailbox core)) roads setup comer core
+    meeting_fails (partner comer.sends (posts_at comer.mailbox core)) roads setup comer core
 
 -- whether what the actor asks for by this call fails in the call
 abbrev pub call_fails : Roads → Setup → Core → ℕ → Call → Bool

@@ -6,7 +6,7 @@ use Rattle.sg_base.specs.declared.call.Call.TheVariants as call
 use Rattle.sg_base.specs.declared.ids.ActorId.{ActorId}
 use Rattle.sg_base.specs.Limits.{Extent, IsActorIn, IsActorNumber, IsCall}
 use Rattle.sg_base.specs.declared.awaits.Await.{Await}
-use Rattle.sg_requests.specs.Requested.{oldest, queue_at, taken}
+use Rattle.sg_requests.specs.Requested.{oldest, queue_at, queues_without_oldest}
 use Rattle.sg_route.specs.Roads.{Roads}
 use Rattle.sg_sync.specs.Objects.{Done, locked, unlocked, acquired, released, arrived}
 use Rattle.sg_kernel.specs.declared.meetings.Comer.{Comer}
@@ -105,7 +105,7 @@ waits_on (Some over) actor on core = refl
 
 waits_goes : (found : Option Await) (actor : ℕ) (core : Core) → (waits_by found actor core).stop ≡ None
 waits_goes None actor core = refl
-waits_goes (Some on) actor core = waits_on (answer_of_over (whose_at core on.serial.0)) actor on (record core { requests = taken core.requests actor })
+waits_goes (Some on) actor core = waits_on (answer_of_over (whose_at core on.serial.0)) actor on (record core { requests = queues_without_oldest core.requests actor })
 
 computes_goes : (setup : Setup) (actor flops priority : ℕ) (core : Core) → (computes setup actor flops priority core).stop ≡ None
 computes_goes setup actor flops priority core = cases (is_off core.under.on.hosts (host_of setup actor)) _ _ refl refl

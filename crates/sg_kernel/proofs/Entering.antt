@@ -8,7 +8,7 @@ use Rattle.sg_activity.specs.Doing.{Doing}
 use Rattle.sg_activity.specs.Underway.{Underway}
 use Rattle.sg_profile.specs.declared.entry.Entry.{Entry}
 use Rattle.sg_profile.specs.declared.entry.Entry.TheVariants.{Speed, Bandwidth, HostOn, LinkOn}
-use Rattle.sg_profile.specs.Profiles.{Timetable, past_next, rows_at}
+use Rattle.sg_profile.specs.Profiles.{Timetable, past_next, rows_due}
 use Rattle.sg_profile.proofs.Ahead.{rows_are_left, ahead_steps}
 use Rattle.sg_rows.specs.declared.network.Network.{Network}
 use Rattle.sg_base.specs.declared.trace_record.Record.{Record}
@@ -88,8 +88,8 @@ entered_timely fields doing profiles entry due date gone was =
 pub entered_rows : (fields : Fields) (doing : Doing) (profiles : Timetable) (entry : Entry) → IsDueEntry fields entry → doing.under.date ≡ fields.doing.under.date → profiles ≡ past_next fields.profiles → IsTimely fields →
     rows_now (with_entry fields doing profiles) ≡ drop 1 (rows_now fields)
 entered_rows fields doing profiles entry due date gone was =
-    ap (λ d. rows_at d profiles.profiles profiles.turns) date
-    ∙ ap (λ (t : Timetable). rows_at fields.doing.under.date t.profiles t.turns) gone
+    ap (λ d. rows_due d profiles.profiles profiles.turns) date
+    ∙ ap (λ (t : Timetable). rows_due fields.doing.under.date t.profiles t.turns) gone
     ∙ rows_are_left fields.hosts fields.links fields.doing.under.date fields.profiles.profiles fields.profiles.turns (row_next fields) due.next.rest was.profiles due.next.first
     ∙ sym (ap (drop 1) due.next.first)
 
@@ -141,5 +141,5 @@ entered_passing fields doing profiles entry due set gone go was =
 -- what fails leaves the rows
 pub rows_same : (old new : Fields) → new.doing.under.date ≡ old.doing.under.date → new.profiles ≡ old.profiles → rows_now new ≡ rows_now old
 rows_same old new date profiles =
-    ap (λ d. rows_at d new.profiles.profiles new.profiles.turns) date
-    ∙ ap (λ (t : Timetable). rows_at old.doing.under.date t.profiles t.turns) profiles
+    ap (λ d. rows_due d new.profiles.profiles new.profiles.turns) date
+    ∙ ap (λ (t : Timetable). rows_due old.doing.under.date t.profiles t.turns) profiles

@@ -12,7 +12,7 @@ use Rattle.sg_base.specs.Limits.{Extent}
 use Rattle.sg_activity.specs.Doing.{Doing, idle_on}
 use Rattle.sg_activity.specs.Hosts.{IsPower}
 use Rattle.sg_activity.specs.Links.{IsLink}
-use Rattle.sg_mailbox.specs.Posts.{waiting}
+use Rattle.sg_mailbox.specs.Posts.{waiters}
 use Rattle.sg_profile.specs.Profiles.{AreProfiles, Timetable, first_table, profiles_in}
 use Rattle.sg_profile.proofs.Ahead.{ahead_at_first}
 use Rattle.sg_rows.specs.Deployment.{Deployed, IsDeployment, IsDeployedOn, starts}
@@ -81,7 +81,7 @@ pub record IsFirst (platform : Platform) (deployed : Deployed) (fields : Fields)
   pub doing : fields.doing ≡ idle_on (map host_cap platform.hosts) (link_caps platform.network platform.links)
   pub states : fields.states ≡ first_states (length deployed.mutexes) (length deployed.semaphores) (map starts deployed.actors)
   pub whose : fields.whose ≡ record { whose = []; room = 0 }
-  pub boxes : (mailbox : BoxId) → waiting fields.boxes mailbox ≡ []
+  pub boxes : (mailbox : BoxId) → waiters fields.boxes mailbox ≡ []
   pub requests : fields.requests ≡ record { queues = replicate (length deployed.actors) []; asked = 0; room = 0; awaited = [] }
   pub objects : fields.objects ≡ first_objects (setup_of platform deployed fields.budget)
   pub hosts : fields.hosts ≡ length (map host_cap platform.hosts)

@@ -17,8 +17,8 @@ use Rattle.sg_activity.specs.Task.{Task, task_at}
 use Rattle.sg_activity.specs.Underway.{Underway}
 use Rattle.sg_mailbox.specs.declared.sides.Post.{Post}
 use Rattle.sg_mailbox.specs.Posts as mail
-use Rattle.sg_mailbox.specs.Posts.{Posts, box_eq, waiting}
-use Rattle.sg_requests.specs.Requested.{Requested, entered, queue_at, rising, serial_of, without_requests}
+use Rattle.sg_mailbox.specs.Posts.{Posts, box_eq, waiters}
+use Rattle.sg_requests.specs.Requested.{Requested, rising_numbers_with, queue_at, rising_numbers, serial_of, without_requests}
 use Rattle.sg_states.specs.declared.state.Actor.{Actor}
 use Rattle.sg_states.specs.declared.state.Blocking.{Blocking}
 use Rattle.sg_states.specs.declared.state.State.TheVariants.{Ready, Ended}
@@ -107,7 +107,7 @@ not_told mailbox n (Posted m s d) e = absurd (true≢false e)
 not_told mailbox n (Pair s r) e = refl
 
 -- the activity that it was becomes one that isn't posted
-left_is : (mailbox : BoxId) (n i : ℕ) (whose : List Whose) (serial : Serial) (w : Whose) → is_posted w ≡ false → serial.0 ≡ n + i → mail.withdrawn serial (posts_from mailbox n whose) ≡ posts_from mailbox n (set whose i w)
+left_is : (mailbox : BoxId) (n i : ℕ) (whose : List Whose) (serial : Serial) (w : Whose) → is_posted w ≡ false → serial.0 ≡ n + i → mail.posts_without serial (posts_from mailbox n whose) ≡ posts_from mailbox n (set whose i w)
 unfolding posts_from
 left_is mailbox n i [] serial w isnt same = refl
 left_is mailbox n zero (x ∷ whose) serial w isnt same =
@@ -142,7 +142,7 @@ pub posted_none : (fields : Fields) (serial : ℕ) → IsTrue (is_posted (whose_
 posted_none fields serial posted whole = whole.meeting.idle (serial - 1) (posted_idle (whose_at (core_of fields) serial) posted)
 
 pub whole_posted : (fields : Fields) (room : ℕ) (serial : Serial) (whose : Owned) (boxes : Posts) → 0 < serial.0 → task_at fields.doing.under.tasks serial.0 ≡ None → whose ≡ record fields.whose { whose = set fields.whose.whose (serial.0 - 1) (Over how.Failed) }
-    → ((mailbox : BoxId) → waiting boxes mailbox ≡ mail.withdrawn serial (waiting fields.boxes mailbox)) → boxes.room ≡ fields.boxes.room → IsWholeFor room fields → IsWholeFor room (record fields { whose = whose; boxes = boxes })
+    → ((mailbox : BoxId) → waiters boxes mailbox ≡ mail.posts_without serial (waiters fields.boxes mailbox)) → boxes.room ≡ fields.boxes.room → IsWholeFor room fields → IsWholeFor room (record fields { whose = whose; boxes = boxes })
 whole_posted fields room serial whose boxes from none owned gone same was =
     let place = serial.0 - 1 in
     let e = extent (setup_in fields) in
@@ -156,7 +156,7 @@ whole_posted fields room serial whose boxes from none owned gone same was =
       timely = was.timely;
       limited = subst (All (IsOwner e)) (sym owners) (All-set (IsOwner e) fields.whose.whose place (Over how.Failed) tt was.limited);
       meeting = record {
-        posts = λ mailbox. gone mailbox ∙ ap (mail.withdrawn serial) (was.meeting.posts mailbox) ∙ left_is mailbox 1 place fields.whose.whose serial (Over how.Failed) refl (omega (arith, from)) ∙ sym (ap (posts_from mailbox 1) owners);
+        posts = λ mailbox. gone mailbox ∙ ap (mail.posts_without serial) (was.meeting.posts mailbox) ∙ left_is mailbox 1 place fields.whose.whose serial (Over how.Failed) refl (omega (arith, from)) ∙ sym (ap (posts_from mailbox 1) owners);
         idle = subst (λ l. AreIdle l fields.doing.under.tasks) (sym owners) (idle_over fields.whose.whose fields.doing.under.tasks place (Over how.Failed) none was.meeting.idle);
         busy = subst (λ l. AreBusy l fields.doing.under.tasks) (sym owners) (busy_over fields.whose.whose fields.doing.under.tasks place how.Failed was.meeting.busy);
         asked = made_more (length fields.whose.whose) (length whose.whose) fields.requests.queues more was.meeting.asked;
@@ -216,20 +216,20 @@ whole_failed fields room serial whose doing busy owned gone was =
     }
 
 -- ---- what the target awaited
-entered_all : (P : ℕ → Type 0) (n : ℕ) (xs : List ℕ) → P n → All P xs → All P (entered n xs)
-unfolding entered
+entered_all : (P : ℕ → Type 0) (n : ℕ) (xs : List ℕ) → P n → All P xs → All P (rising_numbers_with n xs)
+unfolding rising_numbers_with
 entered_all P n [] one all = All-cons P n [] one all
 entered_all P n (m ∷ more) one all = by (nat_lt n m) (n == m) (entered_all P n more one (All-tail P m more all))
   where
-    by : (less same : Bool) → All P (entered n more) → All P (cond less (n ∷ m ∷ more) (cond same (m ∷ more) (m ∷ entered n more)))
+    by : (less same : Bool) → All P (rising_numbers_with n more) → All P (cond less (n ∷ m ∷ more) (cond same (m ∷ more) (m ∷ rising_numbers_with n more)))
     by true same rest = All-cons P n (m ∷ more) one all
     by false true rest = all
-    by false false rest = All-cons P m (entered n more) (All-head P m more all) rest
+    by false false rest = All-cons P m (rising_numbers_with n more) (All-head P m more all) rest
 
-rising_all : (P : ℕ → Type 0) (xs : List ℕ) → All P xs → All P (rising xs)
-unfolding rising
+rising_all : (P : ℕ → Type 0) (xs : List ℕ) → All P xs → All P (rising_numbers xs)
+unfolding rising_numbers
 rising_all P [] all = all
-rising_all P (n ∷ more) all = entered_all P n (rising more) (All-head P n more all) (rising_all P more (All-tail P n more all))
+rising_all P (n ∷ more) all = entered_all P n (rising_numbers more) (All-head P n more all) (rising_all P more (All-tail P n more all))
 
 made_one : (made : ℕ) (on : Option Await) → IfSome on (IsMade made) → All (IsMade made) (option_to_list on)
 made_one made None is = All-nil (IsMade made)

@@ -11,9 +11,9 @@ use Rattle.sg_activity.specs.Task.{Task}
 use Rattle.sg_mailbox.specs.declared.sides.Side.{Side}
 use Rattle.sg_mailbox.proofs.Lists.{box_found}
 use Rattle.sg_mailbox.specs.declared.sides.Post.{Post}
-use Rattle.sg_mailbox.specs.Posts.{Posts, box_eq, is_other, without, waiting, meets, arrives, arrives_by}
+use Rattle.sg_mailbox.specs.Posts.{Posts, box_eq, is_other, without, waiters, partner, posts_after, posts_by_partner}
 use Rattle.sg_base.specs.declared.awaits.Await.{Await}
-use Rattle.sg_requests.specs.Requested.{queue_at, oldest, rest_of, queued, taken}
+use Rattle.sg_requests.specs.Requested.{queue_at, oldest, rest_of, queues_with_request, queues_without_oldest}
 use Rattle.sg_kernel.specs.declared.owners.How.{How}
 use Rattle.sg_kernel.specs.declared.owners.How.TheVariants as how
 use Rattle.sg_kernel.specs.declared.owners.Whose.{Whose}
@@ -37,10 +37,10 @@ made_at n [] i are = All-nil (IsMade n)
 made_at n (queue ∷ queues) zero are = All-head (λ (queue : List Await). All (IsMade n) queue) queue queues are
 made_at n (queue ∷ queues) (suc i) are = made_at n queues i (All-tail (λ (queue : List Await). All (IsMade n) queue) queue queues are)
 
-pub made_queued : (n : ℕ) (queues : List (List Await)) (actor : ℕ) (on : Await) → IsMade n on → AreMade n queues → AreMade n (queued queues actor on)
+pub made_queued : (n : ℕ) (queues : List (List Await)) (actor : ℕ) (on : Await) → IsMade n on → AreMade n queues → AreMade n (queues_with_request queues actor on)
 made_queued n queues actor on is are = All-set (λ (queue : List Await). All (IsMade n) queue) queues (actor - 1) (queue_at queues actor ++ on ∷ []) (All-push (IsMade n) (queue_at queues actor) on (made_at n queues (actor - 1) are) is) are
 
-pub made_taken : (n : ℕ) (queues : List (List Await)) (actor : ℕ) → AreMade n queues → AreMade n (taken queues actor)
+pub made_taken : (n : ℕ) (queues : List (List Await)) (actor : ℕ) → AreMade n queues → AreMade n (queues_without_oldest queues actor)
 made_taken n queues actor are = All-set (λ (queue : List Await). All (IsMade n) queue) queues (actor - 1) (rest_of (queue_at queues actor)) (rest (queue_at queues actor) (made_at n queues (actor - 1) are)) are
   where
     rest : (queue : List Await) → All (IsMade n) queue → All (IsMade n) (rest_of queue)
@@ -149,47 +149,47 @@ busy_gone whose tasks i over old = λ place e. cases place (cases_eq place i) e
 
 -- ---- the mailboxes tell who is posted
 abbrev pub AreTold : Posts → List Whose → Type 0
-AreTold boxes whose = (mailbox : BoxId) → waiting boxes mailbox ≡ posts_from mailbox 1 whose
+AreTold boxes whose = (mailbox : BoxId) → waiters boxes mailbox ≡ posts_from mailbox 1 whose
 
 -- a side waits under the next serial
-pub told_posted : (old new : Posts) (mailbox : BoxId) (sends : Bool) (side : Side) (serial : Serial) (whose : List Whose) → serial.0 ≡ 1 + length whose → meets sends (waiting old mailbox) ≡ None
-    → waiting new mailbox ≡ arrives sends side serial (waiting old mailbox) → ((other : BoxId) → other ≢ mailbox → waiting new other ≡ waiting old other)
+pub told_posted : (old new : Posts) (mailbox : BoxId) (sends : Bool) (side : Side) (serial : Serial) (whose : List Whose) → serial.0 ≡ 1 + length whose → partner sends (waiters old mailbox) ≡ None
+    → waiters new mailbox ≡ posts_after sends side serial (waiters old mailbox) → ((other : BoxId) → other ≢ mailbox → waiters new other ≡ waiters old other)
     → AreTold old whose → AreTold new (whose ++ Posted mailbox sends side ∷ [])
 told_posted old new mailbox sends side serial whose next alone there elsewhere are = λ other. cases other (box_eq other mailbox) refl
   where
     p : ℕ → Post
     p n = record { serial = record { 0 = n }; sends = sends; side = side }
 
-    cases : (other : BoxId) (b : Bool) → box_eq other mailbox ≡ b → waiting new other ≡ posts_from other 1 (whose ++ Posted mailbox sends side ∷ [])
+    cases : (other : BoxId) (b : Bool) → box_eq other mailbox ≡ b → waiters new other ≡ posts_from other 1 (whose ++ Posted mailbox sends side ∷ [])
     cases other true e =
-        let here : waiting new mailbox ≡ posts_from mailbox 1 (whose ++ Posted mailbox sends side ∷ []) =
+        let here : waiters new mailbox ≡ posts_from mailbox 1 (whose ++ Posted mailbox sends side ∷ []) =
         there
-        ∙ ap (λ o. arrives_by o sends side serial (waiting old mailbox)) alone
+        ∙ ap (λ o. posts_by_partner o sends side serial (waiters old mailbox)) alone
         ∙ ap₂ (λ l n. l ++ record { serial = record { 0 = n }; sends = sends; side = side } ∷ []) (are mailbox) next
         ∙ sym (posts-push mailbox 1 whose (Posted mailbox sends side) ∙ ap (λ o. posts_from mailbox 1 whose ++ option_to_list o) (posted_here mailbox (1 + length whose) sends side)) in
-        subst (λ m. waiting new m ≡ posts_from m 1 (whose ++ Posted mailbox sends side ∷ [])) (sym (box_found other mailbox e)) here
+        subst (λ m. waiters new m ≡ posts_from m 1 (whose ++ Posted mailbox sends side ∷ [])) (sym (box_found other mailbox e)) here
     cases other false e =
         let away : other ≢ mailbox = λ is. absurd (true≢false (sym (box_found_same other mailbox is) ∙ e)) in
         elsewhere other away ∙ are other
         ∙ sym (posts-push other 1 whose (Posted mailbox sends side) ∙ ap (λ o. posts_from other 1 whose ++ option_to_list o) (posted_elsewhere other mailbox (1 + length whose) sends side away) ∙ append-nil (posts_from other 1 whose))
 
 -- a side takes away whom it meets
-pub told_met : (old new : Posts) (mailbox : BoxId) (sends : Bool) (side : Side) (serial : Serial) (whose : List Whose) (p : Post) (w : Whose) → meets sends (waiting old mailbox) ≡ Some p → is_posted w ≡ false
-    → waiting new mailbox ≡ arrives sends side serial (waiting old mailbox) → ((other : BoxId) → other ≢ mailbox → waiting new other ≡ waiting old other)
+pub told_met : (old new : Posts) (mailbox : BoxId) (sends : Bool) (side : Side) (serial : Serial) (whose : List Whose) (p : Post) (w : Whose) → partner sends (waiters old mailbox) ≡ Some p → is_posted w ≡ false
+    → waiters new mailbox ≡ posts_after sends side serial (waiters old mailbox) → ((other : BoxId) → other ≢ mailbox → waiters new other ≡ waiters old other)
     → AreTold old whose → AreTold new (set whose (p.serial.0 - 1) w)
 told_met old new mailbox sends side serial whose p w found isnt there elsewhere are = λ other. cases other (box_eq other mailbox) refl
   where
     at : FoundAt (is_other sends) mailbox 1 whose p
     at = found_post (is_other sends) mailbox 1 whose p (ap (find (is_other sends)) (sym (are mailbox)) ∙ found)
 
-    cases : (other : BoxId) (b : Bool) → box_eq other mailbox ≡ b → waiting new other ≡ posts_from other 1 (set whose (p.serial.0 - 1) w)
+    cases : (other : BoxId) (b : Bool) → box_eq other mailbox ≡ b → waiters new other ≡ posts_from other 1 (set whose (p.serial.0 - 1) w)
     cases other true e =
-        let here : waiting new mailbox ≡ posts_from mailbox 1 (set whose (p.serial.0 - 1) w) =
+        let here : waiters new mailbox ≡ posts_from mailbox 1 (set whose (p.serial.0 - 1) w) =
         there
-        ∙ ap (λ o. arrives_by o sends side serial (waiting old mailbox)) found
+        ∙ ap (λ o. posts_by_partner o sends side serial (waiters old mailbox)) found
         ∙ ap (without (is_other sends)) (are mailbox)
         ∙ at.taken w isnt in
-        subst (λ m. waiting new m ≡ posts_from m 1 (set whose (p.serial.0 - 1) w)) (sym (box_found other mailbox e)) here
+        subst (λ m. waiters new m ≡ posts_from m 1 (set whose (p.serial.0 - 1) w)) (sym (box_found other mailbox e)) here
     cases other false e =
         let away : other ≢ mailbox = λ is. absurd (true≢false (sym (box_found_same other mailbox is) ∙ e)) in
         elsewhere other away ∙ are other

@@ -9,7 +9,7 @@ use Rattle.sg_base.specs.declared.ids.Serial.{Serial}
 use Rattle.sg_base.specs.Limits.{Extent}
 use Rattle.sg_mailbox.specs.declared.sides.Side.{Side}
 use Rattle.sg_mailbox.specs.declared.sides.Post.{Post}
-use Rattle.sg_mailbox.specs.Posts.{is_other, waiting, meets, met}
+use Rattle.sg_mailbox.specs.Posts.{is_other, waiters, partner, partner_side}
 use Rattle.sg_route.specs.declared.router.RouteFault.{RouteFault}
 use Rattle.sg_route.specs.Roads.{Roads}
 use Rattle.sg_route.specs.Route.{Route, route_of}
@@ -24,9 +24,9 @@ use Rattle.sg_kernel.specs.kept.Sound.{core_of, setup_in, is_idle, IsSide, IsOwn
 use Rattle.sg_kernel.proofs.Postings.{FoundAt, found_post, posts_below}
 
 -- all that wait have lower serials than the next one
-pub waiting_below : (fields : Fields) (mailbox : BoxId) (next : ℕ) → next ≡ length fields.doing.under.tasks + 1 → IsSound fields → AreMeeting fields → All (λ (p : Post). p.serial.0 < next) (waiting fields.boxes mailbox)
+pub waiting_below : (fields : Fields) (mailbox : BoxId) (next : ℕ) → next ≡ length fields.doing.under.tasks + 1 → IsSound fields → AreMeeting fields → All (λ (p : Post). p.serial.0 < next) (waiters fields.boxes mailbox)
 waiting_below fields mailbox next is sound meeting =
-    All-same (λ (p : Post). p.serial.0 < next) (waiting fields.boxes mailbox) (posts_from mailbox 1 fields.whose.whose) (meeting.posts mailbox) (λ k d lt. below k d (posts_below mailbox 1 fields.whose.whose k d lt))
+    All-same (λ (p : Post). p.serial.0 < next) (waiters fields.boxes mailbox) (posts_from mailbox 1 fields.whose.whose) (meeting.posts mailbox) (λ k d lt. below k d (posts_below mailbox 1 fields.whose.whose k d lt))
   where
     below : (k : ℕ) (d : Post) → (get_or (posts_from mailbox 1 fields.whose.whose) k d).serial.0 < 1 + length fields.whose.whose → (get_or (posts_from mailbox 1 fields.whose.whose) k d).serial.0 < next
     below k d h = omega (arith, h, is, sound.numbered)
@@ -34,7 +34,7 @@ waiting_below fields mailbox next is sound meeting =
 -- the one that a side meets: nothing of its communication is under way
 pub record IsMet (fields : Fields) (comer : Comer) (serial : Serial) (other : Side) : Type 0 where
   pub post : Post
-  pub found : meets comer.sends (waiting fields.boxes comer.mailbox) ≡ Some post
+  pub found : partner comer.sends (waiters fields.boxes comer.mailbox) ≡ Some post
   pub serial_is : post.serial ≡ serial
   pub side_is : post.side ≡ other
   pub from : 0 < serial.0
@@ -45,10 +45,10 @@ pub record IsMet (fields : Fields) (comer : Comer) (serial : Serial) (other : Si
 some_same : {X : Type 0} {x y : X} → Some x ≡ Some y → x ≡ y
 some_same e = cc e
 
-pub is_met : (fields : Fields) (comer : Comer) (serial : Serial) (other : Side) → met (meets comer.sends (waiting fields.boxes comer.mailbox)) ≡ Some (serial, other) → AreLimited fields → AreMeeting fields → IsMet fields comer serial other
-is_met fields comer serial other is limited meeting = go (meets comer.sends (waiting fields.boxes comer.mailbox)) (refl) is
+pub is_met : (fields : Fields) (comer : Comer) (serial : Serial) (other : Side) → partner_side (partner comer.sends (waiters fields.boxes comer.mailbox)) ≡ Some (serial, other) → AreLimited fields → AreMeeting fields → IsMet fields comer serial other
+is_met fields comer serial other is limited meeting = go (partner comer.sends (waiters fields.boxes comer.mailbox)) (refl) is
   where
-    go : (o : Option Post) → meets comer.sends (waiting fields.boxes comer.mailbox) ≡ o → met o ≡ Some (serial, other) → IsMet fields comer serial other
+    go : (o : Option Post) → partner comer.sends (waiters fields.boxes comer.mailbox) ≡ o → partner_side o ≡ Some (serial, other) → IsMet fields comer serial other
     go None there e = absurd (cc e)
     go (Some p) there e =
         let same = some_same e in
@@ -101,7 +101,7 @@ pub comes_met : (fields : Fields) (roads : Roads) (comer : Comer) (serial : Seri
 comes_met fields roads comer serial other sender receiver start end r m meeting from to starts ends is =
     let setup = setup_in fields in
     let core = core_of fields in
-    let found : meets comer.sends (posts_from comer.mailbox 1 fields.whose.whose) ≡ Some m.post = ap (meets comer.sends) (sym (meeting.posts comer.mailbox)) ∙ m.found in
+    let found : partner comer.sends (posts_from comer.mailbox 1 fields.whose.whose) ≡ Some m.post = ap (partner comer.sends) (sym (meeting.posts comer.mailbox)) ∙ m.found in
     let post : m.post ≡ record { serial = serial; sends = m.post.sends; side = other } = ap₂ (λ (s : Serial) (d : Side). record { serial = s; sends = m.post.sends; side = d }) m.serial_is m.side_is in
     let way : route_of roads (point_of setup (sender_of comer other)) (point_of setup (receiver_of comer other)) ≡ r = sym (ap₂ (route_of roads) (starts ∙ ap (point_of setup) from) (ends ∙ ap (point_of setup) to)) ∙ is in (
       m.post.sends,

@@ -6,7 +6,7 @@ use Rattle.sg_lives.specs.Slots.{sooner, soonest, serials, is_at}
 use Rattle.sg_activity.specs.Underway.{next_in, wait_in}
 use Rattle.sg_activity.proofs.Times.{sooner_cases, sooner_never}
 use Rattle.sg_profile.specs.Ahead.{IsNear}
-use Rattle.sg_profile.specs.Profiles.{dates_of, earliest, rows_from}
+use Rattle.sg_profile.specs.Profiles.{dates_of, earliest, rows_due_from}
 use Rattle.sg_profile.proofs.Cases.{earlier_of}
 use Rattle.sg_states.specs.States.{ActorStates}
 use Rattle.sg_kernel.specs.declared.fields.Fields.{Fields}
@@ -119,12 +119,12 @@ earlier_cases x (Some y) date e = elim (less x y) [ inl h ↦ inl (sym h ∙ e) 
     less : (x y : ℕ) → (min x y ≡ x) ⊎ (min x y ≡ y)
     less x y = grind arith
 
-some_row : (row date : ℕ) (dates : List (Option ℕ)) → earliest dates ≡ Some date → rows_from row date dates ≡ [] → ⊥
-unfolding earliest rows_from
+some_row : (row date : ℕ) (dates : List (Option ℕ)) → earliest dates ≡ Some date → rows_due_from row date dates ≡ [] → ⊥
+unfolding earliest rows_due_from
 some_row row date [] e none = cc e
 some_row row date (None ∷ dates) e none = some_row (row + 1) date dates e none
 some_row row date (Some x ∷ dates) e none =
-    let rest = rows_from (row + 1) date dates in
+    let rest = rows_due_from (row + 1) date dates in
     let is : earlier_of x (earliest dates) ≡ date = cc e in
     elim (earlier_cases x (earliest dates) date is) [
       | inl a ↦ cc (sym (ap (λ b. cond b (row ∷ rest) rest) (ap (λ k. k == date) a ∙ same date)) ∙ none)

@@ -19,9 +19,9 @@ use Rattle.sg_activity.specs.Task.{Task, exec_of, is_cut, is_hit, next_phase, ph
 use Rattle.sg_activity.specs.Underway.{Underway, due_in, gone_on, held, hits, is_computing, is_kept, passed, turned}
 use Rattle.sg_mailbox.specs.declared.sides.Post.{Post}
 use Rattle.sg_mailbox.specs.declared.sides.Side.{Side}
-use Rattle.sg_mailbox.specs.Posts.{meets}
-use Rattle.sg_profile.specs.Profiles.{rows_at}
-use Rattle.sg_requests.specs.Requested.{oldest, queue_at, taken}
+use Rattle.sg_mailbox.specs.Posts.{partner}
+use Rattle.sg_profile.specs.Profiles.{rows_due}
+use Rattle.sg_requests.specs.Requested.{oldest, queue_at, queues_without_oldest}
 use Rattle.sg_route.specs.declared.router.RouteFault.{RouteFault}
 use Rattle.sg_route.specs.Roads.{Roads}
 use Rattle.sg_route.specs.Route.{Route}
@@ -145,7 +145,7 @@ waits_leaves actor core = by (oldest (queue_at core.requests actor))
 
     by : (found : Option Await) → (waits_by found actor core).core.under ≡ core.under
     by None = refl
-    by (Some on) = until (answer_of_over (whose_at core on.serial.0)) on (record core { requests = taken core.requests actor })
+    by (Some on) = until (answer_of_over (whose_at core on.serial.0)) on (record core { requests = queues_without_oldest core.requests actor })
 
 part_leaves : (waits : Bool) (comer : Comer) (serial : ℕ) (core : Core) → (takes_part waits comer serial core).core.under ≡ core.under
 part_leaves true comer serial core = refl
@@ -288,7 +288,7 @@ joins_clear route setup comer serial other core clear = by (is_cut core.under.on
     by false on = subst IsClear (sym (part_leaves comer.waits comer serial.0 join)) (clear_set core.under.on core.under.tasks (serial.0 - 1) (Some _) on clear)
 
 comes_clear : (roads : Roads) (setup : Setup) (comer : Comer) (core : Core) → IsClear core.under → IsClear (comes roads setup comer core).core.under
-comes_clear roads setup comer core clear = by (meets comer.sends (posts_at comer.mailbox core))
+comes_clear roads setup comer core clear = by (partner comer.sends (posts_at comer.mailbox core))
   where
     over : (post : Post) (r : Result Route RouteFault) → IsClear (joins_over r setup comer post core).core.under
     over post (Err why) = clear
@@ -422,13 +422,13 @@ at_clear : (setup : Setup) (core : Core) (span : Option ℕ) → IsClear core.un
 at_clear setup core None clear on = absurd (cc on)
 at_clear setup core (Some span) clear on =
     let moved = core_later span core in
-    let entries = each (changes setup) (rows_at (core.under.date + span) setup.profiles core.turns) in
+    let entries = each (changes setup) (rows_due (core.under.date + span) setup.profiles core.turns) in
     let phases = each (ends setup) (due_in span core.under) in
     let is = unused (core.events == setup.budget) core (all_of (stretches setup span core) moved) on ∙ all_of-two entries phases moved in
     let w = went (entries moved) phases (sym (ap (λ (s : Step). s.stop) is) ∙ on) in
     let before = hits_of moved.under (clear_map core.under.on (passed core.under span) (λ task. refl) core.under.tasks clear) in
     let mid = (entries moved).core in
-    let entered = changes_clear setup (rows_at (core.under.date + span) setup.profiles core.turns) moved before w.first_on in
+    let entered = changes_clear setup (rows_due (core.under.date + span) setup.profiles core.turns) moved before w.first_on in
     ap (λ (s : Step). hits s.core.under) is
     ∙ ap (λ (c : Core). hits c.under) w.core_is
     ∙ hits_of (phases mid).core.under (all_end_clear setup (due_in span core.under) mid (clear_of mid.under entered) w.next_on)

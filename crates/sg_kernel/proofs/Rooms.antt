@@ -7,7 +7,7 @@ use Rattle.sg_base.specs.declared.ids.BoxId.{BoxId}
 use Rattle.sg_base.specs.declared.ids.PointId.{PointId}
 use Rattle.sg_activity.specs.Doing.{Doing}
 use Rattle.sg_activity.specs.Underway.{Underway}
-use Rattle.sg_mailbox.specs.Posts.{Posts, waiting}
+use Rattle.sg_mailbox.specs.Posts.{Posts, waiters}
 use Rattle.sg_requests.specs.Requested.{Requested}
 use Rattle.sg_states.specs.declared.state.Actor.{Actor}
 use Rattle.sg_states.specs.Actors.{state_at}
@@ -28,7 +28,7 @@ use Rattle.sg_kernel.proofs.Timely.{IsTimelyAt}
 pub record IsRoomier (fields : Fields) (doing : Doing) (whose : Owned) (boxes : Posts) (requests : Requested) (states : ActorStates) : Type 0 where
   pub tasks : doing.under ≡ fields.doing.under
   pub owners : whose.whose ≡ fields.whose.whose
-  pub mailboxes : (mailbox : BoxId) → waiting boxes mailbox ≡ waiting fields.boxes mailbox
+  pub mailboxes : (mailbox : BoxId) → waiters boxes mailbox ≡ waiters fields.boxes mailbox
   pub queues : requests.queues ≡ fields.requests.queues
   pub asked : requests.asked ≡ fields.requests.asked
   pub actors : states.actors ≡ fields.states.actors

@@ -9,7 +9,7 @@ use Rattle.sg_base.specs.declared.awaits.Party.TheVariants.{Sender, Receiver}
 use Rattle.sg_activity.specs.Task.{Task, is_cut, task_at}
 use Rattle.sg_activity.specs.Underway.{Underway, marked, with_task}
 use Rattle.sg_mailbox.specs.declared.sides.Side.{Side}
-use Rattle.sg_mailbox.specs.Posts.{Posts, arrives, waiting}
+use Rattle.sg_mailbox.specs.Posts.{Posts, posts_after, waiters}
 use Rattle.sg_route.specs.Route.{Route}
 use Rattle.sg_kernel.specs.declared.fields.Fields.{Fields}
 use Rattle.sg_kernel.specs.declared.meetings.Comer.{Comer}
@@ -94,7 +94,7 @@ other_first known mid next comer serial other sends one two =
 -- ---- what is kept
 pub whole_unmet : (fields : Fields) (comer : Comer) (serial : Serial) (other : Side) (next : Serial) (whose : Owned) (boxes : Posts) → IsMet fields comer serial other → IsWhole fields
     → whose ≡ record { whose = set fields.whose.whose (serial.0 - 1) (Over how.Failed); room = fields.whose.room - 1 }
-    → waiting boxes comer.mailbox ≡ arrives comer.sends comer.side next (waiting fields.boxes comer.mailbox) → ((there : BoxId) → there ≢ comer.mailbox → waiting boxes there ≡ waiting fields.boxes there)
+    → waiters boxes comer.mailbox ≡ posts_after comer.sends comer.side next (waiters fields.boxes comer.mailbox) → ((there : BoxId) → there ≢ comer.mailbox → waiters boxes there ≡ waiters fields.boxes there)
     → fields.states.room - 1 ≤ boxes.room → IsWholeFor (fields.states.room - 1) (record fields { whose = whose; boxes = boxes })
 whole_unmet fields comer serial other next whose boxes m was owned there elsewhere room =
     let w = Over how.Failed in

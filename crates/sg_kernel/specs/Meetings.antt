@@ -12,11 +12,11 @@ use Rattle.sg_activity.specs.Task.{Task, Way, comm_of, is_cut}
 use Rattle.sg_activity.specs.Underway.{begun, drawn}
 use Rattle.sg_mailbox.specs.declared.sides.Side.{Side}
 use Rattle.sg_mailbox.specs.declared.sides.Post.{Post}
-use Rattle.sg_mailbox.specs.Posts.{box_eq, meets}
+use Rattle.sg_mailbox.specs.Posts.{box_eq, partner}
 use Rattle.sg_base.specs.declared.awaits.Await.{Await}
 use Rattle.sg_base.specs.declared.awaits.Party.{Party}
 use Rattle.sg_base.specs.declared.awaits.Party.TheVariants.{Sender, Receiver}
-use Rattle.sg_requests.specs.Requested.{queue_at, oldest, queued, taken}
+use Rattle.sg_requests.specs.Requested.{queue_at, oldest, queues_with_request, queues_without_oldest}
 use Rattle.sg_route.specs.declared.router.RouteFault.{RouteFault}
 use Rattle.sg_route.specs.declared.router.RouteFault.TheVariants as fault
 use Rattle.sg_route.specs.Roads.{Roads}
@@ -57,7 +57,7 @@ await serial sends = record { serial = record { 0 = serial }; party = party_of s
 
 -- the communication becomes the actor's newest request
 abbrev pub asks_for : ℕ → Await → Core → Core
-asks_for actor on core = record core { requests = queued core.requests actor on }
+asks_for actor on core = record core { requests = queues_with_request core.requests actor on }
 
 -- a call that waits blocks its actor; any other is done at once
 abbrev pub takes_part : Bool → Comer → ℕ → Core → Step
@@ -182,7 +182,7 @@ comes_by (Some post) roads setup comer core =
 
 -- a side meets, of those that wait in its mailbox and lack it, the one of least serial
 abbrev pub comes : Roads → Setup → Comer → Core → Step
-comes roads setup comer core = comes_by (meets comer.sends (posts_at comer.mailbox core)) roads setup comer core
+comes roads setup comer core = comes_by (partner comer.sends (posts_at comer.mailbox core)) roads setup comer core
 
 -- ---- Wait
 -- what an actor that waits for an activity is answered at once; none: it isn't over
@@ -201,7 +201,7 @@ waits_until None actor on core = goes_on (blocked_by actor call.Wait (Some on) c
 -- the oldest request is taken away; with none the call is refused
 abbrev pub waits_by : Option Await → ℕ → Core → Step
 waits_by None actor core = at_once actor call.Wait 0 answer.Refused core
-waits_by (Some on) actor core = waits_until (answer_of_over (whose_at core on.serial.0)) actor on (record core { requests = taken core.requests actor })
+waits_by (Some on) actor core = waits_until (answer_of_over (whose_at core on.serial.0)) actor on (record core { requests = queues_without_oldest core.requests actor })
 
 abbrev pub waits : ℕ → Core → Step
 waits actor core = waits_by (oldest (queue_at core.requests actor)) actor core

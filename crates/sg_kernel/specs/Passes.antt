@@ -6,7 +6,7 @@ use Rattle.sg_activity.specs.Underway as underway
 use Rattle.sg_activity.specs.Underway.{Underway, due_in, hits, is_running, later, next_in, with_bandwidth, with_host_on, with_link_on, with_speed, with_task}
 use Rattle.sg_profile.specs.declared.entry.Entry.{Entry}
 use Rattle.sg_profile.specs.declared.entry.Entry.TheVariants as entry
-use Rattle.sg_profile.specs.Profiles.{entry_at, next_date, rows_at, stepped}
+use Rattle.sg_profile.specs.Profiles.{entry_at, next_date, rows_due, turns_after_row}
 use Rattle.sg_rows.specs.declared.network.Network.{Network}
 use Rattle.sg_rows.specs.Network.{bandwidth_over}
 use Rattle.sg_kernel.specs.declared.owners.How.TheVariants as how
@@ -32,7 +32,7 @@ applied_if network (Some entry) under = applied network entry under
 abbrev pub enters : Setup → ℕ → Core → Core
 enters setup row core = record core {
   under = applied_if setup.network (entry_at setup.profiles core.turns row) core.under;
-  turns = stepped setup.profiles row core.turns;
+  turns = turns_after_row setup.profiles row core.turns;
 }
 
 -- that is one event
@@ -95,7 +95,7 @@ next_span setup core =
 -- what comes at the date of a pass, in this order; the world before it tells which
 abbrev pub stretches : Setup → ℕ → Core → List (Core → Step)
 stretches setup span core =
-    each (changes setup) (rows_at (core.under.date + span) setup.profiles core.turns) ∷
+    each (changes setup) (rows_due (core.under.date + span) setup.profiles core.turns) ∷
     each (ends setup) (due_in span core.under) ∷
     []
 

@@ -4,7 +4,7 @@ ghost use Rattle.std.specs.Prelude.{◌≡◌, ◌≢◌, ◌<◌, ◌^◌, AllP
 ghost use Rattle.sg_activity.specs.Task.{is_cut};
 ghost use Rattle.sg_base.specs.declared.ids.BoxId.{BoxId};
 ghost use Rattle.sg_base.specs.Limits.{IsActorIn};
-ghost use Rattle.sg_mailbox.specs.Posts.{meets, waiting, IsFound};
+ghost use Rattle.sg_mailbox.specs.Posts.{partner, waiters, IsFound};
 ghost use Rattle.sg_states.specs.Records.{IsTellable};
 ghost use Rattle.sg_kernel.specs.World.{extent};
 ghost use Rattle.sg_kernel.specs.Steps.{blocked_by};
@@ -135,7 +135,7 @@ fn take_part(fields: &mut Fields, comer: Comer, serial: Serial)
 fn post(fields: &mut Fields, comer: Comer, found: Found)
     requires comes { CanCome fields.old comer }
     requires found { IsFound fields.old.boxes comer.mailbox comer.sends found }
-    requires alone { meets comer.sends (waiting fields.old.boxes comer.mailbox) ≡ None }
+    requires alone { partner comer.sends (waiters fields.old.boxes comer.mailbox) ≡ None }
     ensures { Answers (posts comer) fields.old fields.new }
 {
     fields.events += 1;
@@ -197,7 +197,7 @@ fn begin(
     links: &[LinkId],
     latency: u128,
 )
-    requires meets { CanMeet fields.old comer found met }
+    requires partner { CanMeet fields.old comer found met }
     requires route { IsOver fields.old.links
         (record { links = links.now; latency = latency }) }
     requires apart { AllPairs (λ a b. a ≢ b) links.now }
@@ -297,7 +297,7 @@ fn meet(
     links: &[LinkId],
     latency: u128,
 )
-    requires meets { CanMeet fields.old comer found met }
+    requires partner { CanMeet fields.old comer found met }
     requires route { IsOver fields.old.links
         (record { links = links.now; latency = latency }) }
     requires apart { AllPairs (λ a b. a ≢ b) links.now }
@@ -326,7 +326,7 @@ fn join(
     found: Found,
     met: (Serial, Side),
 ) -> Result<(), Stop>
-    requires meets { CanMeet fields.old comer found met }
+    requires partner { CanMeet fields.old comer found met }
     requires roads { AreOver fields.old.links router.old }
     ensures replies { Replies (comes_in router.old comer fields.old)
         fields.old fields.new result }

@@ -15,7 +15,7 @@ use Rattle.sg_queues.specs.Rings.{front}
 use Rattle.sg_queues.specs.Queues.{holds, value, without_slot}
 use Rattle.sg_queues.proofs.Lists.{without_none}
 use Rattle.sg_mailbox.specs.declared.sides.Post.{Post}
-use Rattle.sg_mailbox.specs.Posts.{box_eq, is_other, without, withdrawn}
+use Rattle.sg_mailbox.specs.Posts.{box_eq, is_other, without, posts_without}
 use Rattle.sg_mailbox.specs.kept.Queues.{AreOrdered}
 
 pub box_found : (a b : BoxId) → box_eq a b ≡ true → a ≡ b
@@ -64,7 +64,7 @@ first_met sends first rest ordered = elim (cases_Bool (beq first.sends sends)) [
 ]
 
 -- who is met is the first of all, and to take it away is to withdraw it
-pub met_first : (sends : Bool) (posts : List Post) (post : Post) → AreOrdered posts → find (is_other sends) posts ≡ Some post → (front posts ≡ Some post) × (without (is_other sends) posts ≡ withdrawn post.serial posts)
+pub met_first : (sends : Bool) (posts : List Post) (post : Post) → AreOrdered posts → find (is_other sends) posts ≡ Some post → (front posts ≡ Some post) × (without (is_other sends) posts ≡ posts_without post.serial posts)
 unfolding without
 met_first sends [] post ordered met = absurd (cc met)
 met_first sends (first ∷ rest) post ordered met = elim (cases_Bool (is_other sends first)) [
@@ -92,7 +92,7 @@ holds_without slot other queue apart =
     (λ entry same. ap not (ne_eqb entry.0 slot (λ e. apart (eqb-true other entry.0 same ∙ e)))) queue
 
 -- without a slot the posts are those without its serial
-pub without_posts : (slot : ℕ) (serial : Serial) (queue : List (ℕ × Post)) → All (λ (entry : ℕ × Post). eqb entry.0 slot ≡ eqb entry.1.serial.0 serial.0) queue → map value (without_slot slot queue) ≡ withdrawn serial (map value queue)
+pub without_posts : (slot : ℕ) (serial : Serial) (queue : List (ℕ × Post)) → All (λ (entry : ℕ × Post). eqb entry.0 slot ≡ eqb entry.1.serial.0 serial.0) queue → map value (without_slot slot queue) ≡ posts_without serial (map value queue)
 without_posts slot serial [] same = refl
 without_posts slot serial (entry ∷ queue) same =
     let here = All-head (λ (e : ℕ × Post). eqb e.0 slot ≡ eqb e.1.serial.0 serial.0) entry queue same in

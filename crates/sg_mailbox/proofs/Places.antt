@@ -13,7 +13,7 @@ use Rattle.sg_queues.proofs.Entries.{holds_front}
 use Rattle.sg_queues.proofs.Lists.{map_at, from_front}
 use Rattle.sg_mailbox.specs.declared.sides.Post.{Post}
 use Rattle.sg_mailbox.specs.declared.sides.Place.{Place}
-use Rattle.sg_mailbox.specs.Posts.{withdrawn}
+use Rattle.sg_mailbox.specs.Posts.{posts_without}
 use Rattle.sg_mailbox.specs.kept.Queues.{is_at, IsPlace, ArePlaced}
 use Rattle.sg_mailbox.proofs.Lists.{entry_in, holds_without, without_posts}
 
@@ -83,7 +83,7 @@ module _ (f : BoxId → Option ℕ) (old new : ℕ → Option Place) (queues : L
 
 -- ---- the side of a serial leaves
 -- its slot tells it from all others
-pub posts_left : (f : BoxId → Option ℕ) (place : ℕ → Option Place) (queues : List (List (ℕ × Post))) (serial : Serial) (gone : Place) → ArePlaced f place queues → place serial.0 ≡ Some gone → (q : ℕ) → map value (without_slot gone.slot (queue_at queues q)) ≡ withdrawn serial (map value (queue_at queues q))
+pub posts_left : (f : BoxId → Option ℕ) (place : ℕ → Option Place) (queues : List (List (ℕ × Post))) (serial : Serial) (gone : Place) → ArePlaced f place queues → place serial.0 ≡ Some gone → (q : ℕ) → map value (without_slot gone.slot (queue_at queues q)) ≡ posts_without serial (map value (queue_at queues q))
 posts_left f place queues serial gone were is q =
     without_posts gone.slot serial (queue_at queues q) (subst (λ o. All (λ (entry : ℕ × Post). is_at entry.0 o ≡ eqb entry.1.serial.0 serial.0) (queue_at queues q)) is (were.told q serial.0))
 

@@ -18,24 +18,24 @@ use Rattle.sg_queues.proofs.Values.{values_at, queued_values}
 use Rattle.sg_mailbox.specs.declared.kept.Kept.{Kept}
 use Rattle.sg_mailbox.specs.declared.sides.Post.{Post}
 use Rattle.sg_mailbox.specs.declared.sides.Place.{Place}
-use Rattle.sg_mailbox.specs.Posts.{box_eq, posts_in, waiting, meets, met, withdrawn, AreBelow, AreRising}
+use Rattle.sg_mailbox.specs.Posts.{box_eq, posts_in, waiters, partner, partner_side, posts_without, AreBelow, AreRising}
 use Rattle.sg_mailbox.specs.kept.Queues.{number, place, posts_of, is_at, IsPlace, AreNumbered, AreOrdered, AreKept, IsKept}
 use Rattle.sg_mailbox.proofs.Lists.{first_met}
 use Rattle.sg_mailbox.proofs.Numbers.{numbered_as}
 use Rattle.sg_mailbox.proofs.Places.{placed_like, side_at, one_queue}
 
 -- what holds of the posts of each queue holds of those in a mailbox
-in_waiting : (P : List Post → Type 0) (kept : Kept) → P [] → ((q : ℕ) → P (map value (queue_at kept.queues.queues q))) → (mailbox : BoxId) → P (waiting (posts_of kept) mailbox)
+in_waiting : (P : List Post → Type 0) (kept : Kept) → P [] → ((q : ℕ) → P (map value (queue_at kept.queues.queues q))) → (mailbox : BoxId) → P (waiters (posts_of kept) mailbox)
 in_waiting P kept none each mailbox = go (number kept mailbox)
   where
     go : (o : Option ℕ) → P (posts_in (values_of kept.queues.queues) o)
     go None = none
     go (Some q) = subst P (sym (values_at kept.queues.queues q)) (each q)
 
-pub ordered_in : (kept : Kept) → ((q : ℕ) → AreOrdered (map value (queue_at kept.queues.queues q))) → (mailbox : BoxId) → AreOrdered (waiting (posts_of kept) mailbox)
+pub ordered_in : (kept : Kept) → ((q : ℕ) → AreOrdered (map value (queue_at kept.queues.queues q))) → (mailbox : BoxId) → AreOrdered (waiters (posts_of kept) mailbox)
 ordered_in kept ordered = in_waiting AreOrdered kept (λ i j d less below. absurd (omega (arith, below))) ordered
 
-pub rising_in : (kept : Kept) → IsKept kept → (mailbox : BoxId) → AreRising (waiting (posts_of kept) mailbox)
+pub rising_in : (kept : Kept) → IsKept kept → (mailbox : BoxId) → AreRising (waiters (posts_of kept) mailbox)
 rising_in kept was mailbox = λ i j d less below. (ordered_in kept was.ordered mailbox i j d less below).1
 
 -- no side waits under a serial that is above all
@@ -77,7 +77,7 @@ grown old new was numbers count numbers_fit places places_fit queues queues_fit 
     alike old new was numbers count (omega (arith, was.roomy.numbers, numbers_fit)) places (omega (arith, was.roomy.places, places_fit)) queues queues_fit empty room
 
 -- nobody waits where no mailbox has a queue
-pub nobody : (kept : Kept) → hash_map_len kept.numbers ≡ 0 → (mailbox : BoxId) → waiting (posts_of kept) mailbox ≡ []
+pub nobody : (kept : Kept) → hash_map_len kept.numbers ≡ 0 → (mailbox : BoxId) → waiters (posts_of kept) mailbox ≡ []
 nobody kept none mailbox = ap (posts_in (values_of kept.queues.queues)) (ap (λ (es : List (BoxId × ℕ)). lookup (box_eq mailbox) es) (empty kept.numbers.entries none))
   where
     empty : (es : List (BoxId × ℕ)) → length es ≡ 0 → es ≡ []
@@ -95,18 +95,18 @@ module _ (queues : List (List (ℕ × Post))) (queue slot : ℕ) (post : Post) w
   put_elsewhere (Some q) apart = ap (λ l. queue_at l q) (queued_values queues queue slot post) ∙ get_or-set_other (values_of queues) queue q (queue_at (values_of queues) queue ++ post ∷ []) [] (λ e. apart (ap (λ n. Some n) e))
 
 -- ---- a side leaves
-pub taken_in : (queues : List (List (ℕ × Post))) (slot : ℕ) (serial : Serial) → ((q : ℕ) → map value (without_slot slot (queue_at queues q)) ≡ withdrawn serial (map value (queue_at queues q)))
-    → (o : Option ℕ) → posts_in (values_of (let_go slot queues)) o ≡ withdrawn serial (posts_in (values_of queues) o)
+pub taken_in : (queues : List (List (ℕ × Post))) (slot : ℕ) (serial : Serial) → ((q : ℕ) → map value (without_slot slot (queue_at queues q)) ≡ posts_without serial (map value (queue_at queues q)))
+    → (o : Option ℕ) → posts_in (values_of (let_go slot queues)) o ≡ posts_without serial (posts_in (values_of queues) o)
 taken_in queues slot serial each None = refl
 taken_in queues slot serial each (Some q) =
-    values_at (let_go slot queues) q ∙ ap (map value) (map_at (without_slot slot) [] queues q) ∙ each q ∙ ap (withdrawn serial) (sym (values_at queues q))
+    values_at (let_go slot queues) q ∙ ap (map value) (map_at (without_slot slot) [] queues q) ∙ each q ∙ ap (posts_without serial) (sym (values_at queues q))
 
 -- ---- a side is met
-pub nobody_met : (o : Option Post) → None ≡ met o → o ≡ None
+pub nobody_met : (o : Option Post) → None ≡ partner_side o → o ≡ None
 nobody_met None e = refl
 nobody_met (Some post) e = absurd (cc e)
 
-pub somebody_met : (serial : Serial) (side : Side) (o : Option Post) → Some (serial, side) ≡ met o → (post : Post) × (o ≡ Some post) × (post.serial ≡ serial)
+pub somebody_met : (serial : Serial) (side : Side) (o : Option Post) → Some (serial, side) ≡ partner_side o → (post : Post) × (o ≡ Some post) × (post.serial ≡ serial)
 somebody_met serial side None e = absurd (cc e)
 somebody_met serial side (Some post) e =
     let mine : Serial × Side = (serial, side) in
@@ -118,7 +118,7 @@ front_value [] post is = absurd (cc is)
 front_value (first ∷ rest) post is = (first, refl, cc is)
 
 -- who is met waits in no other mailbox
-pub only_there : (kept : Kept) → IsKept kept → (mailbox other : BoxId) → other ≢ mailbox → (post : Post) → front (waiting (posts_of kept) mailbox) ≡ Some post → All (λ (p : Post). p.serial.0 ≢ post.serial.0) (waiting (posts_of kept) other)
+pub only_there : (kept : Kept) → IsKept kept → (mailbox other : BoxId) → other ≢ mailbox → (post : Post) → front (waiters (posts_of kept) mailbox) ≡ Some post → All (λ (p : Post). p.serial.0 ≢ post.serial.0) (waiters (posts_of kept) other)
 only_there kept was mailbox other apart post is = go (number kept mailbox) (number kept other) refl refl is
   where
     go : (a b : Option ℕ) → number kept mailbox ≡ a → number kept other ≡ b → front (posts_in (values_of kept.queues.queues) a) ≡ Some post → All (λ (p : Post). p.serial.0 ≢ post.serial.0) (posts_in (values_of kept.queues.queues) b)
@@ -132,7 +132,7 @@ only_there kept was mailbox other apart post is = go (number kept mailbox) (numb
         (λ k d below same. apart (was.numbered.once other mailbox q b_is (a_is ∙ ap (λ n. Some n) (one k d below (same ∙ sym (ap (λ (p : Post). p.serial.0) first.2)))))))
 
 -- no side waits under a serial that has no place
-pub unplaced : (kept : Kept) (serial : Serial) → IsKept kept → place kept serial.0 ≡ None → (mailbox : BoxId) → All (λ (post : Post). post.serial.0 ≢ serial.0) (waiting (posts_of kept) mailbox)
+pub unplaced : (kept : Kept) (serial : Serial) → IsKept kept → place kept serial.0 ≡ None → (mailbox : BoxId) → All (λ (post : Post). post.serial.0 ≢ serial.0) (waiters (posts_of kept) mailbox)
 unplaced kept serial was none =
     let differs : Post → Type 0 = λ post. post.serial.0 ≢ serial.0 in
     in_waiting (All differs) kept (All-nil differs) (λ q. All-map differs value (queue_at kept.queues.queues q) (λ k d below.
@@ -140,8 +140,8 @@ unplaced kept serial was none =
 
 -- who is first tells whom a side meets
 pub front_met : (kept : Kept) → IsKept kept → (mailbox : BoxId) (sends : Bool) (queue : ℕ) (first : ℕ × Post) → number kept mailbox ≡ Some queue → front (queue_at kept.queues.queues queue) ≡ Some first
-    → meets sends (waiting (posts_of kept) mailbox) ≡ cond (beq first.1.sends sends) None (Some first.1)
+    → partner sends (waiters (posts_of kept) mailbox) ≡ cond (beq first.1.sends sends) None (Some first.1)
 front_met kept was mailbox sends queue first has is =
     let rest : List Post = map value (behind (queue_at kept.queues.queues queue)) in
     let list : map value (queue_at kept.queues.queues queue) ≡ first.1 ∷ rest = ap (map value) (from_front (queue_at kept.queues.queues queue) first is) in
-    ap (λ o. meets sends (posts_in (values_of kept.queues.queues) o)) has ∙ ap (meets sends) (values_at kept.queues.queues queue ∙ list) ∙ first_met sends first.1 rest (subst AreOrdered list (was.ordered queue))
+    ap (λ o. partner sends (posts_in (values_of kept.queues.queues) o)) has ∙ ap (partner sends) (values_at kept.queues.queues queue ∙ list) ∙ first_met sends first.1 rest (subst AreOrdered list (was.ordered queue))

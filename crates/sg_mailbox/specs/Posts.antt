@@ -29,8 +29,8 @@ posts_in queues None = []
 posts_in queues (Some queue) = slice_index_or queues queue []
 
 -- who waits in a mailbox
-abbrev pub waiting : Posts → BoxId → List Post
-waiting posts mailbox = posts_in posts.queues (queue_of posts mailbox)
+abbrev pub waiters : Posts → BoxId → List Post
+waiters posts mailbox = posts_in posts.queues (queue_of posts mailbox)
 
 -- whether the other kind of side waits: a receiver for one that sends, and a sender for one that receives
 abbrev pub is_other : Bool → Post → Bool
@@ -38,50 +38,50 @@ is_other true post = not post.sends
 is_other false post = post.sends
 
 -- whom a side meets: the first of the other kind, which has the least serial
-abbrev pub meets : Bool → List Post → Option Post
-meets sends posts = find (is_other sends) posts
+abbrev pub partner : Bool → List Post → Option Post
+partner sends posts = find (is_other sends) posts
 
 -- the list without the first that passes the test
 unfoldable pub without : (Post → Bool) → List Post → List Post
 without test [] = []
 without test (post ∷ rest) = if test post then rest else post ∷ without test rest
 
-abbrev pub arrives_by : Option Post → Bool → Side → Serial → List Post → List Post
-arrives_by None sends side serial posts = posts ++ record { serial = serial; sends = sends; side = side } ∷ []
-arrives_by (Some post) sends side serial posts = without (is_other sends) posts
+abbrev pub posts_by_partner : Option Post → Bool → Side → Serial → List Post → List Post
+posts_by_partner None sends side serial posts = posts ++ record { serial = serial; sends = sends; side = side } ∷ []
+posts_by_partner (Some post) sends side serial posts = without (is_other sends) posts
 
 -- a side that comes takes whom it meets away, and waits where it meets nobody
-abbrev pub arrives : Bool → Side → Serial → List Post → List Post
-arrives sends side serial posts = arrives_by (meets sends posts) sends side serial posts
+abbrev pub posts_after : Bool → Side → Serial → List Post → List Post
+posts_after sends side serial posts = posts_by_partner (partner sends posts) sends side serial posts
 
 abbrev pub meeting : Option Post → Serial → Meeting
 meeting None serial = Posted serial
 meeting (Some post) serial = Met post.serial post.side
 
 -- whom a side would meet, as its communication's serial and the other side
-abbrev pub met : Option Post → Option (Serial × Side)
-met found = option_map (λ post. (post.serial, post.side)) found
+abbrev pub partner_side : Option Post → Option (Serial × Side)
+partner_side found = option_map (λ post. (post.serial, post.side)) found
 
 -- what a side that comes to this mailbox finds there
 pub record IsFound (posts : Posts) (mailbox : BoxId) (sends : Bool) (found : Found) : Type 0 where
   pub queue : found.queue ≡ queue_of posts mailbox
-  pub met : found.met ≡ met (meets sends (waiting posts mailbox))
+  pub met : found.met ≡ partner_side (partner sends (waiters posts mailbox))
 
 -- the post of this serial has left
-abbrev pub withdrawn : Serial → List Post → List Post
-withdrawn serial posts = filter (λ (post : Post). not (post.serial.0 == serial.0)) posts
+abbrev pub posts_without : Serial → List Post → List Post
+posts_without serial posts = filter (λ (post : Post). not (post.serial.0 == serial.0)) posts
 
 -- all that wait have lower serials
 abbrev pub AreBelow : ℕ → Posts → Type 0
-AreBelow serial posts = (mailbox : BoxId) → All (λ (post : Post). post.serial.0 < serial) (waiting posts mailbox)
+AreBelow serial posts = (mailbox : BoxId) → All (λ (post : Post). post.serial.0 < serial) (waiters posts mailbox)
 
 -- the same sides wait
 abbrev pub AllStay : Posts → Posts → Type 0
-AllStay old new = (mailbox : BoxId) → waiting new mailbox ≡ waiting old mailbox
+AllStay old new = (mailbox : BoxId) → waiters new mailbox ≡ waiters old mailbox
 
 -- the same sides wait in all mailboxes but this one
 abbrev pub OthersStay : BoxId → Posts → Posts → Type 0
-OthersStay mailbox old new = (other : BoxId) → other ≢ mailbox → waiting new other ≡ waiting old other
+OthersStay mailbox old new = (other : BoxId) → other ≢ mailbox → waiters new other ≡ waiters old other
 
 -- serials rise in the order of arrival
 abbrev pub AreRising : List Post → Type 0

@@ -1,7 +1,7 @@
 //! The mailboxes.
 ghost use Rattle.std.specs.Prelude.{◌≡◌, ◌-◌, ◌<◌, ◌≤◌, [], true, false, IfOk, OnOk};
 ghost use Rattle.sg_base.specs.declared.ids.BoxId.{BoxId};
-ghost use Rattle.sg_mailbox.specs.Posts.{waiting, meets, arrives, meeting, met, withdrawn, AllStay, AreBelow, AreRising, IsFound, OthersStay};
+ghost use Rattle.sg_mailbox.specs.Posts.{waiters, partner, posts_after, meeting, partner_side, posts_without, AllStay, AreBelow, AreRising, IsFound, OthersStay};
 
 use crate::kept::{Kept, enter, first, look, reserve, withdraw};
 use crate::sides::{Found, Meeting, Side};
@@ -39,7 +39,7 @@ impl Model for Boxes {
 impl Boxes {
     /// Nobody waits, and there is no room.
     pub fn new(alloc: Global) -> Result<Boxes, Memory>
-        ensures empty { IfOk result (λ boxes. (mailbox : BoxId) → waiting boxes mailbox ≡ []) }
+        ensures empty { IfOk result (λ boxes. (mailbox : BoxId) → waiters boxes mailbox ≡ []) }
         ensures room { IfOk result (λ boxes. boxes.room ≡ 0) }
     {
         Ok(Boxes {
@@ -59,7 +59,7 @@ impl Boxes {
     /// What a side finds that comes to a mailbox: nothing changes.
     pub fn look(&self, mailbox: BoxId, sends: bool) -> Found
         ensures found { IsFound self.now mailbox sends result }
-        ensures rising { AreRising (waiting self.now mailbox) }
+        ensures rising { AreRising (waiters self.now mailbox) }
     {
         look(&self.kept, mailbox, sends)
     }
@@ -76,9 +76,9 @@ impl Boxes {
         requires room { 0 < self.old.room }
         requires found { IsFound self.old mailbox sends found }
         requires above { AreBelow serial.0 self.old }
-        ensures meeting { result ≡ meeting (meets sends (waiting self.old mailbox)) serial }
-        ensures there { waiting self.new mailbox
-            ≡ arrives sends side serial (waiting self.old mailbox) }
+        ensures meeting { result ≡ meeting (partner sends (waiters self.old mailbox)) serial }
+        ensures there { waiters self.new mailbox
+            ≡ posts_after sends side serial (waiters self.old mailbox) }
         ensures elsewhere { OthersStay mailbox self.old self.new }
         ensures room { self.new.room ≡ self.old.room - 1 }
     {
@@ -88,8 +88,8 @@ impl Boxes {
     /// The side of this serial leaves its mailbox, from wherever it waits there. Nothing changes where no side of
     /// this serial waits.
     pub fn withdraw(&mut self, serial: Serial)
-        ensures left { (mailbox : BoxId) → waiting self.new mailbox
-            ≡ withdrawn serial (waiting self.old mailbox) }
+        ensures left { (mailbox : BoxId) → waiters self.new mailbox
+            ≡ posts_without serial (waiters self.old mailbox) }
         ensures room { self.new.room ≡ self.old.room }
     {
         withdraw(&mut self.kept, serial);
@@ -99,9 +99,9 @@ impl Boxes {
     pub fn send(&mut self, mailbox: BoxId, side: Side, serial: Serial) -> Meeting
         requires room { 0 < self.old.room }
         requires above { AreBelow serial.0 self.old }
-        ensures meeting { result ≡ meeting (meets true (waiting self.old mailbox)) serial }
-        ensures there { waiting self.new mailbox
-            ≡ arrives true side serial (waiting self.old mailbox) }
+        ensures meeting { result ≡ meeting (partner true (waiters self.old mailbox)) serial }
+        ensures there { waiters self.new mailbox
+            ≡ posts_after true side serial (waiters self.old mailbox) }
         ensures elsewhere { OthersStay mailbox self.old self.new }
         ensures room { self.new.room ≡ self.old.room - 1 }
     {
@@ -113,9 +113,9 @@ impl Boxes {
     pub fn recv(&mut self, mailbox: BoxId, side: Side, serial: Serial) -> Meeting
         requires room { 0 < self.old.room }
         requires above { AreBelow serial.0 self.old }
-        ensures meeting { result ≡ meeting (meets false (waiting self.old mailbox)) serial }
-        ensures there { waiting self.new mailbox
-            ≡ arrives false side serial (waiting self.old mailbox) }
+        ensures meeting { result ≡ meeting (partner false (waiters self.old mailbox)) serial }
+        ensures there { waiters self.new mailbox
+            ≡ posts_after false side serial (waiters self.old mailbox) }
         ensures elsewhere { OthersStay mailbox self.old self.new }
         ensures room { self.new.room ≡ self.old.room - 1 }
     {
@@ -125,16 +125,16 @@ impl Boxes {
 
     /// Whom `send` would meet: nothing changes.
     pub fn meets_send(&self, mailbox: BoxId) -> Option<(Serial, Side)>
-        ensures is { result ≡ met (meets true (waiting self.now mailbox)) }
-        ensures rising { AreRising (waiting self.now mailbox) }
+        ensures is { result ≡ partner_side (partner true (waiters self.now mailbox)) }
+        ensures rising { AreRising (waiters self.now mailbox) }
     {
         self.look(mailbox, true).met
     }
 
     /// Whom `recv` would meet: nothing changes.
     pub fn meets_recv(&self, mailbox: BoxId) -> Option<(Serial, Side)>
-        ensures is { result ≡ met (meets false (waiting self.now mailbox)) }
-        ensures rising { AreRising (waiting self.now mailbox) }
+        ensures is { result ≡ partner_side (partner false (waiters self.now mailbox)) }
+        ensures rising { AreRising (waiters self.now mailbox) }
     {
         self.look(mailbox, false).met
     }

@@ -4,7 +4,7 @@ ghost use Rattle.std.specs.HashMap.{get, hash_map_len, spare};
 ghost use Rattle.sg_base.specs.declared.ids.BoxId.{BoxId};
 ghost use Rattle.sg_serials.specs.Serials as serials;
 ghost use Rattle.sg_mailbox.specs.declared.sides.Post.{Post as PostSpec};
-ghost use Rattle.sg_mailbox.specs.Posts.{box_eq, meets, arrives, meeting, waiting, withdrawn, AllStay, AreBelow, AreRising, IsFound, OthersStay};
+ghost use Rattle.sg_mailbox.specs.Posts.{box_eq, partner, posts_after, meeting, waiters, posts_without, AllStay, AreBelow, AreRising, IsFound, OthersStay};
 ghost use Rattle.sg_mailbox.specs.kept.Queues.{number, posts_of, IsKept, IsKeptBut};
 
 use crate::sides::{Found, Meeting, Place, Post, Side};
@@ -43,7 +43,7 @@ const BLANK: Post = Post {
 /// Nobody waits, and there is no room.
 pub(crate) fn first(alloc: Global) -> Result<Kept, Memory>
     ensures nobody { IfOk result (λ kept. (mailbox : BoxId) →
-        waiting (posts_of kept) mailbox ≡ []) }
+        waiters (posts_of kept) mailbox ≡ []) }
     ensures room { IfOk result (λ kept. kept.room ≡ 0) }
     ensures kept { IfOk result IsKept }
 {
@@ -187,7 +187,7 @@ pub(crate) fn reserve(kept: &mut Kept, n: usize) -> Result<(), Memory>
 pub(crate) fn look(kept: &Kept, mailbox: BoxId, sends: bool) -> Found
     requires kept { IsKept kept.now }
     ensures found { IsFound (posts_of kept.now) mailbox sends result }
-    ensures rising { AreRising (waiting (posts_of kept.now) mailbox) }
+    ensures rising { AreRising (waiters (posts_of kept.now) mailbox) }
 {
     let Some(queue) = kept.numbers.get(&mailbox).copied() else {
         return Found {
@@ -248,9 +248,9 @@ fn put(kept: &mut Kept, mailbox: BoxId, queue: usize, post: Post)
     requires queue { number kept.old mailbox ≡ Some queue }
     requires above { AreBelow post.serial.0 (posts_of kept.old) }
     requires alike { All (λ (first : PostSpec). first.sends ≡ post.sends)
-        (waiting (posts_of kept.old) mailbox) }
-    ensures there { waiting (posts_of kept.new) mailbox
-        ≡ waiting (posts_of kept.old) mailbox ++ post ∷ [] }
+        (waiters (posts_of kept.old) mailbox) }
+    ensures there { waiters (posts_of kept.new) mailbox
+        ≡ waiters (posts_of kept.old) mailbox ++ post ∷ [] }
     ensures elsewhere { OthersStay mailbox (posts_of kept.old) (posts_of kept.new) }
     ensures room { kept.new.room ≡ kept.old.room - 1 }
     ensures kept { IsKept kept.new }
@@ -282,8 +282,8 @@ fn close(kept: &mut Kept, mailbox: BoxId, queue: usize)
 /// The side of this serial leaves its mailbox, if it waits in one.
 pub(crate) fn withdraw(kept: &mut Kept, serial: Serial)
     requires kept { IsKept kept.old }
-    ensures left { (mailbox : BoxId) → waiting (posts_of kept.new) mailbox
-        ≡ withdrawn serial (waiting (posts_of kept.old) mailbox) }
+    ensures left { (mailbox : BoxId) → waiters (posts_of kept.new) mailbox
+        ≡ posts_without serial (waiters (posts_of kept.old) mailbox) }
     ensures room { kept.new.room ≡ kept.old.room }
     ensures kept { IsKept kept.new }
 {
@@ -307,9 +307,9 @@ pub(crate) fn enter(
     requires found { IsFound (posts_of kept.old) mailbox sends found }
     requires above { AreBelow serial.0 (posts_of kept.old) }
     ensures meeting { result
-        ≡ meeting (meets sends (waiting (posts_of kept.old) mailbox)) serial }
-    ensures there { waiting (posts_of kept.new) mailbox
-        ≡ arrives sends side serial (waiting (posts_of kept.old) mailbox) }
+        ≡ meeting (partner sends (waiters (posts_of kept.old) mailbox)) serial }
+    ensures there { waiters (posts_of kept.new) mailbox
+        ≡ posts_after sends side serial (waiters (posts_of kept.old) mailbox) }
     ensures elsewhere { OthersStay mailbox (posts_of kept.old) (posts_of kept.new) }
     ensures room { kept.new.room ≡ kept.old.room - 1 }
     ensures kept { IsKept kept.new }

@@ -6,7 +6,7 @@ use Rattle.sg_profile.specs.declared.turn.Turn.{Turn}
 use Rattle.sg_profile.specs.Ahead.{IsNear}
 use Rattle.sg_profile.specs.Laws.{AheadAtFirst, AheadMoves, AheadSteps, NextIsNear, NoneIsBefore, RowsAreLeft}
 use Rattle.sg_profile.specs.declared.profile.Profile.{Profile}
-use Rattle.sg_profile.specs.Profiles.{AreProfiles, IsSchedule, date_of, dates_of, earliest, first_turn, first_turns, profile_at, rows_at, rows_from, stepped, turn_after, turn_at}
+use Rattle.sg_profile.specs.Profiles.{AreProfiles, IsSchedule, date_of, dates_of, earliest, first_turn, first_turns, profile_at, rows_due, rows_due_from, turns_after_row, turn_after, turn_at}
 use Rattle.sg_profile.proofs.Cases.{no_profile}
 use Rattle.sg_profile.proofs.Dates.{IsDated, dates_set, row_dated}
 use Rattle.sg_profile.proofs.Earliest.{earliest_held, earliest_to}
@@ -23,7 +23,7 @@ record IsFirstOf (profiles : List Profile) (turns : List Turn) (row date : ℕ) 
   pub schedule : IsSchedule (profile_at profiles row)
   pub later : (next : ℕ) → date_after profiles turns row ≡ Some next → (date < next) × (next ≤ date + 2 * 10 ^ 18)
 
-first_of : (hosts links date : ℕ) (profiles : List Profile) (turns : List Turn) (row : ℕ) (rest : List ℕ) → AreProfiles hosts links profiles → rows_at date profiles turns ≡ row ∷ rest → IsFirstOf profiles turns row date
+first_of : (hosts links date : ℕ) (profiles : List Profile) (turns : List Turn) (row : ℕ) (rest : List ℕ) → AreProfiles hosts links profiles → rows_due date profiles turns ≡ row ∷ rest → IsFirstOf profiles turns row date
 first_of hosts links date profiles turns row rest are e =
     let there = first_there 0 date row (dates_of profiles turns) rest e in
     let z : row ≡ row - 0 = omega arith in
@@ -35,7 +35,7 @@ first_of hosts links date profiles turns row rest are e =
       later = λ next. entries_rise (profile_at profiles row) (turn_at turns row) date next schedule dated.date_is;
     }
 
-stepped_dates : (profiles : List Profile) (turns : List Turn) (row : ℕ) → dates_of profiles (stepped profiles row turns) ≡ set (dates_of profiles turns) row (date_after profiles turns row)
+stepped_dates : (profiles : List Profile) (turns : List Turn) (row : ℕ) → dates_of profiles (turns_after_row profiles row turns) ≡ set (dates_of profiles turns) row (date_after profiles turns row)
 stepped_dates profiles turns row = dates_set profiles turns row (turn_after (profile_at profiles row) (turn_at turns row))
 
 pub rows_are_left : RowsAreLeft
@@ -43,8 +43,8 @@ rows_are_left hosts links date profiles turns row rest are e =
     let first = first_of hosts links date profiles turns row rest are e in
     let other : date_after profiles turns row ≢ Some date = λ again. absurd (omega (arith, (first.later date again).0)) in
     let z : row ≡ row - 0 = omega arith in
-    ap (rows_from 0 date) (stepped_dates profiles turns row)
-    ∙ ap (λ (k : ℕ). rows_from 0 date (set (dates_of profiles turns) k (date_after profiles turns row))) z
+    ap (rows_due_from 0 date) (stepped_dates profiles turns row)
+    ∙ ap (λ (k : ℕ). rows_due_from 0 date (set (dates_of profiles turns) k (date_after profiles turns row))) z
     ∙ rest_there 0 date row (dates_of profiles turns) rest (date_after profiles turns row) other e
 
 pub none_is_before : NoneIsBefore

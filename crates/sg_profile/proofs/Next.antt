@@ -5,7 +5,7 @@ use Rattle.sg_heap.specs.Agenda.{IsLeast, IsNoLater, Key, key_at}
 use Rattle.sg_profile.specs.declared.turn.Turn.{Turn}
 use Rattle.sg_profile.specs.declared.entry.Entry.{Entry}
 use Rattle.sg_profile.specs.declared.profile.Profile.{Profile}
-use Rattle.sg_profile.specs.Profiles.{IsNextEntry, IsSchedule, Timetable, date_of, dates_of, entry_at, next_date, next_row, profile_at, row_by, rows_at, turn_at}
+use Rattle.sg_profile.specs.Profiles.{IsNextEntry, IsSchedule, Timetable, date_of, dates_of, entry_at, next_date, next_row, profile_at, row_by, rows_due, turn_at}
 use Rattle.sg_profile.proofs.Cases.{no_profile}
 use Rattle.sg_profile.specs.kept.Slots.{IsKept, key_by, table_of}
 use Rattle.sg_profile.proofs.Dates.{IsDated, date_at, row_dated}
@@ -20,7 +20,7 @@ pub record HasNext (table : Timetable) (row date : ℕ) : Type 0 where
   pub date_is : next_date table.profiles table.turns ≡ Some date
   pub row_is : next_row table.profiles table.turns ≡ row
   pub rest : List ℕ
-  pub first : rows_at date table.profiles table.turns ≡ row ∷ rest
+  pub first : rows_due date table.profiles table.turns ≡ row ∷ rest
 
 -- The date behind a key, and its serial.
 record IsKeyOf (row : ℕ) (date : Option ℕ) (key : Key) : Type 0 where
@@ -76,7 +76,7 @@ least_is_next table keys row key kept least = record {
     told : IsFirst 0 key.date row dates
     told = row_first 0 key.date row dates there.date_is none_before
 
-    first_is : rows_at key.date table.profiles table.turns ≡ row ∷ told.rest
+    first_is : rows_due key.date table.profiles table.turns ≡ row ∷ told.rest
     first_is = told.is ∙ ap (λ (k : ℕ). k ∷ told.rest) (omega arith)
 
 pub none_is_next : (table : Timetable) (keys : List (Option Key)) → IsKept table keys → ((slot : ℕ) → key_at keys slot ≡ None) → next_date table.profiles table.turns ≡ None

@@ -5,7 +5,7 @@ use Rattle.sg_profile.specs.declared.entry.Entry.{Entry}
 use Rattle.sg_profile.specs.declared.profile.Profile.{Profile}
 use Rattle.sg_profile.specs.declared.turn.Turn.{Turn}
 use Rattle.sg_profile.specs.Ahead.{IsAhead, IsNear}
-use Rattle.sg_profile.specs.Profiles.{AreProfiles, IsEntry, IsSchedule, date_of, entry_at, first_turn, first_turns, next_date, profiles_in, rows_at, stepped, turn_after}
+use Rattle.sg_profile.specs.Profiles.{AreProfiles, IsEntry, IsSchedule, date_of, entry_at, first_turn, first_turns, next_date, profiles_in, rows_due, turns_after_row, turn_after}
 
 -- The profiles of a platform are of its hosts and links.
 abbrev pub PlatformsPromise : Type 0
@@ -48,13 +48,13 @@ EntriesRise =
 abbrev pub RowsAreLeft : Type 0
 RowsAreLeft =
     (hosts links date : ℕ) (profiles : List Profile) (turns : List Turn) (row : ℕ) (rest : List ℕ) → AreProfiles hosts links profiles
-    → rows_at date profiles turns ≡ row ∷ rest → rows_at date profiles (stepped profiles row turns) ≡ rest
+    → rows_due date profiles turns ≡ row ∷ rest → rows_due date profiles (turns_after_row profiles row turns) ≡ rest
 
 -- No row has an entry before the next one.
 abbrev pub NoneIsBefore : Type 0
 NoneIsBefore =
     (date : ℕ) (profiles : List Profile) (turns : List Turn)
-    → IfSome (next_date profiles turns) (λ next. date < next) → rows_at date profiles turns ≡ []
+    → IfSome (next_date profiles turns) (λ next. date < next) → rows_due date profiles turns ≡ []
 
 -- At first all entries are ahead of the date 0.
 abbrev pub AheadAtFirst : Type 0
@@ -78,5 +78,5 @@ AheadMoves =
 abbrev pub AheadSteps : Type 0
 AheadSteps =
     (hosts links date : ℕ) (profiles : List Profile) (turns : List Turn) (row : ℕ) (rest : List ℕ) → AreProfiles hosts links profiles
-    → rows_at date profiles turns ≡ row ∷ rest → IsAhead date profiles turns
-    → IsAhead date profiles (stepped profiles row turns)
+    → rows_due date profiles turns ≡ row ∷ rest → IsAhead date profiles turns
+    → IsAhead date profiles (turns_after_row profiles row turns)

@@ -102,19 +102,19 @@ abbrev pub next_date : List Profile → List Turn → Option ℕ
 next_date profiles turns = earliest (dates_of profiles turns)
 
 -- from this row on, those that have this date
-unfoldable pub rows_from : ℕ → ℕ → List (Option ℕ) → List ℕ
-rows_from row date [] = []
-rows_from row date (its ∷ dates) =
-    let later = rows_from (row + 1) date dates in
+unfoldable pub rows_due_from : ℕ → ℕ → List (Option ℕ) → List ℕ
+rows_due_from row date [] = []
+rows_due_from row date (its ∷ dates) =
+    let later = rows_due_from (row + 1) date dates in
     if option_map_or (λ other. other == date) its false then row ∷ later else later
 
 -- the rows whose next entry is of this date, in order
-abbrev pub rows_at : ℕ → List Profile → List Turn → List ℕ
-rows_at date profiles turns = rows_from 0 date (dates_of profiles turns)
+abbrev pub rows_due : ℕ → List Profile → List Turn → List ℕ
+rows_due date profiles turns = rows_due_from 0 date (dates_of profiles turns)
 
 abbrev pub row_by : Option ℕ → List Profile → List Turn → ℕ
 row_by None profiles turns = 0
-row_by (Some date) profiles turns = slice_index (rows_at date profiles turns) 0
+row_by (Some date) profiles turns = slice_index (rows_due date profiles turns) 0
 
 -- the row of the next entry: the first of those of its date
 abbrev pub next_row : List Profile → List Turn → ℕ
@@ -132,19 +132,19 @@ entry_at profiles turns row =
     slice_get (profile_at profiles row).entries (turn_at turns row).entry
 
 -- a row is past its next entry
-abbrev pub stepped : List Profile → ℕ → List Turn → List Turn
-stepped profiles row turns =
+abbrev pub turns_after_row : List Profile → ℕ → List Turn → List Turn
+turns_after_row profiles row turns =
     slice_set turns row (turn_after (profile_at profiles row) (turn_at turns row))
 
 -- The next entry is this one: of the earliest date, and there of the first row.
 pub record IsNextEntry (table : Timetable) (date : ℕ) (entry : Entry) : Type 0 where
   pub date_is : next_date table.profiles table.turns ≡ Some date
   pub rest : List ℕ
-  pub first : rows_at date table.profiles table.turns ≡ next_row table.profiles table.turns ∷ rest
+  pub first : rows_due date table.profiles table.turns ≡ next_row table.profiles table.turns ∷ rest
   pub entry_is : entry_at table.profiles table.turns (next_row table.profiles table.turns) ≡ Some entry
 
 -- the row of the next entry is past it
 abbrev pub past_next : Timetable → Timetable
 past_next table = record table {
-  turns = stepped table.profiles (next_row table.profiles table.turns) table.turns;
+  turns = turns_after_row table.profiles (next_row table.profiles table.turns) table.turns;
 }

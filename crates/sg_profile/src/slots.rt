@@ -1,6 +1,6 @@
 //! Turns of rows, and the dates of their next entries in slots.
 ghost use Rattle.std.specs.Prelude.{◌≡◌, ◌≤◌, ◌<◌, ◌^◌, All, IfOk, IsSomeAnd, length, slice_set};
-ghost use Rattle.sg_profile.specs.Profiles.{IsSchedule, date_of, dates_of, first_turns, profile_at, stepped, turn_at};
+ghost use Rattle.sg_profile.specs.Profiles.{IsSchedule, date_of, dates_of, first_turns, profile_at, turns_after_row, turn_at};
 ghost use Rattle.sg_profile.specs.kept.Slots.{AreKeys, IsKept, key_by, table_of};
 
 use crate::profile::Profile;
@@ -63,7 +63,7 @@ pub(crate) fn step_row(profiles: &[Profile], turns: &mut [Turn], agenda: &mut Ag
     requires row { row < length profiles.now }
     requires date { IsSomeAnd (date_of (profile_at profiles.now row) (turn_at turns.old row))
         (λ date. date < 10 ^ 33) }
-    ensures turns { turns.new ≡ stepped profiles.now row turns.old }
+    ensures turns { turns.new ≡ turns_after_row profiles.now row turns.old }
     ensures kept { IsKept (table_of profiles.now turns.new) agenda.new }
 {
     let turn = turn_after(&profiles[row], turns[row]);

@@ -7,7 +7,7 @@ use Rattle.std.specs.List.{AllByRecursion, dedup, dedup_from, list_any}
 use Rattle.std.specs.List.Sorted.{IsPermutation, IsSorted, IsStrictlySortedBy}
 use Rattle.std.specs.Ordering.{nat_cmp}
 use Rattle.std.specs.Prelude.{nat_lt}
-use Rattle.sg_requests.specs.Requested.{entered, rising}
+use Rattle.sg_requests.specs.Requested.{rising_numbers_with, rising_numbers}
 
 abbrev has : ℕ → List ℕ → Bool
 has n xs = list_any (λ m. n == m) xs
@@ -80,45 +80,45 @@ or_twice : (a b c : Bool) → a ≡ b → (a || (b || c)) ≡ (b || c)
 or_twice true b c e = sym (or_true b c (sym e))
 or_twice false b c e = refl
 
-entered_has : (n m : ℕ) (xs : List ℕ) → has n (entered m xs) ≡ (n == m) || has n xs
-unfolding entered
+entered_has : (n m : ℕ) (xs : List ℕ) → has n (rising_numbers_with m xs) ≡ (n == m) || has n xs
+unfolding rising_numbers_with
 entered_has n m [] = refl
 entered_has n m (k ∷ xs) = by (nat_lt m k) (m == k) refl (entered_has n m xs)
   where
-    by : (less same : Bool) → (m == k) ≡ same → has n (entered m xs) ≡ (n == m) || has n xs → has n (cond less (m ∷ k ∷ xs) (cond same (k ∷ xs) (k ∷ entered m xs))) ≡ (n == m) || ((n == k) || has n xs)
+    by : (less same : Bool) → (m == k) ≡ same → has n (rising_numbers_with m xs) ≡ (n == m) || has n xs → has n (cond less (m ∷ k ∷ xs) (cond same (k ∷ xs) (k ∷ rising_numbers_with m xs))) ≡ (n == m) || ((n == k) || has n xs)
     by true same e rest = refl
     by false true e rest = sym (or_twice (n == m) (n == k) (has n xs) (ap (λ j. n == j) (grind (arith, e))))
     by false false e rest = ap (λ b. (n == k) || b) rest ∙ or_swap (n == k) (n == m) (has n xs)
 
-rising_has : (n : ℕ) (xs : List ℕ) → has n (rising xs) ≡ has n xs
-unfolding rising
+rising_has : (n : ℕ) (xs : List ℕ) → has n (rising_numbers xs) ≡ has n xs
+unfolding rising_numbers
 rising_has n [] = refl
-rising_has n (x ∷ xs) = entered_has n x (rising xs) ∙ ap (λ b. (n == x) || b) (rising_has n xs)
+rising_has n (x ∷ xs) = entered_has n x (rising_numbers xs) ∙ ap (λ b. (n == x) || b) (rising_has n xs)
 
-entered_above : (n m : ℕ) (xs : List ℕ) → n < m → IsAbove n xs → IsAbove n (entered m xs)
-unfolding entered IsAbove
+entered_above : (n m : ℕ) (xs : List ℕ) → n < m → IsAbove n xs → IsAbove n (rising_numbers_with m xs)
+unfolding rising_numbers_with IsAbove
 entered_above n m [] less above = (less, tt)
 entered_above n m (k ∷ xs) less above = by (nat_lt m k) (m == k) (entered_above n m xs less above.1)
   where
-    by : (b same : Bool) → IsAbove n (entered m xs) → IsAbove n (cond b (m ∷ k ∷ xs) (cond same (k ∷ xs) (k ∷ entered m xs)))
+    by : (b same : Bool) → IsAbove n (rising_numbers_with m xs) → IsAbove n (cond b (m ∷ k ∷ xs) (cond same (k ∷ xs) (k ∷ rising_numbers_with m xs)))
     by true same rest = (less, above)
     by false true rest = above
     by false false rest = (above.0, rest)
 
-entered_rises : (m : ℕ) (xs : List ℕ) → IsRising xs → IsRising (entered m xs)
-unfolding entered IsRising IsAbove
+entered_rises : (m : ℕ) (xs : List ℕ) → IsRising xs → IsRising (rising_numbers_with m xs)
+unfolding rising_numbers_with IsRising IsAbove
 entered_rises m [] rises = (tt, tt)
 entered_rises m (k ∷ xs) rises = by (nat_lt m k) (m == k) refl refl (entered_rises m xs rises.1)
   where
-    by : (b same : Bool) → nat_lt m k ≡ b → (m == k) ≡ same → IsRising (entered m xs) → IsRising (cond b (m ∷ k ∷ xs) (cond same (k ∷ xs) (k ∷ entered m xs)))
+    by : (b same : Bool) → nat_lt m k ≡ b → (m == k) ≡ same → IsRising (rising_numbers_with m xs) → IsRising (cond b (m ∷ k ∷ xs) (cond same (k ∷ xs) (k ∷ rising_numbers_with m xs)))
     by true same less e rest = let under : m < k = grind (arith, less) in ((under, below m k xs (omega (arith, under)) rises.0), rises)
     by false true less e rest = rises
     by false false less e rest = (entered_above k m xs (grind (arith, less, e)) rises.0, rest)
 
-rising_rises : (xs : List ℕ) → IsRising (rising xs)
-unfolding rising IsRising
+rising_rises : (xs : List ℕ) → IsRising (rising_numbers xs)
+unfolding rising_numbers IsRising
 rising_rises [] = tt
-rising_rises (x ∷ xs) = entered_rises x (rising xs) (rising_rises xs)
+rising_rises (x ∷ xs) = entered_rises x (rising_numbers xs) (rising_rises xs)
 
 -- ---- what a sort and a dedup give
 dedup_from_has : (n k : ℕ) (xs : List ℕ) → has n (dedup_from eqb k xs) ≡ (n == k) || has n xs
@@ -143,8 +143,8 @@ unfolding IsRising IsStrictlySortedBy
 rises_from [] sorted = tt
 rises_from (x ∷ xs) sorted = (above_from x xs sorted.0, rises_from xs sorted.1)
 
-pub sorted_is : (xs ys zs : List ℕ) → IsPermutation xs ys → IsSorted nat_cmp ys → zs ≡ dedup eqb ys → zs ≡ rising xs
+pub sorted_is : (xs ys zs : List ℕ) → IsPermutation xs ys → IsSorted nat_cmp ys → zs ≡ dedup eqb ys → zs ≡ rising_numbers xs
 sorted_is xs ys zs moved sorted kept =
     kept
-    ∙ unique (dedup eqb ys) (rising xs) (rises_from (dedup eqb ys) (sorted_from_strictly_increasing (dedup eqb ys) (IsStrictlyIncreasing-dedup ys sorted))) (rising_rises xs)
+    ∙ unique (dedup eqb ys) (rising_numbers xs) (rises_from (dedup eqb ys) (sorted_from_strictly_increasing (dedup eqb ys) (IsStrictlyIncreasing-dedup ys sorted))) (rising_rises xs)
     (λ n. dedup_has n ys ∙ sym (list_any-IsPermutation (λ m. n == m) xs ys moved) ∙ sym (rising_has n xs))

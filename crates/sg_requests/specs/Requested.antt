@@ -22,30 +22,30 @@ abbrev pub rest_of : List Await → List Await
 rest_of queue = behind queue
 
 -- an actor makes a request, which becomes its newest
-abbrev pub queued : List (List Await) → ℕ → Await → List (List Await)
-queued queues actor request = slice_set queues (actor - 1) (queue_at queues actor ++ request ∷ [])
+abbrev pub queues_with_request : List (List Await) → ℕ → Await → List (List Await)
+queues_with_request queues actor request = slice_set queues (actor - 1) (queue_at queues actor ++ request ∷ [])
 
 -- the oldest request of an actor is taken away
-abbrev pub taken : List (List Await) → ℕ → List (List Await)
-taken queues actor = slice_set queues (actor - 1) (rest_of (queue_at queues actor))
+abbrev pub queues_without_oldest : List (List Await) → ℕ → List (List Await)
+queues_without_oldest queues actor = slice_set queues (actor - 1) (rest_of (queue_at queues actor))
 
 -- ---- what an actor awaits
 -- a number enters a list in which each is larger than the one before, once
-unfoldable pub entered : ℕ → List ℕ → List ℕ
-entered n [] = n ∷ []
-entered n (m ∷ more) = if nat_lt n m then n ∷ m ∷ more else if n == m then m ∷ more else m ∷ entered n more
+unfoldable pub rising_numbers_with : ℕ → List ℕ → List ℕ
+rising_numbers_with n [] = n ∷ []
+rising_numbers_with n (m ∷ more) = if nat_lt n m then n ∷ m ∷ more else if n == m then m ∷ more else m ∷ rising_numbers_with n more
 
 -- by rising number, each once
-unfoldable pub rising : List ℕ → List ℕ
-rising [] = []
-rising (n ∷ more) = entered n (rising more)
+unfoldable pub rising_numbers : List ℕ → List ℕ
+rising_numbers [] = []
+rising_numbers (n ∷ more) = rising_numbers_with n (rising_numbers more)
 
 abbrev pub serial_of : Await → ℕ
 serial_of request = request.serial.0
 
 -- the serials of these requests, and of the activity on which the actor is blocked, if there is one
 abbrev pub awaited_with : Option Await → List Await → List ℕ
-awaited_with on queue = rising (map serial_of (option_to_list on ++ queue))
+awaited_with on queue = rising_numbers (map serial_of (option_to_list on ++ queue))
 
 -- an actor has no requests any more
 abbrev pub without_requests : List (List Await) → ℕ → List (List Await)

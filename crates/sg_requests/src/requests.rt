@@ -1,6 +1,6 @@
 //! The requests of all actors.
 ghost use Rattle.std.specs.Prelude.{◌≡◌, ◌+◌, ◌-◌, ◌^◌, ◌<◌, ◌≤◌, [], length, replicate, IfOk, OnOk};
-ghost use Rattle.sg_requests.specs.Requested.{awaited_with, oldest, queue_at, queued, taken, without_requests};
+ghost use Rattle.sg_requests.specs.Requested.{awaited_with, oldest, queue_at, queues_with_request, queues_without_oldest, without_requests};
 
 use crate::serials::{begin, empty, sort};
 use sg_base::{ActorId, Await, Memory, Party, Serial};
@@ -110,7 +110,7 @@ impl Requests {
         requires few { self.old.asked < 10 ^ 18 }
         requires room { 0 < self.old.room }
         ensures { self.new ≡ record {
-          queues = queued self.old.queues actor.0 request;
+          queues = queues_with_request self.old.queues actor.0 request;
           asked = self.old.asked + 1;
           room = self.old.room - 1;
           awaited = self.old.awaited;
@@ -126,7 +126,9 @@ impl Requests {
     pub fn take(&mut self, actor: ActorId) -> Option<Await>
         requires actor { (0 < actor.0) × (actor.0 ≤ length self.old.queues) }
         ensures oldest { result ≡ oldest (queue_at self.old.queues actor.0) }
-        ensures rest { self.new ≡ record self.old { queues = taken self.old.queues actor.0 } }
+        ensures rest { self.new ≡ record self.old {
+          queues = queues_without_oldest self.old.queues actor.0;
+        } }
     {
         match self.queues.pop_front(actor.index()) {
             Some(request) => {

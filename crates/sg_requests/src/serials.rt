@@ -3,7 +3,7 @@ ghost use Rattle.std.specs.Prelude.{◌≡◌, ◌+◌, ◌<◌, ◌≤◌, ◌+
 ghost use Rattle.std.specs.Option.{option_to_list};
 ghost use Rattle.sg_queues.specs.Queues.{values_of};
 ghost use Rattle.sg_queues.specs.Rings.{queue_at};
-ghost use Rattle.sg_requests.specs.Requested.{rising, serial_of};
+ghost use Rattle.sg_requests.specs.Requested.{rising_numbers, serial_of};
 
 use sg_base::Await;
 use sg_queues::Queues;
@@ -55,7 +55,7 @@ pub(crate) fn empty(queues: &mut Queues<Await>, queue: usize, serials: &mut Vec<
 
 /// Sorts serials, and keeps each once.
 pub(crate) fn sort(serials: &mut Vec<u64>)
-    ensures items { serials.new.items ≡ rising serials.old.items }
+    ensures items { serials.new.items ≡ rising_numbers serials.old.items }
     ensures capacity { vec_capacity serials.new ≡ vec_capacity serials.old }
 {
     serials.sort_unstable();

@@ -14,8 +14,8 @@ use Rattle.sg_activity.specs.Task.{is_cut}
 use Rattle.sg_activity.specs.Underway.{gone_on, held, is_computing, is_kept}
 use Rattle.sg_mailbox.specs.declared.sides.Post.{Post}
 use Rattle.sg_mailbox.specs.declared.sides.Side.{Side}
-use Rattle.sg_mailbox.specs.Posts.{meets}
-use Rattle.sg_requests.specs.Requested.{oldest, queue_at, taken}
+use Rattle.sg_mailbox.specs.Posts.{partner}
+use Rattle.sg_requests.specs.Requested.{oldest, queue_at, queues_without_oldest}
 use Rattle.sg_route.specs.declared.router.RouteFault.{RouteFault}
 use Rattle.sg_route.specs.declared.router.RouteFault.TheVariants as fault
 use Rattle.sg_route.specs.Roads.{Roads}
@@ -171,7 +171,7 @@ module _ (before : Core) where
     waits : (found : Option Await) (core : Core) → Leaves before core → Keeping before (waits_by found actor core)
     waits None core l = now call.Wait 0 answer.Refused core refl l
     waits (Some on) core l =
-        until (answer_of_over (whose_at core on.serial.0)) on (record core { requests = taken core.requests actor }) (record { events = l.events; date = l.date; turns = l.turns; actors = l.actors })
+        until (answer_of_over (whose_at core on.serial.0)) on (record core { requests = queues_without_oldest core.requests actor }) (record { events = l.events; date = l.date; turns = l.turns; actors = l.actors })
 
     held_on_leaves : (b : Bool) (serial : ℕ) (core : Core) → Leaves before core → Leaves before (held_if b serial core)
     held_on_leaves true serial core l = record { events = l.events; date = l.date; turns = l.turns; actors = l.actors }
@@ -355,7 +355,7 @@ module _ (roads : Roads) (setup : Setup) (core : Core) (actor : ℕ) (up : is_un
   one = counted_up core k
 
   comes_so : (comer : Comer) → is_unstarted (state_of core comer.side.actor.0) ≡ false → created_by comer.what ≡ None → Happens core (comes roads setup comer core)
-  comes_so comer comer_up none = coming (meets comer.sends (posts_at comer.mailbox core)) roads setup comer core comer_up none k
+  comes_so comer comer_up none = coming (partner comer.sends (posts_at comer.mailbox core)) roads setup comer core comer_up none k
 
   alone : (what : Call) → comer_of actor what ≡ None → Keeping (counted core) (answered_call roads setup core actor what) → Happens core (answered_call roads setup core actor what)
   alone what none kept = counts (alone_goes roads setup core actor what none) kept

@@ -12,7 +12,7 @@ use Rattle.sg_profile.specs.declared.entry.Entry.{Entry}
 use Rattle.sg_profile.specs.declared.entry.Entry.TheVariants as entry
 use Rattle.sg_profile.specs.declared.turn.Turn.{Turn}
 use Rattle.sg_profile.specs.Ahead.{IsAhead, IsNear}
-use Rattle.sg_profile.specs.Profiles.{AreProfiles, dates_of, earliest, entry_at, next_date, rows_at, rows_from, stepped}
+use Rattle.sg_profile.specs.Profiles.{AreProfiles, dates_of, earliest, entry_at, next_date, rows_due, rows_due_from, turns_after_row}
 use Rattle.sg_profile.proofs.Cases.{earlier_of}
 use Rattle.sg_profile.proofs.Ahead.{ahead_moves, ahead_steps, next_is_near, rows_are_left}
 use Rattle.sg_rows.specs.declared.network.Network.{Network}
@@ -180,7 +180,7 @@ module _ (setup : Setup) (old : List Actor) (date : ℕ) where
   record Left (low : ℕ) (rows : List ℕ) (core : Core) : Type 0 where
     amid : In low core.turns core
     ahead : IsAhead date setup.profiles core.turns
-    left : rows_at date setup.profiles core.turns ≡ rows
+    left : rows_due date setup.profiles core.turns ≡ rows
 
   left_ahead : (low : ℕ) (rows : List ℕ) (core : Core) → Left low rows core → Ahead low core
   left_ahead low rows core l = record { amid = l.amid; ahead = l.ahead }
@@ -193,11 +193,11 @@ module _ (setup : Setup) (old : List Actor) (date : ℕ) where
   date_stays network (Some (entry.LinkOn link on)) under = refl
 
   module _ (hosts links : ℕ) (are : AreProfiles hosts links setup.profiles) where
-    settle_turns : (low : ℕ) (rows : List ℕ) (turns : List Turn) (core : Core) → IsAhead date setup.profiles turns → rows_at date setup.profiles turns ≡ rows → In low turns core → Left low rows core
+    settle_turns : (low : ℕ) (rows : List ℕ) (turns : List Turn) (core : Core) → IsAhead date setup.profiles turns → rows_due date setup.profiles turns ≡ rows → In low turns core → Left low rows core
     settle_turns low rows turns core ahead left a = record {
       amid = record { more = a.more; within = a.within; date = a.date; turns = refl; actors = a.actors };
       ahead = subst (λ (ts : List Turn). IsAhead date setup.profiles ts) (sym a.turns) ahead;
-      left = ap (rows_at date setup.profiles) a.turns ∙ left;
+      left = ap (rows_due date setup.profiles) a.turns ∙ left;
     }
 
     change_goes : (low high row : ℕ) (rest : List ℕ) (core : Core) → high ≤ core.events + 1 → core.events ≢ setup.budget → Left low (row ∷ rest) core → Goes (Left high rest) setup.budget (all_of (entry_stretches setup row) core)
@@ -207,7 +207,7 @@ module _ (setup : Setup) (old : List Actor) (date : ℕ) where
         (λ mid a. goes_each (In high turns) setup.budget (fails setup) (fail_goes high turns) (hits mid.under) mid a))
       where
         turns : List Turn
-        turns = stepped setup.profiles row core.turns
+        turns = turns_after_row setup.profiles row core.turns
 
         entered : Goes (In high turns) setup.budget (enters_one setup row core)
         entered = goes_still (In high turns) setup.budget (counted (enters setup row core)) (record {
@@ -263,12 +263,12 @@ earlier_cases x (Some y) date e = elim (less x y) [ inl h ↦ inl (sym h ∙ e) 
     less : (x y : ℕ) → (min x y ≡ x) ⊎ (min x y ≡ y)
     less x y = grind arith
 
-some_row : (row date : ℕ) (dates : List (Option ℕ)) → earliest dates ≡ Some date → rows_from row date dates ≡ [] → ⊥
-unfolding earliest rows_from
+some_row : (row date : ℕ) (dates : List (Option ℕ)) → earliest dates ≡ Some date → rows_due_from row date dates ≡ [] → ⊥
+unfolding earliest rows_due_from
 some_row row date [] e none = cc e
 some_row row date (None ∷ dates) e none = some_row (row + 1) date dates e none
 some_row row date (Some x ∷ dates) e none =
-    let rest = rows_from (row + 1) date dates in
+    let rest = rows_due_from (row + 1) date dates in
     let is : earlier_of x (earliest dates) ≡ date = cc e in
     elim (earlier_cases x (earliest dates) date is) [
       | inl a ↦ cc (sym (ap (λ b. cond b (row ∷ rest) rest) (ap (λ k. k == date) a ∙ same date)) ∙ none)
@@ -378,7 +378,7 @@ module _ (setup : Setup) (hosts links : ℕ) (are : AreProfiles hosts links setu
     date = now + span
 
     abbrev rows : List ℕ
-    rows = rows_at date setup.profiles core.turns
+    rows = rows_due date setup.profiles core.turns
 
     abbrev due : List ℕ
     due = due_in span (settled core).under

@@ -3,7 +3,7 @@ use Rattle.std.specs.Prelude.{◌≡◌, ℕ, Bool, false, None, List, [], lengt
 use Rattle.std.specs.List.{count_by}
 use Rattle.sg_base.specs.declared.ids.BoxId.{BoxId}
 use Rattle.sg_activity.specs.Doing.{idle_on}
-use Rattle.sg_mailbox.specs.Posts.{waiting}
+use Rattle.sg_mailbox.specs.Posts.{waiters}
 use Rattle.sg_rows.specs.declared.rows.ActorRow.{ActorRow}
 use Rattle.sg_rows.specs.Deployment.{Deployed, starts}
 use Rattle.sg_rows.specs.Platform.{Platform}
@@ -18,7 +18,7 @@ use Rattle.sg_kernel.specs.Start.{host_cap, link_caps, capacity_of, replays}
 -- nothing is under way on the hosts and links of the platform, and nobody is in the mailboxes
 pub record IsIdle (platform : Platform) (idle : Idle) : Type 0 where
   pub doing : idle.doing ≡ idle_on (map host_cap platform.hosts) (link_caps platform.network platform.links)
-  pub boxes : (mailbox : BoxId) → waiting idle.boxes mailbox ≡ []
+  pub boxes : (mailbox : BoxId) → waiters idle.boxes mailbox ≡ []
   pub hosts : idle.hosts ≡ length (map host_cap platform.hosts)
   pub links : idle.links ≡ length (link_caps platform.network platform.links)
 

@@ -7,9 +7,9 @@ use Rattle.sg_base.specs.declared.ids.PointId.{PointId}
 use Rattle.sg_base.specs.Limits.{Extent, IsActorIn, IsActorNumber, IsAmount, IsMsg, IsRate}
 use Rattle.sg_activity.specs.Links.{is_off}
 use Rattle.sg_mailbox.specs.declared.sides.Side.{Side}
-use Rattle.sg_mailbox.specs.Posts.{waiting}
+use Rattle.sg_mailbox.specs.Posts.{waiters}
 use Rattle.sg_profile.specs.Ahead.{IsAhead}
-use Rattle.sg_profile.specs.Profiles.{AreProfiles, Timetable, next_row, rows_at}
+use Rattle.sg_profile.specs.Profiles.{AreProfiles, Timetable, next_row, rows_due}
 use Rattle.sg_route.specs.Roads.{Roads}
 use Rattle.sg_rows.specs.Network.{IsNetwork}
 use Rattle.sg_states.specs.declared.state.Blocking.{Blocking}
@@ -114,7 +114,7 @@ IsTimely fields = IsTimetable fields.hosts fields.links fields.doing.under.date 
 
 -- the rows whose next entry is of the date
 abbrev pub rows_now : Fields → List ℕ
-rows_now fields = rows_at fields.doing.under.date fields.profiles.profiles fields.profiles.turns
+rows_now fields = rows_due fields.doing.under.date fields.profiles.profiles fields.profiles.turns
 
 -- the row of the next entry
 abbrev pub row_next : Fields → ℕ
@@ -174,7 +174,7 @@ AwaitsMade made (Some blocking) = IfSome blocking.on (IsMade made)
 
 -- In the mailboxes stand those communications of which one side is there. Nothing of them is under way, nor of what is over, but of all else. Requests are for communications that were made, and actors are blocked on activities that were.
 pub record AreMeeting (fields : Fields) : Type 0 where
-  pub posts : (mailbox : BoxId) → waiting fields.boxes mailbox ≡ posts_from mailbox 1 fields.whose.whose
+  pub posts : (mailbox : BoxId) → waiters fields.boxes mailbox ≡ posts_from mailbox 1 fields.whose.whose
   pub idle : (place : ℕ) → IsTrue (is_idle (slice_index_or fields.whose.whose place (Over how.Done))) → slice_index_or fields.doing.under.tasks place None ≡ None
   pub busy : (place : ℕ) → is_idle (slice_index_or fields.whose.whose place (Over how.Done)) ≡ false → IsSome (slice_index_or fields.doing.under.tasks place None)
   pub asked : All (λ (queue : List Await). All (IsMade (length fields.whose.whose)) queue) fields.requests.queues

@@ -1,13 +1,13 @@
 use Rattle.std.proofs.Common.{◌≡◌, ℕ, ◌-◌, arith, ◌∙◌, length, ap, sym, subst}
 use Rattle.std.proofs.lemmas.List.{length-set}
-use Rattle.sg_requests.specs.Requested.{Requested, taken}
+use Rattle.sg_requests.specs.Requested.{Requested, queues_without_oldest}
 use Rattle.sg_kernel.specs.declared.fields.Fields.{Fields}
 use Rattle.sg_kernel.specs.kept.Whole.{CanStep}
 use Rattle.sg_kernel.proofs.Meets.{AreMade, made_taken, made_oldest}
 use Rattle.sg_kernel.proofs.meetings.wait.Goals as goal
 
 -- with one request less
-asking_less : (fields : Fields) (actor : ℕ) (requests : Requested) → requests ≡ record fields.requests { queues = taken fields.requests.queues actor } → CanStep fields actor → CanStep (record fields { requests = requests }) actor
+asking_less : (fields : Fields) (actor : ℕ) (requests : Requested) → requests ≡ record fields.requests { queues = queues_without_oldest fields.requests.queues actor } → CanStep fields actor → CanStep (record fields { requests = requests }) actor
 asking_less fields actor requests is able =
     let was = able.whole in
     let sound = was.sound in

@@ -3,14 +3,14 @@ use Rattle.std.specs.HashMap.{spare}
 use Rattle.sg_serials.specs.Serials as serials
 use Rattle.sg_base.specs.declared.ids.BoxId.{BoxId}
 use Rattle.sg_mailbox.specs.declared.kept.Kept.{Kept}
-use Rattle.sg_mailbox.specs.Posts.{waiting}
+use Rattle.sg_mailbox.specs.Posts.{waiters}
 use Rattle.sg_mailbox.specs.kept.Queues.{posts_of, IsKept}
 use Rattle.sg_mailbox.proofs.kept.make_room.Given as goal
 
 -- the same sides wait, and all but the queues is there for so many more
 pub record IsGrown (old new : Kept) (more : ℕ) : Type 0 where
   pub kept : IsKept new
-  pub same : (mailbox : BoxId) → waiting (posts_of new) mailbox ≡ waiting (posts_of old) mailbox
+  pub same : (mailbox : BoxId) → waiters (posts_of new) mailbox ≡ waiters (posts_of old) mailbox
   pub room : new.room ≡ old.room
   pub numbers : more ≤ spare new.numbers
   pub places : more ≤ serials.room new.places

@@ -9,7 +9,7 @@ use Rattle.sg_queues.specs.Queues.{value, values_of}
 use Rattle.sg_queues.proofs.Values.{values_at}
 use Rattle.sg_mailbox.specs.declared.sides.Post.{Post}
 use Rattle.sg_mailbox.specs.declared.sides.Place.{Place}
-use Rattle.sg_mailbox.specs.Posts.{posts_in, waiting}
+use Rattle.sg_mailbox.specs.Posts.{posts_in, waiters}
 use Rattle.sg_mailbox.specs.kept.Queues.{number, place, posts_of}
 use Rattle.sg_mailbox.proofs.Numbers.{numbered_as}
 use Rattle.sg_mailbox.proofs.Places.{placed_put}
@@ -39,7 +39,7 @@ returns-clause-kept c =
     let here : queue_at (set queues queue longer) queue ≡ longer = get_or-set_same queues queue longer [] below in
     let apart : (q : ℕ) → q ≢ queue → queue_at (set queues queue longer) q ≡ queue_at queues q = λ q other. get_or-set_other queues queue q longer [] other in
     let at : Place = record { mailbox = c.args.mailbox; queue = queue; slot = c.push_back-slot.result } in
-    let seen : waiting (posts_of old) c.args.mailbox ≡ map value (queue_at queues queue) = ap (posts_in (values_of queues)) c.requires.queue ∙ values_at queues queue in
+    let seen : waiters (posts_of old) c.args.mailbox ≡ map value (queue_at queues queue) = ap (posts_in (values_of queues)) c.requires.queue ∙ values_at queues queue in
     let lower : All (λ (first : Post). first.serial.0 < c.args.post.serial.0) (map value (queue_at queues queue)) = subst (All (λ (first : Post). first.serial.0 < c.args.post.serial.0)) seen (c.requires.above c.args.mailbox) in
     let alike : All (λ (first : Post). first.sends ≡ c.args.post.sends) (map value (queue_at queues queue)) = subst (All (λ (first : Post). first.sends ≡ c.args.post.sends)) seen c.requires.alike in
     record {

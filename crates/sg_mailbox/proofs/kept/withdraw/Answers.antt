@@ -9,7 +9,7 @@ use Rattle.sg_queues.specs.Queues.{value, values_of, without_slot, let_go}
 use Rattle.sg_queues.proofs.Entries.{not_there}
 use Rattle.sg_queues.proofs.Lists.{map_at, without_none}
 use Rattle.sg_mailbox.specs.declared.sides.Post.{Post}
-use Rattle.sg_mailbox.specs.Posts.{posts_in, waiting, withdrawn}
+use Rattle.sg_mailbox.specs.Posts.{posts_in, waiters, posts_without}
 use Rattle.sg_mailbox.specs.kept.Queues.{number, place, posts_of, IsPlace}
 use Rattle.sg_mailbox.proofs.Numbers.{numbered_as}
 use Rattle.sg_mailbox.proofs.Places.{placed_taken, posts_left}
@@ -25,7 +25,7 @@ close-requires-clause-kept c =
     let is : place old c.args.serial.0 ≡ Some gone = sym c.remove.ensures.was ∙ c.in-Some.is in
     let held : IsPlace (number old) queues gone = rw is at (was.placed.held c.args.serial.0) in
     let at : (q : ℕ) → queue_at (let_go gone.slot queues) q ≡ without_slot gone.slot (queue_at queues q) = λ q. map_at (without_slot gone.slot) [] queues q in
-    let posts : (q : ℕ) → map value (without_slot gone.slot (queue_at queues q)) ≡ withdrawn c.args.serial (map value (queue_at queues q)) =
+    let posts : (q : ℕ) → map value (without_slot gone.slot (queue_at queues q)) ≡ posts_without c.args.serial (map value (queue_at queues q)) =
     posts_left (number old) (place old) queues c.args.serial gone was.placed is in
     record {
       roomy = record {
@@ -62,4 +62,4 @@ pub returns-in_default-clause-left : goal.returns-in_default-clause-left
 returns-in_default-clause-left c = λ mailbox.
     let old = c.args.kept.now in
     let none : place old c.args.serial.0 ≡ None = sym c.remove.ensures.was ∙ c.in_default.is in
-    sym (without_none (λ (post : Post). post.serial.0) c.args.serial.0 (waiting (posts_of old) mailbox) (unplaced old c.args.serial c.requires.kept none mailbox))
+    sym (without_none (λ (post : Post). post.serial.0) c.args.serial.0 (waiters (posts_of old) mailbox) (unplaced old c.args.serial c.requires.kept none mailbox))

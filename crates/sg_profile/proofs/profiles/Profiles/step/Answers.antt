@@ -3,7 +3,7 @@ use Rattle.std.proofs.lemmas.List.{with_items_is}
 use Rattle.sg_heap.specs.Agenda.{key}
 use Rattle.sg_profile.specs.declared.profile.Profile.{Profile}
 use Rattle.sg_profile.specs.declared.turn.Turn.{Turn}
-use Rattle.sg_profile.specs.Profiles.{Timetable, date_of, next_date, past_next, profile_at, stepped, turn_at}
+use Rattle.sg_profile.specs.Profiles.{Timetable, date_of, next_date, past_next, profile_at, turns_after_row, turn_at}
 use Rattle.sg_profile.specs.kept.Slots.{table_of}
 use Rattle.sg_profile.proofs.Next.{least_is_next, none_is_next}
 use Rattle.sg_profile.proofs.profiles.Profiles.step.Goals as goal
@@ -26,10 +26,10 @@ returns-in-Some c =
     let profiles = c.self.inside.profiles.items in
     let turns = c.self.inside.turns.items in
     let next = least_is_next (table_of profiles turns) c.self.inside.agenda c.in-Some.row (key c.in-Some.field-0-1 c.in-Some.field-0-2) c.self.invariant c.in-Some.ensures.first in
-    let now : c.step_row.new.turns ≡ stepped profiles c.in-Some.row turns =
-    c.step_row.ensures.turns ∙ ap₂ (λ (ps : List Profile) (ts : List Turn). stepped ps c.in-Some.row ts) c.as_slice.ensures.value c.as_mut_slice.ensures.value in
+    let now : c.step_row.new.turns ≡ turns_after_row profiles c.in-Some.row turns =
+    c.step_row.ensures.turns ∙ ap₂ (λ (ps : List Profile) (ts : List Turn). turns_after_row ps c.in-Some.row ts) c.as_slice.ensures.value c.as_mut_slice.ensures.value in
     let written = with_items_is c.self.inside.turns c.step_row.new.turns (c.step_row.auto.turns ∙ c.as_mut_slice.ensures.len) in
-    ap (λ (ts : List Turn). table_of profiles ts) (written ∙ now ∙ ap (λ (row : ℕ). stepped profiles row turns) (sym next.row_is)) ∙ ap past_next c.self.view_is
+    ap (λ (ts : List Turn). table_of profiles ts) (written ∙ now ∙ ap (λ (row : ℕ). turns_after_row profiles row turns) (sym next.row_is)) ∙ ap past_next c.self.view_is
 
 pub returns-in_default : goal.returns-in_default
 returns-in_default c =
