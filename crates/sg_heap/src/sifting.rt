@@ -1,7 +1,7 @@
 //! Entries rise and sink in the binary heap.
 ghost use Rattle.std.specs.Prelude.{◌≡◌, ◌≤◌, ◌<◌, ◌+◌, ◌-◌, ◌*◌, ◌/◌, ℕ, length, slice_set};
 ghost use Rattle.sg_heap.specs.Agenda.{IsNoLater, digits};
-ghost use Rattle.sg_heap.specs.kept.Heap.{ArePlaced, InOrder, IsSifted, MayMove, MayRise, MaySink, entry_at, key_of};
+ghost use Rattle.sg_heap.specs.kept.Heap.{InOrder, IsInHand, IsSifted, MayMove, MayRise, MaySink, entry_at, key_of};
 
 use crate::entry::{Entry, is_before, put};
 use sg_base::Steps;
@@ -37,11 +37,7 @@ pub(crate) fn rise<L: Ledger>(
     count: usize,
     steps: &mut Steps<L>,
 )
-    requires from { from < count }
-    requires count { count ≤ length heap.old }
-    requires slot { entry.slot < length place.old }
-    requires placed { ArePlaced (slice_set heap.old from entry)
-        (slice_set place.old entry.slot from) }
+    requires hand { IsInHand heap.old place.old count from entry }
     requires rises { MayRise (slice_set heap.old from entry) count from }
     ensures sifted { IsSifted count (slice_set heap.old from entry)
         (slice_set place.old entry.slot from) heap.new place.new }
@@ -70,11 +66,7 @@ pub(crate) fn sink<L: Ledger>(
     count: usize,
     steps: &mut Steps<L>,
 )
-    requires from { from < count }
-    requires count { count ≤ length heap.old }
-    requires slot { entry.slot < length place.old }
-    requires placed { ArePlaced (slice_set heap.old from entry)
-        (slice_set place.old entry.slot from) }
+    requires hand { IsInHand heap.old place.old count from entry }
     requires sinks { MaySink (slice_set heap.old from entry) count from }
     ensures sifted { IsSifted count (slice_set heap.old from entry)
         (slice_set place.old entry.slot from) heap.new place.new }
@@ -103,11 +95,7 @@ pub(crate) fn sift<L: Ledger>(
     count: usize,
     steps: &mut Steps<L>,
 )
-    requires from { from < count }
-    requires count { count ≤ length heap.old }
-    requires slot { entry.slot < length place.old }
-    requires placed { ArePlaced (slice_set heap.old from entry)
-        (slice_set place.old entry.slot from) }
+    requires hand { IsInHand heap.old place.old count from entry }
     requires loose { MayMove (slice_set heap.old from entry) count from }
     ensures sifted { IsSifted count (slice_set heap.old from entry)
         (slice_set place.old entry.slot from) heap.new place.new }
@@ -130,11 +118,7 @@ pub(crate) fn drop_in<L: Ledger>(
     count: usize,
     steps: &mut Steps<L>,
 )
-    requires from { from < count }
-    requires count { count ≤ length heap.old }
-    requires slot { entry.slot < length place.old }
-    requires placed { ArePlaced (slice_set heap.old from entry)
-        (slice_set place.old entry.slot from) }
+    requires hand { IsInHand heap.old place.old count from entry }
     requires loose { MayMove (slice_set heap.old from entry) count from }
     ensures sifted { IsSifted count (slice_set heap.old from entry)
         (slice_set place.old entry.slot from) heap.new place.new }

@@ -1,5 +1,5 @@
 -- Entries in a binary heap, and for each slot the place of its entry.
-use Rattle.std.specs.Prelude.{◌≡◌, ◌≢◌, ℕ, ◌-◌, ◌/◌, ◌<◌, ◌≤◌, nat_lt, if◌then◌else◌, Option, None, Some, List, length, map, slice_index, slice_index_or}
+use Rattle.std.specs.Prelude.{◌≡◌, ◌≢◌, ℕ, ◌-◌, ◌/◌, ◌<◌, ◌≤◌, nat_lt, if◌then◌else◌, Option, None, Some, List, length, map, slice_index, slice_index_or, slice_set}
 use Rattle.sg_base.specs.declared.ids.Serial.{Serial}
 use Rattle.sg_heap.specs.declared.entry.Entry.{Entry}
 use Rattle.sg_heap.specs.Agenda.{Key, IsNoLater, key, key_count, with_slots}
@@ -59,6 +59,13 @@ pub record MaySink (heap : List Entry) (count at : ℕ) : Type 0 where
 pub record MayMove (heap : List Entry) (count at : ℕ) : Type 0 where
   pub order : (i : ℕ) → 0 < i → i < count → i ≢ at → (i - 1) / 2 ≢ at → InOrder heap ((i - 1) / 2) i
   pub spanned : IsSpanned heap count at
+
+-- An entry in hand, which would have its place there, among the first count entries.
+pub record IsInHand (heap : List Entry) (place : List ℕ) (count from : ℕ) (entry : Entry) : Type 0 where
+  pub below : from < count
+  pub fits : count ≤ length heap
+  pub slot : entry.slot < length place
+  pub placed : ArePlaced (slice_set heap from entry) (slice_set place entry.slot from)
 
 -- What sifting leaves of these entries and places, of which the first count are a heap: the same keys.
 pub record IsSifted (count : ℕ) (heap : List Entry) (place : List ℕ)

@@ -6,9 +6,16 @@ use Rattle.sg_heap.proofs.Sifts.{rises_new}
 use Rattle.sg_heap.proofs.Changes.{added, added_heap, at_slot, key_count_set, no_key_there}
 use Rattle.sg_heap.proofs.keys.add.Goals as goal
 
-pub rise-requires-clause-placed : goal.rise-requires-clause-placed
-rise-requires-clause-placed g c =
-    rw (c.put.ensures.heap, c.put.ensures.place) (added c.args.heap.now c.args.place.now c.args.at c.args.entry c.requires.agenda.placed c.requires.in_range c.requires.slot c.args.count c.requires.at).placed
+pub rise-requires-clause-hand : goal.rise-requires-clause-hand
+rise-requires-clause-hand g c =
+    let a = c.requires.agenda in
+    let slot_in : c.args.entry.slot < length c.args.place.now = subst (λ s. s < length c.args.place.now) (sym c.requires.slot) (a.placed.slots c.args.at c.requires.in_range) in
+    record {
+      below = omega arith;
+      fits = omega (arith, c.requires.at, c.requires.in_range, a.placed.len, c.put.auto.heap);
+      slot = subst (λ n. c.args.entry.slot < n) (sym c.put.auto.place) slot_in;
+      placed = rw (c.put.ensures.heap, c.put.ensures.place) (added c.args.heap.now c.args.place.now c.args.at c.args.entry a.placed c.requires.in_range c.requires.slot c.args.count c.requires.at).placed;
+    }
 
 pub rise-requires-clause-rises : goal.rise-requires-clause-rises
 rise-requires-clause-rises g c =

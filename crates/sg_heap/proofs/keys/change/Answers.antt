@@ -6,8 +6,16 @@ use Rattle.sg_heap.proofs.Placing.{length-keys}
 use Rattle.sg_heap.proofs.Changes.{loose_of, placed_changed, keys_changed, key_count_reset, key_there}
 use Rattle.sg_heap.proofs.keys.change.Goals as goal
 
-pub sift-requires-clause-placed : goal.sift-requires-clause-placed
-sift-requires-clause-placed g c = placed_changed c.args.heap.now c.args.place.now c.args.at c.args.entry c.requires.agenda.placed (omega (arith, c.requires.agenda.within)) c.requires.slot
+pub sift-requires-clause-hand : goal.sift-requires-clause-hand
+sift-requires-clause-hand g c =
+    let a = c.requires.agenda in
+    let la : c.args.at < length c.args.place.now = omega (arith, a.within) in
+    record {
+      below = c.requires.at;
+      fits = omega (arith, a.within, a.placed.len);
+      slot = subst (λ s. s < length c.args.place.now) (sym c.requires.slot) (a.placed.slots c.args.at la);
+      placed = placed_changed c.args.heap.now c.args.place.now c.args.at c.args.entry a.placed la c.requires.slot;
+    }
 
 pub sift-requires-clause-loose : goal.sift-requires-clause-loose
 sift-requires-clause-loose g c = loose_of c.args.heap.now (set c.args.heap.now c.args.at c.args.entry) c.args.count c.args.count c.args.at c.requires.agenda.order (omega arith) c.requires.at

@@ -23,9 +23,16 @@ left heap heap' place place' count at a h p order len keys =
 again : (count : ℕ) → 0 < count → (count - 1) + 1 ≡ count
 again count h = omega arith
 
-pub drop_in-requires-clause-placed : goal.drop_in-requires-clause-placed
-drop_in-requires-clause-placed g c =
-    rw (c.put.ensures.heap, c.put.ensures.place) (taken_before c.args.heap.now c.args.place.now c.args.at (c.args.count - 1) c.requires.agenda.placed (omega arith) (omega (arith, c.requires.agenda.within)) c.if-at-last.true).placed
+pub drop_in-requires-clause-hand : goal.drop_in-requires-clause-hand
+drop_in-requires-clause-hand g c =
+    let a = c.requires.agenda in
+    let last : c.args.count - 1 < length c.args.place.now = omega (arith, a.within) in
+    record {
+      below = c.if-at-last.true;
+      fits = omega (arith, a.within, a.placed.len, c.put.auto.heap);
+      slot = subst (λ n. (entry_at c.args.heap.now (c.args.count - 1)).slot < n) (sym c.put.auto.place) (a.placed.slots (c.args.count - 1) last);
+      placed = rw (c.put.ensures.heap, c.put.ensures.place) (taken_before c.args.heap.now c.args.place.now c.args.at (c.args.count - 1) a.placed (omega arith) last c.if-at-last.true).placed;
+    }
 
 pub drop_in-requires-clause-loose : goal.drop_in-requires-clause-loose
 drop_in-requires-clause-loose g c =

@@ -22,6 +22,15 @@ loop-at-preserved g c =
       most = omega (arith, inv.most, out.most, digits-child at to out.child out.below);
     }
 
+pub rise-requires-clause-hand : goal.rise-requires-clause-hand
+rise-requires-clause-hand g c =
+    record {
+      below = c.loop-at.invariant.in_range;
+      fits = omega (arith, c.requires.hand.fits);
+      slot = omega (arith, c.requires.hand.slot);
+      placed = c.loop-at.invariant.placed;
+    }
+
 pub rise-requires-clause-rises : goal.rise-requires-clause-rises
 rise-requires-clause-rises g c = loose_rises _ c.args.count c.loop-at.at (omega arith) c.loop-at.invariant.loose
 
