@@ -1,7 +1,7 @@
 //! A slot's key comes, changes or goes.
 ghost use Rattle.std.specs.Prelude.{◌≡◌, ◌≤◌, ◌<◌, ◌+◌, ◌-◌, ◌*◌, None, Some, length, slice_set};
 ghost use Rattle.sg_heap.specs.Agenda.{digits};
-ghost use Rattle.sg_heap.specs.kept.Heap.{IsAgenda, entry_at, key_of, keys_of};
+ghost use Rattle.sg_heap.specs.kept.Heap.{HasKeyAt, IsAgenda, entry_at, key_of, keys_of};
 
 use crate::entry::{Entry, put};
 use crate::sifting::{drop_in, rise, sift};
@@ -17,8 +17,7 @@ fn change<L: Ledger>(
     entry: Entry,
     steps: &mut Steps<L>,
 )
-    requires agenda { IsAgenda heap.old place.old count }
-    requires at { at < count }
+    requires key { HasKeyAt heap.old place.old count at }
     requires slot { entry.slot ≡ (entry_at heap.old at).slot }
     ensures agenda { IsAgenda heap.new place.new count }
     ensures keys { keys_of heap.new place.new count ≡
@@ -84,8 +83,7 @@ fn take<L: Ledger>(
     at: usize,
     steps: &mut Steps<L>,
 )
-    requires agenda { IsAgenda heap.old place.old count }
-    requires at { at < count }
+    requires key { HasKeyAt heap.old place.old count at }
     ensures agenda { IsAgenda heap.new place.new (count - 1) }
     ensures keys { keys_of heap.new place.new (count - 1) ≡
         slice_set (keys_of heap.old place.old count) (entry_at heap.old at).slot None }

@@ -81,6 +81,11 @@ pub record IsAgenda (heap : List Entry) (place : List ℕ) (count : ℕ) : Type 
   pub within : count ≤ length place
   pub counted : key_count (keys_of heap place count) ≡ count
 
+-- an agenda, where the entry at this place has a key
+pub record HasKeyAt (heap : List Entry) (place : List ℕ) (count at : ℕ) : Type 0 where
+  pub agenda : IsAgenda heap place count
+  pub below : at < count
+
 -- Whatever the count, an agenda is one still, and it has so many slots at least.
 pub record GrowsTo (slots : ℕ) (heap : List Entry) (place : List ℕ)
     (heap' : List Entry) (place' : List ℕ) : Type 0 where

@@ -8,29 +8,29 @@ use Rattle.sg_heap.proofs.keys.change.Goals as goal
 
 pub sift-requires-clause-hand : goal.sift-requires-clause-hand
 sift-requires-clause-hand g c =
-    let a = c.requires.agenda in
+    let a = c.requires.key.agenda in
     let la : c.args.at < length c.args.place.now = omega (arith, a.within) in
     record {
-      below = c.requires.at;
+      below = c.requires.key.below;
       fits = omega (arith, a.within, a.placed.len);
       slot = subst (λ s. s < length c.args.place.now) (sym c.requires.slot) (a.placed.slots c.args.at la);
       placed = placed_changed c.args.heap.now c.args.place.now c.args.at c.args.entry a.placed la c.requires.slot;
     }
 
 pub sift-requires-clause-loose : goal.sift-requires-clause-loose
-sift-requires-clause-loose g c = loose_of c.args.heap.now (set c.args.heap.now c.args.at c.args.entry) c.args.count c.args.count c.args.at c.requires.agenda.order (omega arith) c.requires.at
+sift-requires-clause-loose g c = loose_of c.args.heap.now (set c.args.heap.now c.args.at c.args.entry) c.args.count c.args.count c.args.at c.requires.key.agenda.order (omega arith) c.requires.key.below
     (λ i h ne. get_or-set_other c.args.heap.now c.args.at i c.args.entry no_entry ne)
 
 pub returns-clause-keys : goal.returns-clause-keys
-returns-clause-keys g c = c.sift.ensures.sifted.keys ∙ keys_changed c.args.heap.now c.args.place.now c.args.at c.args.entry c.requires.agenda.placed (omega (arith, c.requires.agenda.within)) c.requires.slot c.args.count c.requires.at
+returns-clause-keys g c = c.sift.ensures.sifted.keys ∙ keys_changed c.args.heap.now c.args.place.now c.args.at c.args.entry c.requires.key.agenda.placed (omega (arith, c.requires.key.agenda.within)) c.requires.slot c.args.count c.requires.key.below
 
 pub returns-clause-agenda : goal.returns-clause-agenda
 returns-clause-agenda g c =
     let old = keys_of c.args.heap.now c.args.place.now c.args.count in
-    let a = c.requires.agenda in
+    let a = c.requires.key.agenda in
     let la : c.args.at < length c.args.place.now = omega (arith, a.within) in
     let its = c.requires.slot in
-    let had = ap (λ s. slice_index_or old s None) its ∙ key_there c.args.heap.now c.args.place.now c.args.count c.args.at a.placed la c.requires.at in
+    let had = ap (λ s. slice_index_or old s None) its ∙ key_there c.args.heap.now c.args.place.now c.args.count c.args.at a.placed la c.requires.key.below in
     let slot_in : c.args.entry.slot < length old = subst (λ n. c.args.entry.slot < n) (sym (length-keys c.args.heap.now c.args.place.now c.args.count)) (subst (λ s. s < length c.args.place.now) (sym its) (a.placed.slots c.args.at la)) in
     record {
       placed = c.sift.ensures.sifted.placed;

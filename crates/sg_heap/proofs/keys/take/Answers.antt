@@ -25,7 +25,7 @@ again count h = omega arith
 
 pub drop_in-requires-clause-hand : goal.drop_in-requires-clause-hand
 drop_in-requires-clause-hand g c =
-    let a = c.requires.agenda in
+    let a = c.requires.key.agenda in
     let last : c.args.count - 1 < length c.args.place.now = omega (arith, a.within) in
     record {
       below = c.if-at-last.true;
@@ -36,29 +36,29 @@ drop_in-requires-clause-hand g c =
 
 pub drop_in-requires-clause-loose : goal.drop_in-requires-clause-loose
 drop_in-requires-clause-loose g c =
-    rw c.put.ensures.heap (loose_of c.args.heap.now (set (set c.args.heap.now (c.args.count - 1) (entry_at c.args.heap.now c.args.at)) c.args.at (entry_at c.args.heap.now (c.args.count - 1))) c.args.count (c.args.count - 1) c.args.at c.requires.agenda.order (omega arith) c.requires.at
-    (taken_before c.args.heap.now c.args.place.now c.args.at (c.args.count - 1) c.requires.agenda.placed (omega arith) (omega (arith, c.requires.agenda.within)) c.if-at-last.true).same)
+    rw c.put.ensures.heap (loose_of c.args.heap.now (set (set c.args.heap.now (c.args.count - 1) (entry_at c.args.heap.now c.args.at)) c.args.at (entry_at c.args.heap.now (c.args.count - 1))) c.args.count (c.args.count - 1) c.args.at c.requires.key.agenda.order (omega arith) c.requires.key.below
+    (taken_before c.args.heap.now c.args.place.now c.args.at (c.args.count - 1) c.requires.key.agenda.placed (omega arith) (omega (arith, c.requires.key.agenda.within)) c.if-at-last.true).same)
 
 pub returns-then-at-last-clause-keys : goal.returns-then-at-last-clause-keys
 returns-then-at-last-clause-keys g c =
-    let t = taken_before c.args.heap.now c.args.place.now c.args.at (c.args.count - 1) c.requires.agenda.placed (omega arith) (omega (arith, c.requires.agenda.within)) c.if-at-last.true in
+    let t = taken_before c.args.heap.now c.args.place.now c.args.at (c.args.count - 1) c.requires.key.agenda.placed (omega arith) (omega (arith, c.requires.key.agenda.within)) c.if-at-last.true in
     c.drop_in.ensures.sifted.keys ∙ rw (c.put.ensures.heap, c.put.ensures.place) (t.keys ∙ ap (λ n. set (keys_of c.args.heap.now c.args.place.now n) (entry_at c.args.heap.now c.args.at).slot None) (again c.args.count (omega arith)))
 
 pub returns-then-at-last-clause-agenda : goal.returns-then-at-last-clause-agenda
-returns-then-at-last-clause-agenda g c = left c.args.heap.now c.drop_in.new.heap c.args.place.now c.drop_in.new.place c.args.count c.args.at c.requires.agenda c.requires.at c.drop_in.ensures.sifted.placed c.drop_in.ensures.sifted.order (c.drop_in.auto.place ∙ c.put.auto.place) (returns-then-at-last-clause-keys g c)
+returns-then-at-last-clause-agenda g c = left c.args.heap.now c.drop_in.new.heap c.args.place.now c.drop_in.new.place c.args.count c.args.at c.requires.key.agenda c.requires.key.below c.drop_in.ensures.sifted.placed c.drop_in.ensures.sifted.order (c.drop_in.auto.place ∙ c.put.auto.place) (returns-then-at-last-clause-keys g c)
 
 pub returns-then-at-last-clause-most : goal.returns-then-at-last-clause-most
 returns-then-at-last-clause-most g c = omega (arith, digits-le (c.args.count - 1) c.args.count (omega arith))
 
 pub returns-else-at-last-clause-keys : goal.returns-else-at-last-clause-keys
 returns-else-at-last-clause-keys g c =
-    let t = taken_last c.args.heap.now c.args.place.now c.args.at (c.args.count - 1) c.requires.agenda.placed (omega arith) (omega (arith, c.requires.agenda.within)) (omega arith) in
+    let t = taken_last c.args.heap.now c.args.place.now c.args.at (c.args.count - 1) c.requires.key.agenda.placed (omega arith) (omega (arith, c.requires.key.agenda.within)) (omega arith) in
     rw (c.put.ensures.heap, c.put.ensures.place) (t.keys ∙ ap (λ n. set (keys_of c.args.heap.now c.args.place.now n) (entry_at c.args.heap.now c.args.at).slot None) (again c.args.count (omega arith)))
 
 pub returns-else-at-last-clause-agenda : goal.returns-else-at-last-clause-agenda
 returns-else-at-last-clause-agenda g c =
-    let t = taken_last c.args.heap.now c.args.place.now c.args.at (c.args.count - 1) c.requires.agenda.placed (omega arith) (omega (arith, c.requires.agenda.within)) (omega arith) in
+    let t = taken_last c.args.heap.now c.args.place.now c.args.at (c.args.count - 1) c.requires.key.agenda.placed (omega arith) (omega (arith, c.requires.key.agenda.within)) (omega arith) in
     let at_last : c.args.at ≡ c.args.count - 1 = omega arith in
     let p : ArePlaced c.put.new.heap c.put.new.place = rw (c.put.ensures.heap, c.put.ensures.place) t.placed in
-    let order : IsHeap c.put.new.heap (c.args.count - 1) = rw c.put.ensures.heap (shorter c.args.heap.now (set c.args.heap.now (c.args.count - 1) (entry_at c.args.heap.now c.args.at)) c.args.count (c.args.count - 1) c.requires.agenda.order (omega arith) (λ i h. t.same i h (λ q. omega (arith, q, h, at_last)))) in
-    left c.args.heap.now c.put.new.heap c.args.place.now c.put.new.place c.args.count c.args.at c.requires.agenda c.requires.at p order c.put.auto.place (returns-else-at-last-clause-keys g c)
+    let order : IsHeap c.put.new.heap (c.args.count - 1) = rw c.put.ensures.heap (shorter c.args.heap.now (set c.args.heap.now (c.args.count - 1) (entry_at c.args.heap.now c.args.at)) c.args.count (c.args.count - 1) c.requires.key.agenda.order (omega arith) (λ i h. t.same i h (λ q. omega (arith, q, h, at_last)))) in
+    left c.args.heap.now c.put.new.heap c.args.place.now c.put.new.place c.args.count c.args.at c.requires.key.agenda c.requires.key.below p order c.put.auto.place (returns-else-at-last-clause-keys g c)
