@@ -197,7 +197,7 @@ fn begin(
     links: &[LinkId],
     latency: u128,
 )
-    requires partner { CanMeet fields.old comer found met }
+    requires meets { CanMeet fields.old comer found met }
     requires route { IsOver fields.old.links
         (record { links = links.now; latency = latency }) }
     requires apart { AllPairs (λ a b. a ≢ b) links.now }
@@ -297,7 +297,7 @@ fn meet(
     links: &[LinkId],
     latency: u128,
 )
-    requires partner { CanMeet fields.old comer found met }
+    requires meets { CanMeet fields.old comer found met }
     requires route { IsOver fields.old.links
         (record { links = links.now; latency = latency }) }
     requires apart { AllPairs (λ a b. a ≢ b) links.now }
@@ -326,7 +326,7 @@ fn join(
     found: Found,
     met: (Serial, Side),
 ) -> Result<(), Stop>
-    requires partner { CanMeet fields.old comer found met }
+    requires meets { CanMeet fields.old comer found met }
     requires roads { AreOver fields.old.links router.old }
     ensures replies { Replies (comes_in router.old comer fields.old)
         fields.old fields.new result }
