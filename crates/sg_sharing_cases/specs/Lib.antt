@@ -1,2 +1,4 @@
-pub mod Pairs
+pub mod Ends
+pub mod Ledgers
 pub mod OneEach
+pub mod Pairs

@@ -29,3 +29,9 @@ pub record IsOneEach (count_of_flows : ℕ) (s : Lazily) : Type 0 where
 -- no flow is marked
 abbrev pub IsCalm : Lazily → Type 0
 IsCalm s = (id : ℕ) (running : RunningFlow) → running_at s.slots id ≡ Some running → running.marked ≡ false
+
+-- a flow on each of 100 resources, none of them marked, and a resource among these
+pub record HasOneAt (resource : ℕ) (s : Lazily) : Type 0 where
+  pub each : IsOneEach 100 s
+  pub calm : IsCalm s
+  pub there : resource < 100

@@ -1,5 +1,5 @@
 -- Flows that run in a filling of what changes and in one of the whole.
-use Rattle.std.specs.Prelude.{◌≡◌, ℕ, Option, None, Some, IsSome, List, length, slice_index_or}
+use Rattle.std.specs.Prelude.{◌≡◌, ◌<◌, ℕ, Option, None, Some, IsSome, List, length, slice_index_or}
 use Rattle.sg_maxmin.specs.Sharing.{Sharing, flow_at}
 use Rattle.sg_lazy.specs.RunningFlow.{running_at}
 use Rattle.sg_lazy.specs.Lazily.{Lazily}
@@ -19,3 +19,9 @@ pub record ArePaired (lazy : Lazily) (whole : Sharing) (twins : List (Option ℕ
 -- what is paired before is paired afterwards
 abbrev pub StayPaired : Lazily → Lazily → Sharing → Sharing → Type 0
 StayPaired lazy lazy' whole whole' = (twins : List (Option ℕ)) → ArePaired lazy whole twins → ArePaired lazy' whole' twins
+
+-- the flows are paired, some numbers stand for flows, and resources are drawn from among six
+pub record CanChange (drawn_from : ℕ) (lazy : Lazily) (whole : Sharing) (twins : List (Option ℕ)) : Type 0 where
+  pub room : drawn_from ≡ 6
+  pub numbers : 0 < length twins
+  pub paired : ArePaired lazy whole twins

@@ -2,6 +2,8 @@
 ghost use Rattle.std.specs.Prelude.{◌≡◌, ◌+◌, ◌<◌, ◌^◌, All, IfOk, OnOk, length};
 ghost use Rattle.sg_activity.specs.Hosts.{IsHost};
 ghost use Rattle.sg_activity.specs.Links.{all_on};
+ghost use Rattle.sg_sharing_cases.specs.Ends.{AreOn, KeepsHosts};
+ghost use Rattle.sg_sharing_cases.specs.Ledgers.{IsBlankOf};
 
 use sg_activity::{Activities, HostCap};
 use sg_base::{Memory, PointId, Steps};
@@ -21,8 +23,7 @@ const ENDS: u32 = 1_000_000;
 fn next_end<L: Ledger>(doing: &mut Activities, steps: &mut Steps<L>) -> Option<(u128, u64)>
     requires { length doing.old.under.tasks < 10 ^ 9 }
     ensures tasks { length doing.new.under.tasks ≡ length doing.old.under.tasks }
-    ensures capacities { doing.new.under.capacities ≡ doing.old.under.capacities }
-    ensures on { doing.new.under.on ≡ doing.old.under.on }
+    ensures hosts { KeepsHosts doing.old doing.new }
 {
     doing.settle(steps);
     let Some(date) = doing.next_date() else {
@@ -65,8 +66,7 @@ fn compute(
     requires few { length doing.old.under.tasks < 10 ^ 9 }
     requires host { host < length doing.old.under.capacities.hosts }
     requires on { doing.old.under.on ≡ all_on doing.old.under.capacities }
-    ensures capacities { doing.new.under.capacities ≡ doing.old.under.capacities }
-    ensures on { doing.new.under.on ≡ doing.old.under.on }
+    ensures hosts { KeepsHosts doing.old doing.new }
     ensures drawn { OnOk result (length doing.new.under.tasks ≡ length doing.old.under.tasks + 1) }
 {
     doing.reserve(1)?;
@@ -80,21 +80,6 @@ fn over_at(host: u32, number: u64) -> u128 {
     u128::from(number) * u128::from(1_000_000_000_000_000u64.div_ceil(u64::from(host) + 1))
 }
 
-// The first execution begins on each host.
-fn compute_everywhere(doing: &mut Activities, noted: &mut Vec<(u32, u64)>) -> Result<(), Memory>
-    requires hosts { length doing.old.under.capacities.hosts ≡ 16384 }
-    requires on { doing.old.under.on ≡ all_on doing.old.under.capacities }
-    requires tasks { length doing.old.under.tasks ≡ 0 }
-    ensures capacities { doing.new.under.capacities ≡ doing.old.under.capacities }
-    ensures on { doing.new.under.on ≡ doing.old.under.on }
-    ensures tasks { OnOk result (length doing.new.under.tasks ≡ 16384) }
-{
-    for host in 0..HOSTS {
-        compute(doing, host, 1, noted)?;
-    }
-    Ok(())
-}
-
 // The next execution ends when all those on its host up to it are over, whatever goes on elsewhere. Another begins there.
 fn compute_anew<L: Ledger>(
     rt: &impl Abort,
@@ -103,10 +88,8 @@ fn compute_anew<L: Ledger>(
     steps: &mut Steps<L>,
 ) -> Result<(), Memory>
     requires few { length doing.old.under.tasks < 10 ^ 9 }
-    requires hosts { length doing.old.under.capacities.hosts ≡ 16384 }
-    requires on { doing.old.under.on ≡ all_on doing.old.under.capacities }
-    ensures capacities { doing.new.under.capacities ≡ doing.old.under.capacities }
-    ensures on { doing.new.under.on ≡ doing.old.under.on }
+    requires hosts { AreOn 16384 doing.old }
+    ensures hosts { KeepsHosts doing.old doing.new }
     ensures drawn { OnOk result (length doing.new.under.tasks ≡ length doing.old.under.tasks + 1) }
 {
     let Some((date, serial)) = next_end(doing, steps) else {
@@ -120,18 +103,19 @@ fn compute_anew<L: Ledger>(
     compute(doing, host, number.saturating_add(1), noted)
 }
 
-// Executions follow one another on each host, until so many have ended.
+// Executions begin on all hosts and follow one another on each, until so many have ended.
 fn compute_long<L: Ledger>(
     rt: &impl Abort,
     doing: &mut Activities,
     noted: &mut Vec<(u32, u64)>,
     steps: &mut Steps<L>,
 ) -> Result<(), Memory>
-    requires hosts { length doing.old.under.capacities.hosts ≡ 16384 }
-    requires on { doing.old.under.on ≡ all_on doing.old.under.capacities }
+    requires hosts { AreOn 16384 doing.old }
     requires tasks { length doing.old.under.tasks ≡ 0 }
 {
-    compute_everywhere(doing, noted)?;
+    for host in 0..HOSTS {
+        compute(doing, host, 1, noted)?;
+    }
     for _end in 0..ENDS {
         compute_anew(rt, doing, noted, steps)?;
     }
@@ -140,9 +124,7 @@ fn compute_long<L: Ledger>(
 
 // The same on hosts of their own.
 fn ends_as_stated<L: Ledger>(rt: &impl Abort, alloc: Global, blank: Blank) -> Result<(), Memory>
-    requires name { blank.name ≡ L.name }
-    requires parts { blank.parts ≡ L.parts }
-    requires some { 0 < blank.parts }
+    requires { IsBlankOf L.name L.parts blank }
 {
     let mut steps = Steps::<L>::new(blank);
     let mut noted = Vec::new(alloc);

@@ -1,5 +1,5 @@
 //! Worked systems: what each flow gets.
-ghost use Rattle.std.specs.Prelude.{◌≡◌, ◌<◌};
+ghost use Rattle.sg_sharing_cases.specs.Ledgers.{IsBlankOf};
 
 use sg_base::{Memory, Steps};
 use sg_maxmin::System;
@@ -94,9 +94,7 @@ fn by_weight_and_bound<L: Ledger>(alloc: Global, steps: &mut Steps<L>) -> Result
 
 // All of them, worked by hand.
 fn hold<L: Ledger>(rt: &impl Abort, alloc: Global, blank: Blank) -> Result<(), Memory>
-    requires name { blank.name ≡ L.name }
-    requires parts { blank.parts ≡ L.parts }
-    requires some { 0 < blank.parts }
+    requires { IsBlankOf L.name L.parts blank }
 {
     let mut steps = Steps::<L>::new(blank);
     assert_eq!(rt; over_two_links(alloc, &mut steps)?, [2, 2, 2, 7]);

@@ -1,6 +1,7 @@
 //! What a second execution on a host, and another speed of it, change among 100 hosts, and how much they look at.
-ghost use Rattle.std.specs.Prelude.{◌≡◌, ◌<◌, ◌≤◌, ◌+◌, OnOk};
-ghost use Rattle.sg_sharing_cases.specs.OneEach.{IsCalm, IsIdle, IsOneEach};
+ghost use Rattle.std.specs.Prelude.{◌<◌, ◌≤◌, ◌+◌, OnOk};
+ghost use Rattle.sg_sharing_cases.specs.Ledgers.{IsBlankOf};
+ghost use Rattle.sg_sharing_cases.specs.OneEach.{HasOneAt, IsCalm, IsIdle, IsOneEach};
 
 use sg_base::{Memory, Steps};
 use sg_lazy::Lazy;
@@ -33,9 +34,7 @@ fn one_each<L: Ledger>(
 
 // A second execution on a host, settled with no more looks than its two flows allow.
 fn add_second<L: Ledger>(lazy: &mut Lazy, host: usize, steps: &mut Steps<L>) -> usize
-    requires each { IsOneEach 100 lazy.old }
-    requires calm { IsCalm lazy.old }
-    requires host { host < 100 }
+    requires { HasOneAt host lazy.old }
     ensures { steps.new ≤ steps.old + 48 }
 {
     let second = lazy.start(&[host], 1, Some(10));
@@ -66,37 +65,28 @@ fn changes_two<L: Ledger>(
     Ok(())
 }
 
-// The same on a system of its own.
-fn changes_two_of_100<L: Ledger>(
-    rt: &impl Abort,
-    alloc: Global,
-    blank: Blank,
-    host: usize,
-) -> Result<(), Memory>
-    requires name { blank.name ≡ L.name }
-    requires parts { blank.parts ≡ L.parts }
-    requires some { 0 < blank.parts }
-    requires host { host < 100 }
+// The same on each host, every time on a system of its own.
+fn changes_two_of_100<L: Ledger>(rt: &impl Abort, alloc: Global, blank: Blank) -> Result<(), Memory>
+    requires { IsBlankOf L.name L.parts blank }
 {
     let mut steps = Steps::<L>::new(blank);
-    let mut flows = Vec::new(alloc);
-    let mut lazy = Lazy::new(alloc, &[10; HOSTS])?;
-    changes_two(rt, &mut lazy, &mut flows, host, &mut steps)
+    for host in 0..HOSTS {
+        let mut flows = Vec::new(alloc);
+        let mut lazy = Lazy::new(alloc, &[10; HOSTS])?;
+        changes_two(rt, &mut lazy, &mut flows, host, &mut steps)?;
+    }
+    Ok(())
 }
 
 #[test]
 fn second_execution_changes_two(rt: HostRuntime) -> Result<(), Fail> {
-    for host in 0..HOSTS {
-        changes_two_of_100::<Brand>(&rt, rt.alloc(), Blank::new(1), host)?;
-    }
+    changes_two_of_100::<Brand>(&rt, rt.alloc(), Blank::new(1))?;
     Ok(())
 }
 
 // Another speed of a host, settled with no more looks than its one flow allows.
 fn slow_host<L: Ledger>(lazy: &mut Lazy, host: usize, speed: u64, steps: &mut Steps<L>)
-    requires each { IsOneEach 100 lazy.old }
-    requires calm { IsCalm lazy.old }
-    requires host { host < 100 }
+    requires { HasOneAt host lazy.old }
     ensures { steps.new ≤ steps.old + 16 }
 {
     lazy.set_capacity(host, speed);
@@ -124,28 +114,21 @@ fn changes_one<L: Ledger>(
     Ok(())
 }
 
-// The same on a system of its own.
-fn changes_one_of_100<L: Ledger>(
-    rt: &impl Abort,
-    alloc: Global,
-    blank: Blank,
-    host: usize,
-) -> Result<(), Memory>
-    requires name { blank.name ≡ L.name }
-    requires parts { blank.parts ≡ L.parts }
-    requires some { 0 < blank.parts }
-    requires host { host < 100 }
+// The same on each host, every time on a system of its own.
+fn changes_one_of_100<L: Ledger>(rt: &impl Abort, alloc: Global, blank: Blank) -> Result<(), Memory>
+    requires { IsBlankOf L.name L.parts blank }
 {
     let mut steps = Steps::<L>::new(blank);
-    let mut flows = Vec::new(alloc);
-    let mut lazy = Lazy::new(alloc, &[10; HOSTS])?;
-    changes_one(rt, &mut lazy, &mut flows, host, &mut steps)
+    for host in 0..HOSTS {
+        let mut flows = Vec::new(alloc);
+        let mut lazy = Lazy::new(alloc, &[10; HOSTS])?;
+        changes_one(rt, &mut lazy, &mut flows, host, &mut steps)?;
+    }
+    Ok(())
 }
 
 #[test]
 fn another_speed_changes_one(rt: HostRuntime) -> Result<(), Fail> {
-    for host in 0..HOSTS {
-        changes_one_of_100::<Brand>(&rt, rt.alloc(), Blank::new(1), host)?;
-    }
+    changes_one_of_100::<Brand>(&rt, rt.alloc(), Blank::new(1))?;
     Ok(())
 }

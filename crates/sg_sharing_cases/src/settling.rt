@@ -3,7 +3,8 @@ ghost use Rattle.std.specs.Prelude.{◌≡◌, ◌<◌, ◌≤◌, ◌+◌, ℕ,
 ghost use Rattle.sg_maxmin.specs.Fill.{flow};
 ghost use Rattle.sg_maxmin.specs.Sharing.{IsFlow, flow_at};
 ghost use Rattle.sg_lazy.specs.RunningFlow.{running_at};
-ghost use Rattle.sg_sharing_cases.specs.Pairs.{ArePaired, StayPaired, twin_of};
+ghost use Rattle.sg_sharing_cases.specs.Ledgers.{IsBlankOf};
+ghost use Rattle.sg_sharing_cases.specs.Pairs.{ArePaired, CanChange, StayPaired, twin_of};
 
 use sg_base::{Marks, Memory, Steps};
 use sg_lazy::Lazy;
@@ -120,11 +121,8 @@ fn start_one(
     whole: &mut System,
     twins: &mut Vec<Option<usize>>,
 ) -> Result<(), Memory>
-    requires room { draw.old.picked.room ≡ 6 }
-    requires paired { ArePaired lazy.old whole.old twins.old.items }
-    ensures room { draw.new.picked.room ≡ 6 }
-    ensures paired { OnOk result (ArePaired lazy.new whole.new twins.new.items) }
-    ensures longer { length twins.old.items ≤ length twins.new.items }
+    requires { CanChange draw.old.picked.room lazy.old whole.old twins.old.items }
+    ensures { OnOk result (CanChange draw.new.picked.room lazy.new whole.new twins.new.items) }
 {
     draw.pick();
     let weight = 1 + draw.below(3) as u32;
@@ -164,12 +162,8 @@ fn change_flow(
     whole: &mut System,
     twins: &mut Vec<Option<usize>>,
 ) -> Result<(), Memory>
-    requires room { draw.old.picked.room ≡ 6 }
-    requires numbers { 0 < length twins.old.items }
-    requires paired { ArePaired lazy.old whole.old twins.old.items }
-    ensures room { draw.new.picked.room ≡ 6 }
-    ensures paired { OnOk result (ArePaired lazy.new whole.new twins.new.items) }
-    ensures longer { length twins.old.items ≤ length twins.new.items }
+    requires { CanChange draw.old.picked.room lazy.old whole.old twins.old.items }
+    ensures { OnOk result (CanChange draw.new.picked.room lazy.new whole.new twins.new.items) }
 {
     let id = draw.below(twins.len());
     match twins[id] {
@@ -187,43 +181,22 @@ fn change_flow(
     }
 }
 
-// A capacity changes, or a flow starts, ends or gets another bound.
-fn change(
-    draw: &mut Draw,
-    lazy: &mut Lazy,
-    whole: &mut System,
-    twins: &mut Vec<Option<usize>>,
-) -> Result<(), Memory>
-    requires room { draw.old.picked.room ≡ 6 }
-    requires numbers { 0 < length twins.old.items }
-    requires paired { ArePaired lazy.old whole.old twins.old.items }
-    ensures room { draw.new.picked.room ≡ 6 }
-    ensures paired { OnOk result (ArePaired lazy.new whole.new twins.new.items) }
-    ensures longer { length twins.old.items ≤ length twins.new.items }
-{
-    if draw.below(4) == 0 {
-        change_capacity(draw, lazy, whole);
-        return Ok(());
-    }
-    change_flow(draw, lazy, whole, twins)
-}
-
-// The changes between two settlings.
+// The changes between two settlings: a capacity changes, or a flow starts, ends or gets another bound.
 fn change_some(
     draw: &mut Draw,
     lazy: &mut Lazy,
     whole: &mut System,
     twins: &mut Vec<Option<usize>>,
 ) -> Result<(), Memory>
-    requires room { draw.old.picked.room ≡ 6 }
-    requires numbers { 0 < length twins.old.items }
-    requires paired { ArePaired lazy.old whole.old twins.old.items }
-    ensures room { draw.new.picked.room ≡ 6 }
-    ensures paired { OnOk result (ArePaired lazy.new whole.new twins.new.items) }
-    ensures longer { length twins.old.items ≤ length twins.new.items }
+    requires { CanChange draw.old.picked.room lazy.old whole.old twins.old.items }
+    ensures { OnOk result (CanChange draw.new.picked.room lazy.new whole.new twins.new.items) }
 {
     for _change in 0..draw.changes {
-        change(draw, lazy, whole, twins)?;
+        if draw.below(4) == 0 {
+            change_capacity(draw, lazy, whole);
+        } else {
+            change_flow(draw, lazy, whole, twins)?;
+        }
     }
     Ok(())
 }
@@ -248,9 +221,7 @@ fn settle_often<L: Ledger>(
     twins: &mut Vec<Option<usize>>,
     steps: &mut Steps<L>,
 ) -> Result<(), Memory>
-    requires room { draw.old.picked.room ≡ 6 }
-    requires numbers { 0 < length twins.old.items }
-    requires paired { ArePaired lazy.old whole.old twins.old.items }
+    requires { CanChange draw.old.picked.room lazy.old whole.old twins.old.items }
 {
     for _settling in 0..SETTLINGS {
         change_some(draw, lazy, whole, twins)?;
@@ -270,9 +241,7 @@ fn agrees_with_the_whole<L: Ledger>(
     flows: usize,
     changes: usize,
 ) -> Result<(), Memory>
-    requires name { blank.name ≡ L.name }
-    requires parts { blank.parts ≡ L.parts }
-    requires some { 0 < blank.parts }
+    requires blank { IsBlankOf L.name L.parts blank }
     requires flows { 0 < flows }
 {
     let mut steps = Steps::<L>::new(blank);
