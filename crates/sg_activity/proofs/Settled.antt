@@ -400,22 +400,19 @@ keyed_flows s lazy new is runs by id changed = go (running_at lazy.slots id) (ru
         }
 
 pub small_lives : (s : State) (flows : List ℕ) (runs : List (Option RunningFlow)) (slots : List (Option Live)) → IsKept s → s.date < 10 ^ 34 → ((key : ℕ) → slot_at slots key ≡ option_map (restamped flows runs s.date) (slot_at s.slots key)) → AreSmall slots
-small_lives s flows runs slots is early stamped = record {
-  amounts = λ key live at.
-      let w = was_stamped flows runs s.date s.slots key live (sym (stamped key) ∙ at) in
-      let h = is.each key w.old w.there in
-      elim w.which [
-        | inl c ↦ omega (arith, h.small, ap (λ (l : Live). l.kept) c.1)
-        | inr c ↦ omega (arith, h.small, ap (λ (l : Live). l.kept) c.1)
-      ];
-  stamps = λ key live at.
-      let w = was_stamped flows runs s.date s.slots key live (sym (stamped key) ∙ at) in
-      let h = is.each key w.old w.there in
-      elim w.which [
-        | inl c ↦ omega (arith, early, ap (λ (l : Live). l.stamp) c.1)
-        | inr c ↦ omega (arith, early, h.stamped, ap (λ (l : Live). l.stamp) c.1)
-      ];
-}
+small_lives s flows runs slots is early stamped key live at =
+    let w = was_stamped flows runs s.date s.slots key live (sym (stamped key) ∙ at) in
+    let h = is.each key w.old w.there in
+    elim w.which [
+      | inl c ↦ record {
+        amount = omega (arith, h.small, ap (λ (l : Live). l.kept) c.1);
+        stamp = omega (arith, early, ap (λ (l : Live). l.stamp) c.1);
+      }
+      | inr c ↦ record {
+        amount = omega (arith, h.small, ap (λ (l : Live). l.kept) c.1);
+        stamp = omega (arith, early, h.stamped, ap (λ (l : Live). l.stamp) c.1);
+      }
+    ]
 
 -- ---- what the marks name
 or_cases : (a b : Bool) → (a || b) ≡ true → (a ≡ true) ⊎ (b ≡ true)

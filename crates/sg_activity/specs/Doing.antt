@@ -1,6 +1,7 @@
 -- What contracts see of `Activities`.
-use Rattle.std.specs.Prelude.{◌≡◌, ◌≢◌, ℕ, ◌+◌, ◌-◌, ◌*◌, ◌^◌, ◌++◌, ◌==◌, ◌<◌, ◌≤◌, not, Bool, true, false, IsTrue, Option, None, Some, List, [], ◌∷◌, All, AllPairs, filter, length, slice_index_or}
+use Rattle.std.specs.Prelude.{◌≡◌, ◌≢◌, ℕ, ◌+◌, ◌-◌, ◌*◌, ◌^◌, ◌++◌, ◌==◌, ◌<◌, ◌≤◌, not, Bool, true, false, IsSome, IsTrue, OnOk, Option, None, Some, Result, List, [], ◌∷◌, All, AllPairs, filter, length, slice_index_or}
 use Rattle.sg_base.specs.declared.ids.LinkId.{LinkId}
+use Rattle.sg_base.specs.declared.memory.Memory.{Memory}
 use Rattle.sg_base.specs.Limits.{IsAmount}
 use Rattle.sg_lives.specs.declared.kinds.HostCap.{HostCap}
 use Rattle.sg_lives.specs.declared.kinds.LinkCap.{LinkCap}
@@ -9,7 +10,7 @@ use Rattle.sg_lives.specs.declared.kinds.Transfer.{Transfer}
 use Rattle.sg_activity.specs.Links.{machines}
 use Rattle.sg_activity.specs.Stamp.{Stamp, stamped, anew, all_rerated}
 use Rattle.sg_activity.specs.Task.{Task, Way, is_cut, task_at}
-use Rattle.sg_activity.specs.Underway.{Underway, next_in, due_in, later, drawn, started, begun, ended, settled, given_up, held, gone_on, hits, nothing_on, rate}
+use Rattle.sg_activity.specs.Underway.{Underway, next_in, due_in, later, drawn, started, begun, ended, settled, given_up, held, gone_on, hits, is_computing, is_kept, nothing_on, rate}
 
 -- What is under way, the serials that are due and not ended yet, whether the rates are up to date, room for so many starts, and by serial the stamp of the phase that is under way, or nothing.
 pub record Doing : Type 0 where
@@ -127,6 +128,41 @@ pub record IsHit (doing : Doing) (serial : ℕ) : Type 0 where
   pub at : task_at doing.under.tasks serial ≡ Some task
   pub from : 0 < serial
   pub to : serial ≤ length doing.under.tasks
+
+-- There is room for so many starts, unless memory was lacking. Nothing else changes, and the room doesn't shrink.
+pub record MakesRoom (n : ℕ) (old new : Doing) (done : Result Unit Memory) : Type 0 where
+  pub room : OnOk done (n ≤ new.room)
+  pub grows : old.room ≤ new.room
+  pub kept : new ≡ record old { room = new.room }
+
+-- ---- what is asked for
+-- there is room for a start, and serials are left
+pub record CanStart (doing : Doing) : Type 0 where
+  pub room : 0 < doing.room
+  pub few : length doing.under.tasks < 10 ^ 9
+
+-- there is room for that of this serial, which was drawn, and under which nothing is under way
+pub record CanBegin (doing : Doing) (serial : ℕ) : Type 0 where
+  pub from : 0 < serial
+  pub to : serial ≤ length doing.under.tasks
+  pub idle : task_at doing.under.tasks serial ≡ None
+  pub room : 0 < doing.room
+
+-- an activity of this serial is under way
+pub record IsUnderWay (doing : Doing) (serial : ℕ) : Type 0 where
+  pub from : 0 < serial
+  pub under_way : IsSome (task_at doing.under.tasks serial)
+
+-- it is an execution that goes on
+pub record IsComputing (doing : Doing) (serial : ℕ) : Type 0 where
+  pub from : 0 < serial
+  pub computes : IsTrue (is_computing doing.under serial)
+
+-- or one that is held, and there is room for its start
+pub record CanGoOn (doing : Doing) (serial : ℕ) : Type 0 where
+  pub from : 0 < serial
+  pub held : IsTrue (is_kept doing.under serial)
+  pub room : 0 < doing.room
 
 -- the way of a transfer over these links
 abbrev pub way_of : List LinkId → Transfer → Way

@@ -2,8 +2,6 @@
 use Rattle.std.specs.Prelude.{ℕ, ◌+◌, ◌-◌, ◌*◌, ◌/◌, ◌==◌, ◌&&◌, Bool, false, Option, None, Some, if◌then◌else◌, List, sum_by}
 use Rattle.std.specs.List.{list_any}
 use Rattle.sg_lives.specs.declared.kinds.Power.{Power}
-use Rattle.sg_activity.specs.Hosts.{host_at, offer_of}
-use Rattle.sg_activity.specs.Links.{Capacities, Switches, is_off}
 use Rattle.sg_lives.specs.Slots.{passes}
 use Rattle.sg_activity.specs.Task.{Place, nowhere, on_host, over, Task, is_filled}
 
@@ -39,9 +37,3 @@ power_by power capacity (Some load) =
 abbrev pub power_in : Option Power → Bool → ℕ → Option ℕ → ℕ
 power_in None off capacity load = 0
 power_in (Some power) off capacity load = if off then power.off else power_by power capacity load
-
--- the power of a host of these capacities and switches, at its load
-abbrev pub power_of : Capacities → Switches → ℕ → Option ℕ → ℕ
-power_of capacities on host load =
-    power_in (host_at capacities.hosts host).power (is_off on.hosts host)
-    (offer_of (host_at capacities.hosts host)) load

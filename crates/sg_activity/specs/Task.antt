@@ -7,7 +7,7 @@ use Rattle.sg_lives.specs.declared.kinds.PhaseKind.{PhaseKind}
 use Rattle.sg_lives.specs.declared.kinds.PhaseKind.TheVariants as phase
 use Rattle.sg_activity.specs.Hosts.{host_at}
 use Rattle.sg_activity.specs.Links.{Capacities, Switches, is_off, route_bound, shared_of}
-use Rattle.sg_lives.specs.Kinds.{takes_share, goes_by}
+use Rattle.sg_lives.specs.Kinds.{takes_share}
 use Rattle.sg_lives.specs.Slots.{sooner}
 
 -- all links of a route, FATPIPE links too, and the hosts of the sender and of the receiver
@@ -96,9 +96,6 @@ is_hit on task = uses_off on task.place
 -- ---- what takes shares
 abbrev pub is_filled : Task → Bool
 is_filled task = takes_share task.kind
-
-abbrev pub goes : Task → Bool
-goes task = goes_by task.kind
 
 abbrev pub flow_in : Capacities → Option Task → Option Flow
 flow_in capacities None = None

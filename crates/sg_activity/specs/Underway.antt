@@ -6,13 +6,14 @@ use Rattle.sg_base.specs.MarkSet.{with_mark}
 use Rattle.sg_maxmin.specs.Fill.{Flow, share_of}
 use Rattle.sg_lazy.specs.RunningFlow.{RunningFlow, is_same_bound}
 use Rattle.sg_lazy.specs.Work.{work}
-use Rattle.sg_activity.specs.Links.{Capacities, Switches, all_on, capacities_of, at_speed, at_bandwidth}
+use Rattle.sg_activity.specs.Hosts.{host_at, offer_of}
+use Rattle.sg_activity.specs.Links.{Capacities, Switches, all_on, capacities_of, is_off, at_speed, at_bandwidth}
 use Rattle.sg_lives.specs.Slots.{soonest, passes, serials, is_at, listed}
 use Rattle.sg_lives.specs.declared.kinds.PhaseKind.{PhaseKind}
 use Rattle.sg_lives.specs.declared.kinds.PhaseKind.TheVariants as phase
-use Rattle.sg_activity.specs.Power.{load_by, power_of}
-use Rattle.sg_activity.specs.Task.{Task, is_filled, goes, flow_in, flow_of, flows, is_hit, phase_after, task_at, of_kind, rekinded}
-use Rattle.sg_lives.specs.Kinds.{pace, wait_by, is_exec, is_held}
+use Rattle.sg_activity.specs.Power.{load_by, power_in}
+use Rattle.sg_activity.specs.Task.{Task, is_filled, flow_in, flow_of, flows, is_hit, phase_after, task_at, of_kind, rekinded}
+use Rattle.sg_lives.specs.Kinds.{goes_by, pace, wait_by, is_exec, is_held}
 
 -- What changed since the rates were brought up to date: by serial whether the phase that is under way began, or has another bound; what those asked for that ended; and the numbers of the resources whose capacity changed.
 pub record Marks : Type 0 where
@@ -46,7 +47,7 @@ nothing_on capacities = record {
 
 -- whether something is under way
 abbrev pub is_running : Underway → Bool
-is_running under = list_any (passes goes) under.tasks
+is_running under = list_any (passes (of_kind goes_by)) under.tasks
 
 -- ---- how much a change touches
 -- What runs under a serial and takes shares, and whether it began, or its bound changed, since the rates were brought up to date.
@@ -104,7 +105,9 @@ load under host = load_by (rate under) host under.tasks
 
 -- the power of a host, in milliwatts
 abbrev pub power_at : Underway → ℕ → ℕ
-power_at under host = power_of under.capacities under.on host (load under host)
+power_at under host =
+    power_in (host_at under.capacities.hosts host).power (is_off under.on.hosts host)
+    (offer_of (host_at under.capacities.hosts host)) (load under host)
 
 -- the energy of a host, so many nanoseconds later
 abbrev pub used_later : ℕ → Underway → ℕ → ℕ

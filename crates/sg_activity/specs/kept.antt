@@ -7,6 +7,7 @@ pub mod Index
 pub mod Hits
 pub mod Metered
 pub mod Whole
+pub mod Asks
 pub mod Bounds
 pub mod Renewal
 pub mod Ends

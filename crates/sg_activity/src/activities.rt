@@ -1,13 +1,13 @@
 //! Activities under way.
 
-ghost use Rattle.std.specs.Prelude.{◌≡◌, ◌≢◌, ◌+◌, ◌-◌, ◌*◌, ◌<◌, ◌≤◌, ◌^◌, ◌++◌, false, true, None, Some, IsSome, IsTrue, IfOk, OnOk, OnErr, All, AllPairs, MatchOption, [], ◌∷◌, length, map, slice_index_or};
+ghost use Rattle.std.specs.Prelude.{◌≡◌, ◌≢◌, ◌+◌, ◌-◌, ◌*◌, ◌<◌, ◌≤◌, ◌^◌, ◌++◌, false, true, None, Some, IsTrue, IfOk, OnOk, OnErr, All, AllPairs, MatchOption, [], ◌∷◌, length, map, slice_index_or};
 ghost use Rattle.sg_base.specs.declared.ids.LinkId.{LinkId};
 ghost use Rattle.sg_base.specs.Limits.{IsAmount, IsPriority, IsTime};
 ghost use Rattle.sg_activity.specs.Hosts.{IsHost, offers_of};
 ghost use Rattle.sg_activity.specs.Links.{IsLink, bandwidths_of, is_off};
-ghost use Rattle.sg_activity.specs.Task.{comm_of, exec_of, is_cut as is_cut_spec, task_at, timer_of};
+ghost use Rattle.sg_activity.specs.Task.{comm_of, exec_of, is_cut as is_cut_spec, timer_of};
 ghost use Rattle.sg_activity.specs.Underway.{hits, is_computing as is_computing_spec, is_kept as is_kept_spec, is_running, load as load_spec, next_in, with_bandwidth, with_host_on, with_link_on, with_speed, work_of};
-ghost use Rattle.sg_activity.specs.Doing.{idle_on, started_in, drawn_in, begun_in, settled_in, later_in, ended_in, gave_up, held_in, went_on_in, set_in, switched_in, way_of, HaveStamps, IsDue, IsHit, IsNext, IsTransfer, IsUpTo};
+ghost use Rattle.sg_activity.specs.Doing.{idle_on, started_in, drawn_in, begun_in, settled_in, later_in, ended_in, gave_up, held_in, went_on_in, set_in, switched_in, way_of, CanBegin, CanGoOn, CanStart, HaveStamps, IsComputing, IsDue, IsHit, IsNext, IsTransfer, IsUnderWay, IsUpTo, MakesRoom};
 
 use crate::beginning::first_parts;
 use crate::capacities::{set_bandwidth, set_speed};
@@ -102,9 +102,7 @@ impl Activities {
     /// Makes room for so many more starts, which then take no memory. Nothing but the room changes, also where there
     /// is no memory, and the room doesn't shrink.
     pub fn reserve(&mut self, n: usize) -> Result<(), Memory>
-        ensures room { OnOk result (n ≤ self.new.room) }
-        ensures grows { self.old.room ≤ self.new.room }
-        ensures kept { self.new ≡ record self.old { room = self.new.room } }
+        ensures { MakesRoom n self.old self.new result }
     {
         if n <= self.kept.room {
             return Ok(());
@@ -114,9 +112,7 @@ impl Activities {
 
     // The same, where there isn't that much room yet.
     fn grow(&mut self, n: usize) -> Result<(), Memory>
-        ensures room { OnOk result (n ≤ self.new.room) }
-        ensures grows { self.old.room ≤ self.new.room }
-        ensures kept { self.new ≡ record self.old { room = self.new.room } }
+        ensures { MakesRoom n self.old self.new result }
     {
         let n = n.max(self.kept.room);
         let more = n - self.kept.room;
@@ -148,8 +144,7 @@ impl Activities {
         requires on { is_off self.old.under.on.hosts host.0 ≡ false }
         requires flops { IsAmount flops }
         requires priority { IsPriority priority }
-        requires room { 0 < self.old.room }
-        requires few { length self.old.under.tasks < 10 ^ 9 }
+        requires start { CanStart self.old }
         ensures serial { result.0 ≡ length self.old.under.tasks + 1 }
         ensures starts { self.new ≡ started_in (exec_of host.0 flops priority) self.old }
     {
@@ -186,8 +181,7 @@ impl Activities {
     /// Starts a sleep of so many nanoseconds, and answers its serial.
     pub fn start_timer(&mut self, ns: u64) -> Serial
         requires ns { IsTime ns }
-        requires room { 0 < self.old.room }
-        requires few { length self.old.under.tasks < 10 ^ 9 }
+        requires start { CanStart self.old }
         ensures serial { result.0 ≡ length self.old.under.tasks + 1 }
         ensures starts { self.new ≡ started_in (timer_of ns) self.old }
     {
@@ -218,11 +212,8 @@ impl Activities {
     /// Starts the communication of a serial that was drawn and isn't under way: a transfer over the links of a route,
     /// which are all different. The latency passes first; then the bytes flow.
     pub fn start_comm(&mut self, serial: Serial, links: &[LinkId], transfer: Transfer)
-        requires from { 0 < serial.0 }
-        requires to { serial.0 ≤ length self.old.under.tasks }
-        requires idle { task_at self.old.under.tasks serial.0 ≡ None }
+        requires serial { CanBegin self.old serial.0 }
         requires transfer { IsTransfer self.old.under links.now transfer }
-        requires room { 0 < self.old.room }
         ensures { self.new ≡ begun_in serial.0
             (comm_of (way_of links.now transfer) transfer.latency transfer.bytes transfer.bound)
             self.old }
@@ -329,8 +320,7 @@ impl Activities {
 
     /// Gives up the activity of a serial.
     pub fn give_up(&mut self, serial: Serial)
-        requires from { 0 < serial.0 }
-        requires under_way { IsSome (task_at self.old.under.tasks serial.0) }
+        requires { IsUnderWay self.old serial.0 }
         ensures { self.new ≡ gave_up serial.0 self.old }
     {
         let Some((key, live)) = self.kept.lives.find(serial) else {
@@ -364,8 +354,7 @@ impl Activities {
 
     /// Holds an execution: it keeps what is left of it, and gets nothing of its host until it goes on.
     pub fn hold(&mut self, serial: Serial)
-        requires from { 0 < serial.0 }
-        requires computes { IsTrue (is_computing_spec self.old.under serial.0) }
+        requires { IsComputing self.old serial.0 }
         ensures { self.new ≡ held_in serial.0 self.old }
     {
         let Some((key, live)) = self.kept.lives.find(serial) else {
@@ -377,9 +366,7 @@ impl Activities {
 
     /// An execution that is held goes on, with what was left of it.
     pub fn go_on(&mut self, serial: Serial)
-        requires from { 0 < serial.0 }
-        requires held { IsTrue (is_kept_spec self.old.under serial.0) }
-        requires room { 0 < self.old.room }
+        requires { CanGoOn self.old serial.0 }
         ensures { self.new ≡ went_on_in serial.0 self.old }
     {
         let Some((key, live)) = self.kept.lives.find(serial) else {

@@ -21,21 +21,6 @@ pub(crate) struct Parts {
     pub(crate) hits: Agenda,
 }
 
-// What each host offers in all.
-fn offers(alloc: Global, hosts: &[HostCap]) -> Result<Vec<u64>, Memory>
-    requires hosts { All IsHost hosts.now }
-    ensures { IfOk result (λ offers. offers.items ≡ offers_of hosts.now) }
-{
-    let mut offers = Vec::new(alloc);
-    for host in hosts {
-        match offers.push(host.speed * u64::from(host.cores)) {
-            Ok(()) => {}
-            Err(_) => return Err(Memory),
-        }
-    }
-    Ok(offers)
-}
-
 // Puts the bandwidths of the links behind.
 fn add_bandwidths(capacities: &mut Vec<u64>, links: &[LinkCap]) -> Result<(), Memory>
     ensures { OnOk result (capacities.new.items ≡ capacities.old.items ++ bandwidths_of links.now) }
@@ -70,7 +55,13 @@ fn capacities(alloc: Global, hosts: &[HostCap], links: &[LinkCap]) -> Result<Vec
     ensures { IfOk result (λ capacities. capacities.items
         ≡ offers_of hosts.now ++ bandwidths_of links.now) }
 {
-    let mut capacities = offers(alloc, hosts)?;
+    let mut capacities = Vec::new(alloc);
+    for host in hosts {
+        match capacities.push(host.speed * u64::from(host.cores)) {
+            Ok(()) => {}
+            Err(_) => return Err(Memory),
+        }
+    }
     add_bandwidths(&mut capacities, links)?;
     Ok(capacities)
 }

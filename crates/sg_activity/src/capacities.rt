@@ -5,26 +5,18 @@ ghost use Rattle.sg_chains.specs.Chained.{users_on};
 ghost use Rattle.sg_activity.specs.Hosts.{IsHost};
 ghost use Rattle.sg_activity.specs.Links.{at_bandwidth, at_speed};
 ghost use Rattle.sg_activity.specs.kept.Bounds.{HasFlows, Rebounds, Resets};
-ghost use Rattle.sg_activity.specs.kept.Index.{used_in};
-ghost use Rattle.sg_lives.specs.Pool.{slot_at};
-ghost use Rattle.sg_activity.specs.kept.Rows.{row_at};
-ghost use Rattle.sg_activity.specs.kept.Sound.{IsPlace, IsSound, place_at};
+ghost use Rattle.sg_activity.specs.kept.Asks.{IsPlacedAt};
+ghost use Rattle.sg_activity.specs.kept.Sound.{IsSound};
 ghost use Rattle.sg_activity.specs.kept.State.{asked_by, state_of};
 ghost use Rattle.sg_activity.specs.kept.Whole.{IsUsed};
 
 use crate::kept::Kept;
 use crate::routes::{bound_of, tighter, way_of};
-use sg_base::Steps;
 use sg_lives::{HostCap, LinkCap, Live, PhaseKind, takes_share};
-use std::marker::Brand;
-use std::sync::ledger::{Blank, Ledger};
 
 // What bounds the activity under a key, as its host or the links of its way are now.
 fn bound_now(kept: &Kept, key: usize, live: &Live) -> Option<u64>
-    requires key { key < length kept.now.index.rows }
-    requires place { IsPlace (state_of kept.now).capacities
-        (place_at (state_of kept.now) key live.now) }
-    requires row { row_at kept.now.index.rows key ≡ used_in kept.now key live.now }
+    requires { IsPlacedAt kept.now key live.now }
     ensures { result ≡ (asked_by (state_of kept.now) key live.now).bound }
 {
     match live.kind {
@@ -58,20 +50,16 @@ fn update_bound(kept: &mut Kept, key: usize)
 }
 
 // The flows of the activities that use a thing get the bounds that hold now.
-fn update_bounds<L: Ledger>(kept: &mut Kept, thing: usize, blank: Blank)
-    requires name { blank.name ≡ L.name }
-    requires parts { blank.parts ≡ L.parts }
-    requires some { 0 < blank.parts }
+fn update_bounds(kept: &mut Kept, thing: usize)
     requires thing { thing < length kept.old.index.users }
     requires keys { All (λ key. key < length kept.old.lives.slots)
         (users_on kept.old.index.users thing) }
     requires flows { HasFlows kept.old }
     ensures { Rebounds kept.old kept.new (users_on kept.old.index.users thing) }
 {
-    let mut steps = Steps::<L>::new(blank);
     let mut at = kept.index.first_on(thing);
     while let Some(i) = at {
-        let one = kept.index.look(i, &mut steps);
+        let one = kept.index.look(i);
         update_bound(kept, one.flow);
         at = one.next_on;
     }
@@ -91,7 +79,7 @@ pub(crate) fn set_speed(kept: &mut Kept, host: usize, speed: u64)
     let cap = kept.hosts[host];
     kept.hosts[host] = HostCap { speed, ..cap };
     kept.lazy.set_capacity(host, speed * u64::from(cap.cores));
-    update_bounds::<Brand>(kept, host, Blank::new(1));
+    update_bounds(kept, host);
     kept.settled = false;
 }
 
@@ -110,7 +98,7 @@ pub(crate) fn set_bandwidth(kept: &mut Kept, link: usize, bandwidth: u64)
     kept.links[link] = LinkCap { bandwidth, fatpipe };
     kept.lazy.set_capacity(resource, bandwidth);
     if fatpipe {
-        update_bounds::<Brand>(kept, resource, Blank::new(1));
+        update_bounds(kept, resource);
     }
     kept.settled = false;
 }

@@ -3,13 +3,13 @@
 ghost use Rattle.std.specs.Prelude.{◌≡◌, ◌≤◌, ◌<◌, ◌+◌, ℕ, [], All, IfOk, IsSome, None, OnOk, Some, length, slice_index_or};
 ghost use Rattle.sg_chains.specs.Chained.{times, users_on};
 ghost use Rattle.sg_chains.specs.Walk.{Leads, next_of_flow, next_on, resource_of, user_of};
-ghost use Rattle.sg_activity.specs.kept.Rows.{IsRow, IsWider, row_at, uses_at};
+ghost use Rattle.sg_activity.specs.kept.Rows.{IsEntered, IsWider, row_at, uses_at};
 
 use sg_base::{Memory, Steps};
 use sg_chains::{Chains, Use};
 use std::alloc::Global;
-use std::marker::Model;
-use std::sync::ledger::Ledger;
+use std::marker::{Brand, Model};
+use std::sync::ledger::{Blank, Ledger};
 
 // The uses of an activity: so many, from the first one on.
 #[derive(Clone, Copy)]
@@ -65,6 +65,18 @@ fn grow_rows(rows: &mut Vec<Uses>, n: usize) -> Result<(), Memory>
     Ok(())
 }
 
+// The use under a number of these chains, counted for nobody.
+fn look_from<L: Ledger>(chains: &Chains, i: usize, blank: Blank) -> Use
+    requires there { IsSome (slice_index_or chains.now.uses i None) }
+    requires name { blank.name ≡ L.name }
+    requires parts { blank.parts ≡ L.parts }
+    requires some { 0 < blank.parts }
+    ensures { slice_index_or chains.now.uses i None ≡ Some result }
+{
+    let mut steps = Steps::<L>::new(blank);
+    chains.look(i, &mut steps)
+}
+
 impl Index {
     /// There are so many things, and nothing uses them.
     pub(crate) fn new(alloc: Global, things: usize) -> Result<Index, Memory>
@@ -93,9 +105,7 @@ impl Index {
         requires idle { row_at self.old.rows key ≡ [] }
         requires exist { All (λ thing. thing < length self.old.users) things.now }
         requires room { length things.now ≤ self.old.room }
-        ensures row { IsRow self.old.rows self.new.rows key things.now }
-        ensures users { length self.new.users ≡ length self.old.users }
-        ensures room { self.new.room + length things.now ≡ self.old.room }
+        ensures { IsEntered self.old self.new key things.now }
     {
         let first = self.chains.add(key, things);
         self.rows[key] = Uses {
@@ -107,9 +117,7 @@ impl Index {
     /// The activity under a key uses nothing any more.
     pub(crate) fn leave(&mut self, key: usize)
         requires { key < length self.old.rows }
-        ensures row { IsRow self.old.rows self.new.rows key [] }
-        ensures users { length self.new.users ≡ length self.old.users }
-        ensures room { self.new.room ≡ self.old.room + length (row_at self.old.rows key) }
+        ensures { IsEntered self.old self.new key [] }
     {
         let row = self.rows[key];
         self.chains.remove(key, row.count, row.first);
@@ -136,12 +144,12 @@ impl Index {
         self.chains.first_on(thing)
     }
 
-    /// The use under a number.
-    pub(crate) fn look<L: Ledger>(&self, i: usize, steps: &mut Steps<L>) -> Use
+    /// The use under a number. No look is counted here.
+    pub(crate) fn look(&self, i: usize) -> Use
         requires { IsSome (slice_index_or self.now.uses i None) }
         ensures { slice_index_or self.now.uses i None ≡ Some result }
     {
-        self.chains.look(i, steps)
+        look_from::<Brand>(&self.chains, i, Blank::new(1))
     }
 
     /// A thing is used under a key as often as the key is among its users.

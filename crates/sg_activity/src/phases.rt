@@ -1,6 +1,6 @@
 //! Phases that are due, and their ends, and executions that are held.
 
-ghost use Rattle.std.specs.Prelude.{◌≡◌, ◌<◌, List, MatchOption, None, Option, Some};
+ghost use Rattle.std.specs.Prelude.{List, MatchOption, None, Option, Some};
 ghost use Rattle.sg_lives.specs.declared.kinds.PhaseKind.TheVariants as phase;
 ghost use Rattle.sg_activity.specs.kept.State.{state_of, task_of};
 ghost use Rattle.sg_activity.specs.Task.{next_phase, rekinded};
@@ -8,7 +8,8 @@ ghost use Rattle.sg_heap.specs.Agenda.{Key};
 ghost use Rattle.sg_activity.specs.kept.Hits.{AreHit};
 ghost use Rattle.sg_activity.specs.kept.Sound.{IsSound};
 ghost use Rattle.sg_activity.specs.kept.Ends.{Ends, GoesOn, IsFirst, IsIdle};
-ghost use Rattle.sg_activity.specs.kept.Whole.{IsLiveAt, IsUsed};
+ghost use Rattle.sg_activity.specs.kept.Whole.{IsUsed};
+ghost use Rattle.sg_activity.specs.kept.Asks.{AreKnown, CanEnd, IsHeldAt, IsPhaseAt};
 
 use crate::kept::Kept;
 use crate::renewal::left_at;
@@ -38,8 +39,7 @@ pub(crate) fn first_due(kept: &Kept) -> Option<(usize, Live)>
 
 // A latency is over, and the bytes of its communication begin to flow over its way.
 fn begin_flow(kept: &mut Kept, key: usize, live: Live)
-    requires kind { live.kind ≡ phase.Latency }
-    requires there { IsLiveAt kept.old key live }
+    requires { IsPhaseAt kept.old key live phase.Latency }
     ensures ends { Ends kept.old kept.new key live
         (next_phase live.kind (task_of (state_of kept.old) key live)) }
     ensures used { IsUsed kept.new kept.new.index }
@@ -73,11 +73,9 @@ fn begin_flow(kept: &mut Kept, key: usize, live: Live)
 
 /// The activity is done, or given up: its flow ends, it uses nothing, and its key is free.
 pub(crate) fn leave(kept: &mut Kept, hits: &mut Agenda, key: usize, live: Live)
-    requires there { IsLiveAt kept.old key live }
-    requires hit { AreHit kept.old hits.old }
+    requires { CanEnd kept.old hits.old key live }
     ensures ends { Ends kept.old kept.new key live None }
-    ensures used { IsUsed kept.new kept.new.index }
-    ensures hit { AreHit kept.new hits.new }
+    ensures known { AreKnown kept.new hits.new }
 {
     hits.clear(key);
     if takes_share(live.kind) {
@@ -93,12 +91,10 @@ pub(crate) fn leave(kept: &mut Kept, hits: &mut Agenda, key: usize, live: Live)
 
 /// Ends the phase of the activity under a key: a latency becomes a flow, and else the activity is done.
 pub(crate) fn end_phase(kept: &mut Kept, hits: &mut Agenda, key: usize, live: Live)
-    requires there { IsLiveAt kept.old key live }
-    requires hit { AreHit kept.old hits.old }
+    requires { CanEnd kept.old hits.old key live }
     ensures ends { Ends kept.old kept.new key live
         (next_phase live.kind (task_of (state_of kept.old) key live)) }
-    ensures used { IsUsed kept.new kept.new.index }
-    ensures hit { AreHit kept.new hits.new }
+    ensures known { AreKnown kept.new hits.new }
 {
     match live.kind {
         PhaseKind::Latency => begin_flow(kept, key, live),
@@ -110,8 +106,7 @@ pub(crate) fn end_phase(kept: &mut Kept, hits: &mut Agenda, key: usize, live: Li
 
 /// Holds an execution: its flow ends, and it keeps what is left of it.
 pub(crate) fn hold(kept: &mut Kept, key: usize, live: Live)
-    requires kind { live.kind ≡ phase.Exec }
-    requires there { IsLiveAt kept.old key live }
+    requires { IsPhaseAt kept.old key live phase.Exec }
     ensures ends { Ends kept.old kept.new key live
         (Some (rekinded phase.Kept (task_of (state_of kept.old) key live))) }
     ensures used { IsUsed kept.old kept.old.index → IsUsed kept.new kept.new.index }
@@ -135,9 +130,7 @@ pub(crate) fn hold(kept: &mut Kept, key: usize, live: Live)
 
 /// An execution that is held goes on: its flow begins, with what was left of it.
 pub(crate) fn go_on(kept: &mut Kept, key: usize, live: Live)
-    requires kind { live.kind ≡ phase.Kept }
-    requires there { IsLiveAt kept.old key live }
-    requires room { 0 < kept.old.room }
+    requires { IsHeldAt kept.old key live }
     ensures goes_on { GoesOn kept.old kept.new key live }
     ensures used { IsUsed kept.old kept.old.index → IsUsed kept.new kept.new.index }
     ensures hit { (hits : List (Option Key)) → AreHit kept.old hits → AreHit kept.new hits }

@@ -12,14 +12,13 @@ ghost use Rattle.sg_activity.specs.kept.Metered.{AreFirst, AreTold, IsMetered, n
 ghost use Rattle.sg_lives.specs.Pool.{slot_at};
 ghost use Rattle.sg_activity.specs.kept.State.{state_of, under_of};
 ghost use Rattle.sg_activity.specs.kept.Whole.{CanTell};
+ghost use Rattle.sg_activity.specs.kept.Asks.{CanMeter, CanTellOf};
 
 use crate::kept::Kept;
-use sg_base::{Marks, Memory, PointId, Steps};
+use sg_base::{Marks, Memory, PointId};
 use sg_energy::Meter;
 use sg_lives::{Live, PhaseKind, Power, takes_share};
 use std::alloc::Global;
-use std::marker::Brand;
-use std::sync::ledger::{Blank, Ledger};
 
 // The sum with the rate of the activity under a key, if it takes a share.
 fn with_rate(kept: &Kept, key: usize, sum: Option<u64>) -> Option<u64>
@@ -35,10 +34,7 @@ fn with_rate(kept: &Kept, key: usize, sum: Option<u64>) -> Option<u64>
 }
 
 // The sum of the rates of those that use a thing and take shares.
-fn sum_on<L: Ledger>(kept: &Kept, thing: usize, blank: Blank) -> Option<u64>
-    requires name { blank.name ≡ L.name }
-    requires parts { blank.parts ≡ L.parts }
-    requires some { 0 < blank.parts }
+fn sum_on(kept: &Kept, thing: usize) -> Option<u64>
     requires thing { thing < length kept.now.index.users }
     requires keys { All (λ key. key < length kept.now.lives.slots)
         (users_on kept.now.index.users thing) }
@@ -46,11 +42,10 @@ fn sum_on<L: Ledger>(kept: &Kept, thing: usize, blank: Blank) -> Option<u64>
         < 2 ^ 64 }
     ensures { result ≡ total (rates_of kept.now.lives.slots (users_on kept.now.index.users thing)) }
 {
-    let mut steps = Steps::<L>::new(blank);
     let mut sum = None;
     let mut at = kept.index.first_on(thing);
     while let Some(i) = at {
-        let one = kept.index.look(i, &mut steps);
+        let one = kept.index.look(i);
         sum = with_rate(kept, one.flow, sum);
         at = one.next_on;
     }
@@ -59,13 +54,12 @@ fn sum_on<L: Ledger>(kept: &Kept, thing: usize, blank: Blank) -> Option<u64>
 
 /// What the executions of a host get together; `None` where none takes a share.
 pub(crate) fn load(kept: &Kept, host: usize) -> Option<u64>
-    requires host { host < length kept.now.hosts.items }
-    requires tell { CanTell kept.now }
+    requires { CanTellOf kept.now host }
     ensures load { result ≡ load_spec (under_of (state_of kept.now)) host }
     ensures fits { IfSome result (λ load. load ≤ offer_of (host_at kept.now.hosts.items host)) }
 {
     kept.index.is_both_ways();
-    sum_on::<Brand>(kept, host, Blank::new(1))
+    sum_on(kept, host)
 }
 
 // The power of a host that is on, at its capacity and load.
@@ -87,8 +81,7 @@ fn power_by(power: Power, capacity: u64, load: Option<u64>) -> u64
 
 // The power of a host.
 fn power_of(kept: &Kept, host: usize) -> u64
-    requires host { host < length kept.now.hosts.items }
-    requires tell { CanTell kept.now }
+    requires { CanTellOf kept.now host }
     ensures power { result ≡ power_at (under_of (state_of kept.now)) host }
     ensures few { result ≤ 10 ^ 9 }
 {
@@ -106,10 +99,7 @@ fn power_of(kept: &Kept, host: usize) -> u64
 // Tells the meter the power of a host.
 fn set_power(kept: &Kept, meter: &mut Meter, host: usize)
     requires host { host < length kept.now.hosts.items }
-    requires few { length kept.now.hosts.items < 2 ^ 32 }
-    requires tell { CanTell kept.now }
-    requires meters { length meter.old ≡ length kept.now.hosts.items }
-    requires past { (meter_of meter.old host).since ≤ kept.now.date }
+    requires meter { CanMeter kept.now meter.old }
     ensures { meter.new ≡ slice_set meter.old host
         (with_power (power_at (under_of (state_of kept.now)) host) kept.now.date
         (meter_of meter.old host)) }
@@ -121,10 +111,7 @@ fn set_power(kept: &Kept, meter: &mut Meter, host: usize)
 // The same of all these hosts.
 fn set_each(kept: &Kept, meter: &mut Meter, hosts: &[usize])
     requires hosts { All (λ host. host < length kept.now.hosts.items) hosts.now }
-    requires few { length kept.now.hosts.items < 2 ^ 32 }
-    requires tell { CanTell kept.now }
-    requires meters { length meter.old ≡ length kept.now.hosts.items }
-    requires past { (host : ℕ) → (meter_of meter.old host).since ≤ kept.now.date }
+    requires meter { CanMeter kept.now meter.old }
     ensures { AreTold (under_of (state_of kept.now)) meter.old meter.new hosts.now }
 {
     for host in hosts {

@@ -1,10 +1,10 @@
 //! What is left of activities, and when they are due, as their rates change.
 
-ghost use Rattle.std.specs.Prelude.{◌≡◌, ◌<◌, ◌≤◌, ◌^◌, ℕ, All, length, slice_index, slice_set};
+ghost use Rattle.std.specs.Prelude.{◌≡◌, ◌<◌, ◌≤◌, ℕ, All, length, slice_index, slice_set};
 ghost use Rattle.std.specs.Int.{div_ceil};
 ghost use Rattle.sg_activity.specs.Underway.{wait as wait_spec};
 ghost use Rattle.sg_activity.specs.kept.Stamps.{due_of as due_of_spec, left_at as left_at_spec};
-ghost use Rattle.sg_activity.specs.kept.Renewal.{AreRestamped, AreRenewed, AreSmall, HaveKeys};
+ghost use Rattle.sg_activity.specs.kept.Renewal.{AreRestamped, AreRenewed, AreSmall, HaveKeys, IsSmall};
 ghost use Rattle.sg_activity.specs.kept.State.{date_of, due_at};
 
 use sg_base::{Marks, Serial};
@@ -39,8 +39,7 @@ fn wait(rate: u64, left: u128) -> Option<u128>
 
 // When nothing is left of an activity.
 fn spent_at(live: &Live) -> Option<u128>
-    requires amount { live.now.kept ≤ 10 ^ 24 }
-    requires stamp { live.now.stamp < 10 ^ 34 }
+    requires { IsSmall live.now }
     ensures { result ≡ due_of_spec live.now.stamp live.now.kept live.now.rate }
 {
     match wait(live.rate, live.kept) {
@@ -51,8 +50,7 @@ fn spent_at(live: &Live) -> Option<u128>
 
 // When a phase is over.
 fn due_of(live: &Live) -> Option<u128>
-    requires amount { live.now.kept ≤ 10 ^ 24 }
-    requires stamp { live.now.stamp < 10 ^ 34 }
+    requires { IsSmall live.now }
     ensures { result ≡ due_at live.now }
 {
     match live.kind {
@@ -136,8 +134,7 @@ pub(crate) fn renew(agenda: &mut Agenda, lives: &Lives, keys: &[usize])
 // Dates an activity: in the agenda it has the date at which it is due, if it ever is.
 fn date_anew(agenda: &mut Agenda, key: usize, live: &Live)
     requires key { key < length agenda.old }
-    requires amount { live.now.kept ≤ 10 ^ 24 }
-    requires stamp { live.now.stamp < 10 ^ 34 }
+    requires small { IsSmall live.now }
     ensures { agenda.new ≡ slice_set agenda.old key (date_of live.now) }
 {
     match due_of(live) {

@@ -10,10 +10,8 @@ ghost use Rattle.sg_activity.specs.Links.{bound_of_link, route_bound, shared_of}
 
 use crate::index::Index;
 use arrayvec::ArrayVec;
-use sg_base::{LinkId, Steps};
+use sg_base::LinkId;
 use sg_lives::LinkCap;
-use std::marker::Brand;
-use std::sync::ledger::{Blank, Ledger};
 
 /// The less of two bounds.
 pub(crate) fn tighter(bound: Option<u64>, other: Option<u64>) -> Option<u64>
@@ -108,33 +106,6 @@ fn put_link(links: &mut ArrayVec<LinkId, 64>, hosts: usize, place: usize, thing:
     }
 }
 
-// Writes the links of a way, as the index has it.
-fn read_way<L: Ledger>(
-    index: &Index,
-    key: usize,
-    hosts: usize,
-    links: &mut ArrayVec<LinkId, 64>,
-    blank: Blank,
-)
-    requires name { blank.name ≡ L.name }
-    requires parts { blank.parts ≡ L.parts }
-    requires some { 0 < blank.parts }
-    requires key { key < length index.now.rows }
-    requires way { IsWayRow hosts (row_at index.now.rows key) }
-    ensures { links.new.items ≡ way_in hosts (row_at index.now.rows key) }
-{
-    let mut steps = Steps::<L>::new(blank);
-    links.clear();
-    let mut place = 0;
-    let mut at = index.first_of(key);
-    while let Some(i) = at {
-        let one = index.look(i, &mut steps);
-        put_link(links, hosts, place, one.resource);
-        place += 1;
-        at = one.next_of_flow;
-    }
-}
-
 /// Writes the links of the way of the communication under a key, which the index has. In front of the links stand so
 /// many hosts.
 pub(crate) fn write_way(index: &Index, key: usize, hosts: usize, links: &mut ArrayVec<LinkId, 64>)
@@ -142,7 +113,15 @@ pub(crate) fn write_way(index: &Index, key: usize, hosts: usize, links: &mut Arr
     requires way { IsWayRow hosts (row_at index.now.rows key) }
     ensures { links.new.items ≡ way_in hosts (row_at index.now.rows key) }
 {
-    read_way::<Brand>(index, key, hosts, links, Blank::new(1));
+    links.clear();
+    let mut place = 0;
+    let mut at = index.first_of(key);
+    while let Some(i) = at {
+        let one = index.look(i);
+        put_link(links, hosts, place, one.resource);
+        place += 1;
+        at = one.next_of_flow;
+    }
 }
 
 /// The same links, for a caller that has no place for them.

@@ -1,26 +1,23 @@
 //! Hosts and links that go off and on, and the activities that use what is off.
 
-ghost use Rattle.std.specs.Prelude.{◌≡◌, ◌≤◌, ◌<◌, ◌+◌, ◌||◌, All, length, slice_set};
+ghost use Rattle.std.specs.Prelude.{◌≡◌, ◌<◌, ◌+◌, ◌||◌, All, length, slice_set};
 ghost use Rattle.std.specs.List.{list_any};
 ghost use Rattle.sg_base.specs.declared.ids.LinkId.{LinkId};
 ghost use Rattle.sg_chains.specs.Chained.{users_on};
 ghost use Rattle.sg_activity.specs.Links.{is_off};
 ghost use Rattle.sg_activity.specs.Task.{is_cut, uses_off as uses_off_spec};
-ghost use Rattle.sg_activity.specs.kept.Hits.{AreHit, AreLooked, ArePlaced, AreSwitches, Flips, hit_in};
-ghost use Rattle.sg_activity.specs.kept.Index.{used_in};
+ghost use Rattle.sg_activity.specs.kept.Hits.{AreLooked, AreSwitches, hit_in};
 ghost use Rattle.sg_lives.specs.Pool.{slot_at};
-ghost use Rattle.sg_activity.specs.kept.Rows.{row_at};
-ghost use Rattle.sg_activity.specs.kept.Sound.{IsPlace, place_at};
+ghost use Rattle.sg_activity.specs.kept.Sound.{place_at};
 ghost use Rattle.sg_activity.specs.kept.State.{links_at, state_of, ways_of};
-ghost use Rattle.sg_activity.specs.kept.Whole.{CanSwitch, IsUsed};
+ghost use Rattle.sg_activity.specs.kept.Whole.{CanSwitch};
+ghost use Rattle.sg_activity.specs.kept.Asks.{CanLook, IsPlacedAt, IsSwitched};
 
 use crate::kept::Kept;
 use crate::routes::way_of;
-use sg_base::{LinkId, Serial, Steps};
+use sg_base::{LinkId, Serial};
 use sg_heap::Agenda;
 use sg_lives::{Live, PhaseKind};
-use std::marker::Brand;
-use std::sync::ledger::{Blank, Ledger};
 
 // Whether one of the links is off.
 fn any_off(on: &[bool], links: &[LinkId]) -> bool
@@ -48,11 +45,8 @@ pub(crate) fn is_way_cut(kept: &Kept, links: &[LinkId], sender: usize, receiver:
 
 // Whether the activity under a key uses something that is off.
 fn uses_off(kept: &Kept, key: usize, live: &Live) -> bool
-    requires key { key < length kept.now.index.rows }
+    requires at { IsPlacedAt kept.now key live.now }
     requires switches { AreSwitches kept.now }
-    requires place { IsPlace (state_of kept.now).capacities
-        (place_at (state_of kept.now) key live.now) }
-    requires row { row_at kept.now.index.rows key ≡ used_in kept.now key live.now }
     ensures { result ≡ uses_off_spec (state_of kept.now).on
         (place_at (state_of kept.now) key live.now) }
 {
@@ -69,10 +63,7 @@ fn uses_off(kept: &Kept, key: usize, live: &Live) -> bool
 // Notes whether the activity under a key uses something that is off.
 fn update_hit(kept: &Kept, hits: &mut Agenda, key: usize)
     requires key { key < length kept.now.lives.slots }
-    requires used { IsUsed kept.now kept.now.index }
-    requires hits { length kept.now.lives.slots ≤ length hits.old }
-    requires switches { AreSwitches kept.now }
-    requires placed { ArePlaced kept.now }
+    requires look { CanLook kept.now hits.old }
     ensures { hits.new ≡ slice_set hits.old key
         (hit_in (state_of kept.now).on (links_at (ways_of kept.now) key)
         (slot_at kept.now.lives.slots key)) }
@@ -89,24 +80,17 @@ fn update_hit(kept: &Kept, hits: &mut Agenda, key: usize)
 }
 
 // The same of each activity that uses a thing.
-fn update_hits<L: Ledger>(kept: &Kept, hits: &mut Agenda, thing: usize, blank: Blank)
-    requires name { blank.name ≡ L.name }
-    requires parts { blank.parts ≡ L.parts }
-    requires some { 0 < blank.parts }
+fn update_hits(kept: &Kept, hits: &mut Agenda, thing: usize)
     requires thing { thing < length kept.now.index.users }
     requires keys { All (λ key. key < length kept.now.lives.slots)
         (users_on kept.now.index.users thing) }
-    requires used { IsUsed kept.now kept.now.index }
-    requires hits { length kept.now.lives.slots ≤ length hits.old }
-    requires switches { AreSwitches kept.now }
-    requires placed { ArePlaced kept.now }
+    requires look { CanLook kept.now hits.old }
     ensures { AreLooked (state_of kept.now).on kept.now.lives.slots (ways_of kept.now)
         hits.old hits.new (users_on kept.now.index.users thing) }
 {
-    let mut steps = Steps::<L>::new(blank);
     let mut at = kept.index.first_on(thing);
     while let Some(i) = at {
-        let one = kept.index.look(i, &mut steps);
+        let one = kept.index.look(i);
         update_hit(kept, hits, one.flow);
         at = one.next_on;
     }
@@ -116,29 +100,25 @@ fn update_hits<L: Ledger>(kept: &Kept, hits: &mut Agenda, thing: usize, blank: B
 pub(crate) fn set_host_on(kept: &mut Kept, hits: &mut Agenda, host: usize, on: bool)
     requires host { host < length kept.old.hosts.items }
     requires can { CanSwitch kept.old hits.old }
-    ensures flips { Flips kept.old kept.new
+    ensures { IsSwitched kept.old kept.new hits.new
         (record (state_of kept.old).on { hosts = slice_set kept.old.hosts_on.items host on }) }
-    ensures switches { AreSwitches kept.new }
-    ensures hit { AreHit kept.new hits.new }
 {
     kept.index.is_both_ways();
     let end = kept.hosts.len() + kept.links.len() + host;
     kept.hosts_on[host] = on;
-    update_hits::<Brand>(kept, hits, host, Blank::new(1));
-    update_hits::<Brand>(kept, hits, end, Blank::new(1));
+    update_hits(kept, hits, host);
+    update_hits(kept, hits, end);
 }
 
 /// Puts a link on or off.
 pub(crate) fn set_link_on(kept: &mut Kept, hits: &mut Agenda, link: usize, on: bool)
     requires link { link < length kept.old.links.items }
     requires can { CanSwitch kept.old hits.old }
-    ensures flips { Flips kept.old kept.new
+    ensures { IsSwitched kept.old kept.new hits.new
         (record (state_of kept.old).on { links = slice_set kept.old.links_on.items link on }) }
-    ensures switches { AreSwitches kept.new }
-    ensures hit { AreHit kept.new hits.new }
 {
     kept.index.is_both_ways();
     let thing = kept.hosts.len() + link;
     kept.links_on[link] = on;
-    update_hits::<Brand>(kept, hits, thing, Blank::new(1));
+    update_hits(kept, hits, thing);
 }

@@ -7,12 +7,12 @@ use Rattle.sg_base.specs.declared.trace_record.Record.{Record}
 use Rattle.sg_states.specs.declared.state.State.TheVariants.{Ended}
 use Rattle.sg_sync.specs.Objects.{Objects, waiting}
 use Rattle.sg_sync.proofs.Leaving.{waits_nowhere}
-use Rattle.sg_kernel.specs.Kills.{awaited, gives_up, kill_done, kill_stretches, kills_alive, withdrawn}
-use Rattle.sg_kernel.specs.Locks.{joiners_wake}
-use Rattle.sg_kernel.specs.Steps.{goes_on, each, all_of, at_once}
-use Rattle.sg_kernel.specs.World.{Core, IsActor, MayCall}
-use Rattle.sg_kernel.proofs.Alone.{kill_stretches_go}
-use Rattle.sg_kernel.proofs.Stated.{state_same}
+use Rattle.sg_calls.specs.Kills.{awaited, gives_up, kill_done, kill_stretches, kills_alive, withdrawn}
+use Rattle.sg_calls.specs.Locks.{joiners_wake}
+use Rattle.sg_calls.specs.Steps.{goes_on, each, all_of, at_once}
+use Rattle.sg_calls.specs.World.{Core, IsActor, MayCall}
+use Rattle.sg_calls.proofs.Alone.{kill_stretches_go}
+use Rattle.sg_calls.proofs.Stated.{state_same}
 use Rattle.sg_actor_laws.specs.Kills.{EndsBy, KillsEnd}
 use Rattle.sg_actor_laws.proofs.Dead.{IsDead, dead_rests}
 use Rattle.sg_actor_laws.proofs.Others.{let_go, stretches_spare}

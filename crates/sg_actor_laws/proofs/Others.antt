@@ -27,18 +27,19 @@ use Rattle.sg_states.specs.Records.{record_of}
 use Rattle.sg_sync.specs.declared.outcome.Outcome.{Outcome}
 use Rattle.sg_sync.specs.declared.outcome.Outcome.TheVariants.{GoesOn, Waits, Refused}
 use Rattle.sg_sync.specs.Objects.{Done, locked, unlocked, acquired, released, arrived}
-use Rattle.sg_kernel.specs.declared.meetings.Comer.{Comer}
-use Rattle.sg_kernel.specs.declared.owners.How.TheVariants as how
-use Rattle.sg_kernel.specs.declared.stop.Stop.{Stop}
-use Rattle.sg_kernel.specs.Answers.{answers_side, for_receiver, side_of, with_over}
-use Rattle.sg_kernel.specs.Calls.{actor_of, answered_call, computes, executed, executes}
-use Rattle.sg_kernel.specs.Kills.{awaited, gives_up, kill_done, kill_stretches, kills, kills_alive, withdrawn}
-use Rattle.sg_kernel.specs.Lives.{begins, created, joins_by, leaves}
-use Rattle.sg_kernel.specs.Locks.{all_wake, caller_first, caller_gets, caller_last, joiners_wake, with_objects}
-use Rattle.sg_kernel.specs.Meetings.{answer_of_over, both_fail, comer_fails, comes, comes_by, fails_with, joined, joins_over, joins_with, other_fails, posted, posts_at, receiver_of, receives_by, route_between, sender_of, sends_by, takes_part, takes_part_failed, waits_by, waits_until, way_with}
-use Rattle.sg_kernel.specs.Steps.{Step, goes_on, counted, and_then, each, all_of, at_once, blocked_by}
-use Rattle.sg_kernel.specs.Suspensions.{held_by, held_if, held_on, suspended_to}
-use Rattle.sg_kernel.specs.World.{Setup, Core, host_of, is_suspended, state_of, whose_at, with_suspended}
+use Rattle.sg_calls.specs.declared.meetings.Comer.{Comer}
+use Rattle.sg_owners.specs.declared.owners.How.TheVariants as how
+use Rattle.sg_calls.specs.declared.stop.Stop.{Stop}
+use Rattle.sg_calls.specs.Answers.{answers_side, for_receiver, side_of, with_over}
+use Rattle.sg_calls.specs.Calls.{actor_of, answered_call, computes, executed, executes}
+use Rattle.sg_calls.specs.Kills.{awaited, gives_up, kill_done, kill_stretches, kills, kills_alive, withdrawn}
+use Rattle.sg_calls.specs.Lives.{begins, created, joins_by, leaves}
+use Rattle.sg_calls.specs.Locks.{all_wake, caller_first, caller_gets, caller_last, joiners_wake, with_objects}
+use Rattle.sg_calls.specs.Meetings.{answer_of_over, both_fail, comer_fails, comes, comes_by, fails_with, joined, joins_over, joins_with, other_fails, posted, posts_at, receiver_of, receives_by, route_between, sender_of, sends_by, takes_part, takes_part_failed, waits_by, waits_until, way_with}
+use Rattle.sg_calls.specs.Steps.{Step, goes_on, counted, and_then, each, all_of, at_once, blocked_by}
+use Rattle.sg_calls.specs.Suspensions.{held_by, held_if, held_on, suspended_to}
+use Rattle.sg_setup.specs.Setup.{Setup}
+use Rattle.sg_calls.specs.World.{Core, host_of, is_suspended, state_of, whose_at, with_suspended}
 use Rattle.sg_actor_laws.specs.Dead.{IsOfAnother}
 use Rattle.sg_actor_laws.proofs.Kept.{Kept, Closed, Replying, Flowing, still, one_made, either, both, each_kept, none_kept, more_kept, all_kept, joiners_kept, side_kept, gives_up_kept}
 

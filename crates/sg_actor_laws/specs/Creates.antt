@@ -7,9 +7,9 @@ use Rattle.sg_base.specs.declared.ids.ActorId.{ActorId}
 use Rattle.sg_states.specs.declared.state.State.TheVariants.{Ready}
 use Rattle.sg_states.specs.Actors.{is_unstarted}
 use Rattle.sg_states.specs.Records.{record_of}
-use Rattle.sg_kernel.specs.Lives.{created}
-use Rattle.sg_kernel.specs.Steps.{Step}
-use Rattle.sg_kernel.specs.World.{Core, IsActor, MayCall, state_of}
+use Rattle.sg_calls.specs.Lives.{created}
+use Rattle.sg_calls.specs.Steps.{Step}
+use Rattle.sg_calls.specs.World.{Core, IsActor, MayCall, state_of}
 
 -- by whether the named actor was given a context
 abbrev pub answer_of_create : Bool → Answer

@@ -9,11 +9,12 @@ use Rattle.sg_requests.specs.Requested.{queue_at}
 use Rattle.sg_route.specs.Roads.{Roads}
 use Rattle.sg_states.specs.declared.state.State.TheVariants.{Ready, Ended}
 use Rattle.sg_states.specs.Actors.{is_unstarted}
-use Rattle.sg_kernel.specs.Calls.{answered, told}
-use Rattle.sg_kernel.specs.Lives.{created}
+use Rattle.sg_calls.specs.Calls.{answered, told}
+use Rattle.sg_calls.specs.Lives.{created}
 use Rattle.sg_kernel.specs.Passes.{pass_of}
-use Rattle.sg_kernel.specs.Steps.{Step}
-use Rattle.sg_kernel.specs.World.{Setup, Core, MayCall, state_of}
+use Rattle.sg_calls.specs.Steps.{Step}
+use Rattle.sg_setup.specs.Setup.{Setup}
+use Rattle.sg_calls.specs.World.{Core, MayCall, state_of}
 
 abbrev pub HasEnded : ℕ → Core → Type 0
 HasEnded actor core = state_of core actor ≡ Ended

@@ -4,9 +4,9 @@ use Rattle.sg_base.specs.declared.ids.ActorId.{ActorId}
 use Rattle.sg_requests.specs.Requested.{queue_at}
 use Rattle.sg_states.specs.Actors.{is_alive}
 use Rattle.sg_sync.specs.Objects.{waiting}
-use Rattle.sg_kernel.specs.Kills.{kills}
-use Rattle.sg_kernel.specs.Steps.{Step}
-use Rattle.sg_kernel.specs.World.{Core, IsActor, MayCall, state_of}
+use Rattle.sg_calls.specs.Kills.{kills}
+use Rattle.sg_calls.specs.Steps.{Step}
+use Rattle.sg_calls.specs.World.{Core, IsActor, MayCall, state_of}
 use Rattle.sg_actor_laws.specs.Dead.{HasEnded, IsOfAnother}
 
 -- It has ended, and there was no other event; no record is of it, it has no requests, waits nowhere, and the mutexes have the owners that they had.

@@ -19,15 +19,15 @@ use Rattle.sg_states.specs.Actors.{blocking_in, is_id, joined_by, joined_in, joi
 use Rattle.sg_sync.specs.Objects.{Objects, waiting}
 use Rattle.sg_sync.specs.Queues.{times}
 use Rattle.sg_sync.proofs.Counts.{id_same, one_same, times_cons}
-use Rattle.sg_kernel.specs.declared.owners.How.{How}
-use Rattle.sg_kernel.specs.declared.owners.Whose.{Whose}
-use Rattle.sg_kernel.specs.declared.owners.Whose.TheVariants.{Over, Alone, Posted, Pair}
-use Rattle.sg_kernel.specs.declared.stop.Stop.{Stop}
-use Rattle.sg_kernel.specs.Answers.{answer_to, answers, answers_by, answers_side, bare_side, finishes, for_receiver, is_on, party_eq, tells_bytes, with_over}
-use Rattle.sg_kernel.specs.Kills.{blocked_on}
-use Rattle.sg_kernel.specs.Locks.{all_wake, joiners_wake, wakes, wakes_from}
-use Rattle.sg_kernel.specs.Steps.{Step, goes_on, follows, and_then, each, replied}
-use Rattle.sg_kernel.specs.World.{Core, state_of, whose_at, with_state}
+use Rattle.sg_owners.specs.declared.owners.How.{How}
+use Rattle.sg_owners.specs.declared.owners.Whose.{Whose}
+use Rattle.sg_owners.specs.declared.owners.Whose.TheVariants.{Over, Alone, Posted, Pair}
+use Rattle.sg_calls.specs.declared.stop.Stop.{Stop}
+use Rattle.sg_calls.specs.Answers.{answer_to, answers, answers_by, answers_side, bare_side, finishes, for_receiver, is_on, party_eq, tells_bytes, with_over}
+use Rattle.sg_calls.specs.Kills.{blocked_on}
+use Rattle.sg_calls.specs.Locks.{all_wake, joiners_wake, wakes, wakes_from}
+use Rattle.sg_calls.specs.Steps.{Step, goes_on, follows, and_then, each, replied}
+use Rattle.sg_calls.specs.World.{Core, state_of, whose_at, with_state}
 use Rattle.sg_await_laws.specs.Awaits.{names}
 use Rattle.sg_actor_laws.proofs.Others.{same_state}
 use Rattle.sg_await_laws.proofs.Awaiting.{AreAwaited, AreHeld, Has, IsAwaited, IsCaller, IsFree, JoinsAlone, MayStand, Nobody, awaited_ready, caller_put, fewer_stand, places_for, put_long, put_there, serials_in}

@@ -23,20 +23,21 @@ use Rattle.sg_sync.specs.Objects.{Objects, acquired, locked, released, unlocked,
 use Rattle.sg_sync.specs.Queues.{times}
 use Rattle.sg_sync.proofs.Counts.{id_same}
 use Rattle.sg_sync.proofs.Leaving.{times_stays, waits_nowhere, waits_stays}
-use Rattle.sg_kernel.specs.declared.owners.How.TheVariants as how
-use Rattle.sg_kernel.specs.declared.owners.Whose.{Whose}
-use Rattle.sg_kernel.specs.declared.owners.Whose.TheVariants.{Over, Alone, Posted, Pair}
-use Rattle.sg_kernel.specs.declared.stop.Stop.TheVariants.{Budget}
-use Rattle.sg_kernel.specs.Answers.{finishes, side_of}
-use Rattle.sg_kernel.specs.Calls.{actor_of, alone, answer_of_ask, answered, answered_call, blocks_on, computes, executes, told, with_execution}
-use Rattle.sg_kernel.specs.Kills.{awaited, blocked_on, gives_up, gives_up_by, kill_done, kill_stretches, kills, withdrawn}
-use Rattle.sg_kernel.specs.Lives.{begins, created, joins_by, leaves}
-use Rattle.sg_kernel.specs.Locks.{joiners_wake}
-use Rattle.sg_kernel.specs.Meetings.{receives_by, sends_by}
-use Rattle.sg_kernel.specs.Steps.{Step, goes_on, stops, counted, each, all_of, at_once, readied}
-use Rattle.sg_kernel.specs.Suspensions.{held_by, held_if, held_on, held_to, suspended_to}
-use Rattle.sg_kernel.specs.World.{Setup, Core, MayCall, host_of, is_suspended, state_of, whose_at, with_suspended}
-use Rattle.sg_kernel.proofs.Each.{each_on}
+use Rattle.sg_owners.specs.declared.owners.How.TheVariants as how
+use Rattle.sg_owners.specs.declared.owners.Whose.{Whose}
+use Rattle.sg_owners.specs.declared.owners.Whose.TheVariants.{Over, Alone, Posted, Pair}
+use Rattle.sg_calls.specs.declared.stop.Stop.TheVariants.{Budget}
+use Rattle.sg_calls.specs.Answers.{finishes, side_of}
+use Rattle.sg_calls.specs.Calls.{actor_of, alone, answer_of_ask, answered, answered_call, blocks_on, computes, executes, told, with_execution}
+use Rattle.sg_calls.specs.Kills.{awaited, blocked_on, gives_up, gives_up_by, kill_done, kill_stretches, kills, withdrawn}
+use Rattle.sg_calls.specs.Lives.{begins, created, joins_by, leaves}
+use Rattle.sg_calls.specs.Locks.{joiners_wake}
+use Rattle.sg_calls.specs.Meetings.{receives_by, sends_by}
+use Rattle.sg_calls.specs.Steps.{Step, goes_on, stops, counted, each, all_of, at_once, readied}
+use Rattle.sg_calls.specs.Suspensions.{held_by, held_if, held_on, held_to, suspended_to}
+use Rattle.sg_setup.specs.Setup.{Setup}
+use Rattle.sg_calls.specs.World.{Core, MayCall, host_of, is_suspended, state_of, whose_at, with_suspended}
+use Rattle.sg_calls.proofs.Each.{each_on}
 use Rattle.sg_await_laws.specs.Awaits.{names}
 use Rattle.sg_await_laws.proofs.Answered.{after_both, awaited_finish, awaited_joiners}
 use Rattle.sg_actor_laws.proofs.Others.{same_marked, same_state}

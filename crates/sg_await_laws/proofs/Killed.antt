@@ -5,11 +5,11 @@ use Rattle.sg_base.specs.declared.call.Call.TheVariants as call
 use Rattle.sg_base.specs.declared.ids.ActorId.{ActorId}
 use Rattle.sg_route.specs.Roads.{roads_of}
 use Rattle.sg_states.specs.Actors.{is_alive, is_ended}
-use Rattle.sg_kernel.specs.declared.stop.Stop.{Stop}
-use Rattle.sg_kernel.specs.Calls.{answered}
-use Rattle.sg_kernel.specs.Start.{setup_of}
-use Rattle.sg_kernel.specs.Steps.{Step}
-use Rattle.sg_kernel.specs.World.{Core, IsActor, Setup, state_of}
+use Rattle.sg_calls.specs.declared.stop.Stop.{Stop}
+use Rattle.sg_calls.specs.Calls.{answered}
+use Rattle.sg_setup.specs.Setup.{setup_of, Setup}
+use Rattle.sg_calls.specs.Steps.{Step}
+use Rattle.sg_calls.specs.World.{Core, IsActor, state_of}
 use Rattle.sg_engine.specs.World.{World}
 use Rattle.sg_engine.specs.declared.ended.Ended.{Ended}
 use Rattle.sg_engine.specs.Run.{Progress, and_then_by, ask_step, ended_by, in_world, one_call, with_front}

@@ -10,7 +10,7 @@ use Rattle.sg_states.specs.declared.state.State.{State}
 use Rattle.sg_states.specs.declared.state.State.TheVariants as state
 use Rattle.sg_states.specs.Actors.{is_alive, is_answered, is_ended, is_over, is_ready, not_suspended}
 use Rattle.sg_kernel.specs.Passes.{pass_of}
-use Rattle.sg_kernel.specs.World.{Core, MayCall, state_of}
+use Rattle.sg_calls.specs.World.{Core, MayCall, state_of}
 use Rattle.sg_engine.specs.World.{World}
 use Rattle.sg_engine.specs.declared.ended.Ended.{Ended}
 use Rattle.sg_engine.specs.declared.ended.Ended.TheVariants as ended

@@ -17,15 +17,16 @@ use Rattle.sg_route.specs.declared.router.RouteFault.{RouteFault}
 use Rattle.sg_route.specs.Roads.{Roads}
 use Rattle.sg_route.specs.Route.{Route}
 use Rattle.sg_states.specs.Actors.{joined_by}
-use Rattle.sg_kernel.specs.declared.meetings.Comer.{Comer}
-use Rattle.sg_kernel.specs.declared.owners.How.TheVariants as how
-use Rattle.sg_kernel.specs.declared.owners.Whose.{Whose}
-use Rattle.sg_kernel.specs.declared.owners.Whose.TheVariants.{Over, Alone, Posted, Pair}
-use Rattle.sg_kernel.specs.Answers.{answers_side, for_receiver, with_over}
-use Rattle.sg_kernel.specs.Meetings.{answer_of_over, asks_for, await, both_fail, comer_fails, comes, comes_by, comm_over, fails_with, joined, joins_over, joins_with, other_fails, posted, posts_at, receiver_of, route_between, sender_of, takes_part, takes_part_failed, waits_by, waits_until, way_with}
-use Rattle.sg_kernel.specs.Steps.{Step, counted, and_then}
-use Rattle.sg_kernel.specs.World.{Setup, Core, whose_at}
-use Rattle.sg_kernel.proofs.Postings.{found_post}
+use Rattle.sg_calls.specs.declared.meetings.Comer.{Comer}
+use Rattle.sg_owners.specs.declared.owners.How.TheVariants as how
+use Rattle.sg_owners.specs.declared.owners.Whose.{Whose}
+use Rattle.sg_owners.specs.declared.owners.Whose.TheVariants.{Over, Alone, Posted, Pair}
+use Rattle.sg_calls.specs.Answers.{answers_side, for_receiver, with_over}
+use Rattle.sg_calls.specs.Meetings.{answer_of_over, asks_for, await, both_fail, comer_fails, comes, comes_by, comm_over, fails_with, joined, joins_over, joins_with, other_fails, posted, posts_at, receiver_of, route_between, sender_of, takes_part, takes_part_failed, waits_by, waits_until, way_with}
+use Rattle.sg_calls.specs.Steps.{Step, counted, and_then}
+use Rattle.sg_setup.specs.Setup.{Setup}
+use Rattle.sg_calls.specs.World.{Core, whose_at}
+use Rattle.sg_calls.proofs.Postings.{found_post}
 use Rattle.sg_actor_laws.proofs.Kept.{either, side_kept}
 use Rattle.sg_await_laws.specs.Awaits.{names}
 use Rattle.sg_await_laws.proofs.Answered.{after_both, awaited_side, caller_replying}

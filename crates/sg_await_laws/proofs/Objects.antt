@@ -15,10 +15,10 @@ use Rattle.sg_sync.specs.Objects.{Objects, Done, acquired, arrived, count_of, lo
 use Rattle.sg_sync.specs.Queues.{behind, front, queue_at, times, waits}
 use Rattle.sg_sync.proofs.Counts.{one, one_other, times_cons}
 use Rattle.sg_sync.proofs.Losses.{acquired_keeps, arrived_keeps, locked_keeps, released_keeps, unlocked_keeps}
-use Rattle.sg_kernel.specs.Calls.{actor_of}
-use Rattle.sg_kernel.specs.Locks.{all_wake, caller_first, caller_gets, caller_last, with_objects}
-use Rattle.sg_kernel.specs.Steps.{each}
-use Rattle.sg_kernel.specs.World.{Core, state_of, with_state}
+use Rattle.sg_calls.specs.Calls.{actor_of}
+use Rattle.sg_calls.specs.Locks.{all_wake, caller_first, caller_gets, caller_last, with_objects}
+use Rattle.sg_calls.specs.Steps.{each}
+use Rattle.sg_calls.specs.World.{Core, state_of, with_state}
 use Rattle.sg_actor_laws.proofs.Kept.{all_kept}
 use Rattle.sg_await_laws.proofs.Answered.{after_both, awaited_woken, caller_replying, woken_after}
 use Rattle.sg_await_laws.proofs.Awaiting.{AreAwaited, IsCaller, JoinsAlone, MayStand, Nobody, awaited_put, awaited_ready, fewer_stand, places_for, put_at, put_long, put_there}

@@ -6,14 +6,14 @@ use Rattle.sg_base.specs.declared.call.Answer.TheVariants as answer
 use Rattle.sg_base.specs.declared.call.Call.TheVariants as call
 use Rattle.sg_base.specs.declared.ids.ActorId.{ActorId}
 use Rattle.sg_base.specs.declared.trace_record.Record.{Record}
-use Rattle.sg_kernel.specs.declared.owners.How.{How}
-use Rattle.sg_kernel.specs.declared.owners.How.TheVariants as how
-use Rattle.sg_kernel.specs.declared.owners.Whose.{Whose}
-use Rattle.sg_kernel.specs.declared.owners.Whose.TheVariants.{Over, Alone, Posted, Pair}
-use Rattle.sg_kernel.specs.Kills.{gives_up, gives_up_by, kill_done}
-use Rattle.sg_kernel.specs.Steps.{Step, goes_on, follows, and_then, at_once}
-use Rattle.sg_kernel.specs.World.{Core, whose_at}
-use Rattle.sg_kernel.proofs.Ends.{finishes_goes}
+use Rattle.sg_owners.specs.declared.owners.How.{How}
+use Rattle.sg_owners.specs.declared.owners.How.TheVariants as how
+use Rattle.sg_owners.specs.declared.owners.Whose.{Whose}
+use Rattle.sg_owners.specs.declared.owners.Whose.TheVariants.{Over, Alone, Posted, Pair}
+use Rattle.sg_calls.specs.Kills.{gives_up, gives_up_by, kill_done}
+use Rattle.sg_calls.specs.Steps.{Step, goes_on, follows, and_then, at_once}
+use Rattle.sg_calls.specs.World.{Core, whose_at}
+use Rattle.sg_calls.proofs.Finishes.{finishes_goes}
 use Rattle.sg_await_laws.specs.Awaits.{names}
 use Rattle.sg_actor_laws.proofs.Kept.{Replying, one_made}
 

@@ -15,13 +15,14 @@ use Rattle.sg_states.specs.Actors.{first_actor, not_suspended}
 use Rattle.sg_sync.specs.Objects.{waiting}
 use Rattle.sg_sync.specs.Queues.{times}
 use Rattle.sg_sync.proofs.Counts.{nobody_waits}
-use Rattle.sg_kernel.specs.declared.stop.Stop.TheVariants.{Budget}
-use Rattle.sg_kernel.specs.Calls.{answered}
-use Rattle.sg_kernel.specs.Kills.{awaited, kills}
+use Rattle.sg_calls.specs.declared.stop.Stop.TheVariants.{Budget}
+use Rattle.sg_calls.specs.Calls.{answered}
+use Rattle.sg_calls.specs.Kills.{awaited, kills}
 use Rattle.sg_kernel.specs.Passes.{pass_of}
-use Rattle.sg_kernel.specs.Start.{capacities_in, first_core, first_objects, home_of}
-use Rattle.sg_kernel.specs.Steps.{Step, stops, counted}
-use Rattle.sg_kernel.specs.World.{Setup, Core, state_of, whose_at}
+use Rattle.sg_kernel.specs.Start.{capacities_in, first_core, first_objects}
+use Rattle.sg_setup.specs.Setup.{home_of, Setup}
+use Rattle.sg_calls.specs.Steps.{Step, stops, counted}
+use Rattle.sg_calls.specs.World.{Core, state_of, whose_at}
 use Rattle.sg_actor_laws.specs.Dead.{HasEnded, LeavesDead}
 use Rattle.sg_actor_laws.specs.Kills.{EndsBy}
 use Rattle.sg_actor_laws.proofs.Dead.{dead_stay_dead}

@@ -10,9 +10,9 @@ use Rattle.sg_base.specs.declared.ids.ActorId.{ActorId}
 use Rattle.sg_states.specs.declared.state.Actor.{Actor}
 use Rattle.sg_states.specs.declared.state.State.TheVariants.{Ready, Ended}
 use Rattle.sg_states.specs.Actors.{is_answered, is_ended, is_unstarted, not_suspended}
-use Rattle.sg_kernel.specs.Calls.{answered, told}
-use Rattle.sg_kernel.specs.Lives.{created}
-use Rattle.sg_kernel.specs.World.{Core, MayCall, state_of}
+use Rattle.sg_calls.specs.Calls.{answered, told}
+use Rattle.sg_calls.specs.Lives.{created}
+use Rattle.sg_calls.specs.World.{Core, MayCall, state_of}
 use Rattle.sg_script.specs.Stands.{one_more}
 use Rattle.sg_script.specs.declared.fault.ScriptFault.{ScriptFault}
 use Rattle.sg_engine.specs.World.{World}

@@ -1,8 +1,9 @@
 -- The laws of runs.
 use Rattle.std.proofs.Common.{ℕ, ◌+◌}
 use Rattle.sg_route.specs.Roads.{roads_of}
-use Rattle.sg_kernel.specs.Start.{capacities_in, first_core, setup_of}
-use Rattle.sg_kernel.specs.World.{Core}
+use Rattle.sg_kernel.specs.Start.{capacities_in, first_core}
+use Rattle.sg_setup.specs.Setup.{setup_of}
+use Rattle.sg_calls.specs.World.{Core}
 use Rattle.sg_engine.specs.Run.{and_then}
 use Rattle.sg_await_laws.specs.Reached.{Reached, Reaches, here}
 use Rattle.sg_await_laws.proofs.Reached.{ended_are_unnamed, named_are_awaited, starts_are_reached}

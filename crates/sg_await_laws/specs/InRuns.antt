@@ -3,8 +3,8 @@ use Rattle.std.specs.Prelude.{◌≡◌, ℕ, ◌+◌, []}
 use Rattle.sg_base.specs.declared.ids.ActorId.{ActorId}
 use Rattle.sg_requests.specs.Requested.{queue_at}
 use Rattle.sg_route.specs.Roads.{roads_of}
-use Rattle.sg_kernel.specs.Start.{setup_of}
-use Rattle.sg_kernel.specs.World.{Core}
+use Rattle.sg_setup.specs.Setup.{setup_of}
+use Rattle.sg_calls.specs.World.{Core}
 use Rattle.sg_actor_laws.specs.Dead.{HasEnded}
 use Rattle.sg_await_laws.specs.Awaits.{AwaitsAll, IsUnnamed}
 use Rattle.sg_await_laws.specs.Reached.{Reached}

@@ -8,11 +8,12 @@ use Rattle.sg_route.specs.Roads.{Roads}
 use Rattle.sg_rows.specs.Deployment.{Deployed}
 use Rattle.sg_rows.specs.Platform.{Platform}
 use Rattle.sg_states.specs.Actors.{is_unstarted}
-use Rattle.sg_kernel.specs.Calls.{answered, told}
-use Rattle.sg_kernel.specs.Lives.{created}
+use Rattle.sg_calls.specs.Calls.{answered, told}
+use Rattle.sg_calls.specs.Lives.{created}
 use Rattle.sg_kernel.specs.Passes.{pass_of}
-use Rattle.sg_kernel.specs.Start.{capacities_in, first_core, setup_of}
-use Rattle.sg_kernel.specs.World.{Setup, Core, MayCall, state_of}
+use Rattle.sg_kernel.specs.Start.{capacities_in, first_core}
+use Rattle.sg_setup.specs.Setup.{setup_of, Setup}
+use Rattle.sg_calls.specs.World.{Core, MayCall, state_of}
 
 -- A run reaches a core from another: by calls of actors that may call, actors that are created, Asks that are answered, and passes, with the premises that the kernel's functions have.
 pub data Reaches (roads : Roads) (setup : Setup) (start : Core) : Core → Type 0 where

@@ -7,7 +7,7 @@ use Rattle.sg_engine.specs.Fuel.{parts_from}
 use Rattle.sg_engine.specs.Output.{first_of, scene_of}
 use Rattle.sg_engine.specs.Run.{Answering, Progress, Scene, and_then, call_after, calls_from, inboxes, mind_after, run_of, zip_with}
 use Rattle.sg_engine.specs.World.{World}
-use Rattle.sg_kernel.specs.World.{Core, IsActor, state_of}
+use Rattle.sg_calls.specs.World.{Core, IsActor, state_of}
 use Rattle.sg_rows.specs.Deployment.{Deployed}
 use Rattle.sg_rows.specs.Platform.{Platform}
 use Rattle.sg_states.specs.Actors.{is_alive, is_ended}

@@ -1,11 +1,9 @@
 //! All uses: each stands in the chain of its flow and in that of its resource.
 ghost use Rattle.std.specs.Prelude.{◌≡◌, ◌≤◌, ◌<◌, ◌+◌, ◌∷◌, ℕ, [], All, length, None, Some, IsSome, IfOk, OnOk, replicate, slice_index_or};
-ghost use Rattle.slab.specs.Slab.{HasRoomFor, slab_len};
 ghost use Rattle.sg_chains.specs.Chain.{IsChain, KeepsChains, resources};
 ghost use Rattle.sg_chains.specs.Chained.{GainsUses, users_on};
 ghost use Rattle.sg_chains.specs.Walk.{Leads, next_on, resource_of, user_of};
-ghost use Rattle.sg_chains.specs.kept.Cells.{nothing};
-ghost use Rattle.sg_chains.specs.kept.Linked.{AreGained, AreLists, uses_of};
+ghost use Rattle.sg_chains.specs.kept.Linked.{AreGained, AreLists, CanHold, HoldsMore, uses_of};
 
 use crate::links::{link, unlink};
 use crate::slots::Slots;
@@ -53,17 +51,14 @@ fn add_uses(
     flow: usize,
     uses: &[usize],
 ) -> Option<usize>
-    requires lists { AreLists slots.old.slots on.old }
+    requires can { CanHold (length uses.now) slots.old on.old }
     requires exist { All (λ resource. resource < length on.old) uses.now }
-    requires few { length on.old ≤ nothing }
-    requires room { HasRoomFor slots.old (length uses.now) }
     ensures is { IsChain flow (length uses.now) (uses_of slots.new.slots) result }
     ensures resources { resources (length uses.now) (uses_of slots.new.slots) result ≡ uses.now }
     ensures kept { KeepsChains (uses_of slots.old.slots) (uses_of slots.new.slots) flow }
     ensures lists { AreLists slots.new.slots on.new }
     ensures users { AreGained slots.old.slots slots.new.slots on.old on.new flow uses.now }
-    ensures len { slab_len slots.new ≡ slab_len slots.old + length uses.now }
-    ensures capacity { slots.new.capacity ≡ slots.old.capacity }
+    ensures more { HoldsMore (length uses.now) slots.old slots.new }
 {
     let mut first = None;
     let mut left = uses.len();
@@ -88,8 +83,7 @@ fn remove_uses(
     ensures lists { AreLists slots.new.slots on.new }
     ensures users { AreGained slots.new.slots slots.old.slots on.new on.old flow
         (resources count (uses_of slots.old.slots) first) }
-    ensures len { slab_len slots.new + count ≡ slab_len slots.old }
-    ensures capacity { slots.new.capacity ≡ slots.old.capacity }
+    ensures less { HoldsMore count slots.new slots.old }
 {
     let mut at = first;
     for done in 0..count {

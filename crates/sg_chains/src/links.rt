@@ -1,8 +1,8 @@
 //! Slots come and go in the chain of their resource, in a fixed number of steps each.
-ghost use Rattle.std.specs.Prelude.{◌≡◌, ◌≢◌, ◌<◌, ◌≤◌, ◌+◌, ℕ, length, None, Some, IsSome, option_map, slice_index_or, slice_set};
-ghost use Rattle.slab.specs.Slab.{get, slab_len, HasRoomFor};
+ghost use Rattle.std.specs.Prelude.{◌≡◌, ◌≢◌, ◌<◌, ℕ, length, None, Some, IsSome, option_map, slice_index_or, slice_set};
+ghost use Rattle.slab.specs.Slab.{get};
 ghost use Rattle.sg_chains.specs.kept.Cells.{IsSmall, nothing};
-ghost use Rattle.sg_chains.specs.kept.Linked.{with_next, with_prev, PointsFrom, AreLists, GainsOne, LosesOne, SameBut, flow_part, use_from, uses_of};
+ghost use Rattle.sg_chains.specs.kept.Linked.{AreLists, CanHold, GainsOne, HoldsMore, KeepsRoom, LosesOne, PointsFrom, SameBut, flow_part, use_from, uses_of, with_next, with_prev};
 
 use crate::slots::{Slot, Slots};
 
@@ -20,8 +20,7 @@ fn point_next(
     ensures changed { (x : ℕ) → prev ≡ Some x →
         get slots.new x ≡ option_map (with_next next) (get slots.old x) }
     ensures others { (x : ℕ) → prev ≢ Some x → get slots.new x ≡ get slots.old x }
-    ensures len { slab_len slots.new ≡ slab_len slots.old }
-    ensures capacity { slots.new.capacity ≡ slots.old.capacity }
+    ensures kept { KeepsRoom slots.old slots.new }
 {
     match prev {
         None => on[resource] = next,
@@ -35,8 +34,7 @@ fn point_prev(slots: &mut Slots, next: Option<usize>, prev: Option<usize>)
     ensures changed { (x : ℕ) → next ≡ Some x →
         get slots.new x ≡ option_map (with_prev prev) (get slots.old x) }
     ensures others { (x : ℕ) → next ≢ Some x → get slots.new x ≡ get slots.old x }
-    ensures len { slab_len slots.new ≡ slab_len slots.old }
-    ensures capacity { slots.new.capacity ≡ slots.old.capacity }
+    ensures kept { KeepsRoom slots.old slots.new }
 {
     if let Some(at) = next {
         slots.set_prev(at, prev);
@@ -51,19 +49,16 @@ pub(crate) fn link(
     resource: usize,
     next_of_flow: Option<usize>,
 ) -> usize
-    requires lists { AreLists slots.old.slots on.old }
+    requires can { CanHold 1 slots.old on.old }
     requires in_range { resource < length on.old }
-    requires few { length on.old ≤ nothing }
     requires next { IsSmall next_of_flow }
-    requires room { HasRoomFor slots.old 1 }
     ensures gains { GainsOne slots.old.slots slots.new.slots on.old on.new resource flow }
     ensures free { get slots.old result ≡ None }
     ensures small { result < nothing }
     ensures made { option_map flow_part (slice_index_or (uses_of slots.new.slots) result None)
         ≡ Some (use_from flow resource next_of_flow) }
     ensures others { SameBut (uses_of slots.old.slots) (uses_of slots.new.slots) result }
-    ensures len { slab_len slots.new ≡ slab_len slots.old + 1 }
-    ensures capacity { slots.new.capacity ≡ slots.old.capacity }
+    ensures more { HoldsMore 1 slots.old slots.new }
 {
     // what leads to a slot is the number of one
     let _numbers = slots.numbers();
@@ -88,8 +83,7 @@ pub(crate) fn unlink(slots: &mut Slots, on: &mut [Option<usize>], i: usize) -> S
     ensures loses { LosesOne slots.old.slots slots.new.slots on.old on.new
         result.resource result.flow }
     ensures others { SameBut (uses_of slots.old.slots) (uses_of slots.new.slots) i }
-    ensures len { slab_len slots.new + 1 ≡ slab_len slots.old }
-    ensures capacity { slots.new.capacity ≡ slots.old.capacity }
+    ensures less { HoldsMore 1 slots.new slots.old }
 {
     let slot = slots.remove(i);
     point_next(slots, on, slot.resource, slot.prev_on, slot.next_on);

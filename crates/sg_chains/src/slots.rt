@@ -3,7 +3,7 @@ ghost use Rattle.std.specs.Prelude.{◌≡◌, ◌≢◌, ◌≤◌, ◌<◌, �
 ghost use Rattle.slab.specs.declared.Entry.TheVariants.{Occupied};
 ghost use Rattle.slab.specs.Slab.{get, slab_len, HasRoomFor, Updates};
 ghost use Rattle.sg_chains.specs.kept.Cells.{AreSmall, IsSmall, entry_of, nothing, slot_in as slot_in_spec};
-ghost use Rattle.sg_chains.specs.kept.Linked.{with_next, with_prev};
+ghost use Rattle.sg_chains.specs.kept.Linked.{KeepsRoom, with_next, with_prev};
 
 use crate::cells::{Cell, cell_with, code_of, free_cell, is_free, slot_in};
 use sg_base::Memory;
@@ -147,8 +147,7 @@ impl Slots {
         requires there { IsSome (get self.old i) }
         requires slot { entry_of cell ≡ Occupied (slot_in_spec cell) }
         ensures updates { Updates self.old self.new i (Some (slot_in_spec cell)) }
-        ensures len { slab_len self.new ≡ slab_len self.old }
-        ensures capacity { self.new.capacity ≡ self.old.capacity }
+        ensures kept { KeepsRoom self.old self.new }
     {
         self.cells[i] = cell;
     }
@@ -158,8 +157,7 @@ impl Slots {
         requires { IsSmall next }
         ensures changed { get self.new i ≡ option_map (with_next next) (get self.old i) }
         ensures others { (other : ℕ) → other ≢ i → get self.new other ≡ get self.old other }
-        ensures len { slab_len self.new ≡ slab_len self.old }
-        ensures capacity { self.new.capacity ≡ self.old.capacity }
+        ensures kept { KeepsRoom self.old self.new }
     {
         if self.has(i) {
             let cell = self.cells[i];
@@ -178,8 +176,7 @@ impl Slots {
         requires { IsSmall prev }
         ensures changed { get self.new i ≡ option_map (with_prev prev) (get self.old i) }
         ensures others { (other : ℕ) → other ≢ i → get self.new other ≡ get self.old other }
-        ensures len { slab_len self.new ≡ slab_len self.old }
-        ensures capacity { self.new.capacity ≡ self.old.capacity }
+        ensures kept { KeepsRoom self.old self.new }
     {
         if self.has(i) {
             let cell = self.cells[i];

@@ -7,10 +7,11 @@ use Rattle.sg_base.specs.declared.call.Call.{Call}
 use Rattle.sg_base.specs.declared.trace_record.Record.{Record}
 use Rattle.sg_states.specs.declared.state.State.TheVariants.{Blocked}
 use Rattle.sg_states.specs.Records.{end_by, record_of}
-use Rattle.sg_kernel.specs.declared.owners.How.{How}
-use Rattle.sg_kernel.specs.declared.owners.Whose.TheVariants.{Over}
+use Rattle.sg_owners.specs.declared.owners.How.{How}
+use Rattle.sg_owners.specs.declared.owners.Whose.TheVariants.{Over}
 use Rattle.sg_kernel.specs.Passes.{pass_of}
-use Rattle.sg_kernel.specs.World.{Setup, Core, state_of, whose_at}
+use Rattle.sg_setup.specs.Setup.{Setup}
+use Rattle.sg_calls.specs.World.{Core, state_of, whose_at}
 use Rattle.sg_failure_laws.specs.Laws.{TellsHow, over_by}
 use Rattle.sg_failure_laws.proofs.Passed.{passes_tell}
 use Rattle.sg_change_laws.specs.Theirs.{PartOf}

@@ -31,20 +31,21 @@ use Rattle.sg_sync.specs.Objects as sync
 use Rattle.sg_sync.specs.Objects.{Done, Objects, locked, unlocked, acquired, released, arrived}
 use Rattle.sg_sync.proofs.Losses.{arrived_keeps}
 use Rattle.sg_base.specs.declared.trace_record.Record.{Record}
-use Rattle.sg_kernel.specs.declared.meetings.Comer.{Comer}
-use Rattle.sg_kernel.specs.declared.owners.How.TheVariants as how
-use Rattle.sg_kernel.specs.declared.stop.Stop.{Stop}
-use Rattle.sg_kernel.specs.declared.stop.Stop.TheVariants.{Budget}
-use Rattle.sg_kernel.specs.Answers.{answers_side, for_receiver, side_of, with_over}
-use Rattle.sg_kernel.specs.Calls.{actor_of, answer_of_ask, answered, answered_call, computes, executes, told, with_execution, with_sleep}
-use Rattle.sg_kernel.specs.Kills.{awaited, gives_up, kill_done, kills, kills_alive, withdrawn}
-use Rattle.sg_kernel.specs.Lives.{created, joins_by, leaves}
-use Rattle.sg_kernel.specs.Locks.{all_wake, caller_first, caller_gets, caller_last, joiners_wake, with_objects}
-use Rattle.sg_kernel.specs.Meetings.{answer_of_over, both_fail, comer_fails, comes, comes_by, fails_with, joined, joins_over, joins_with, other_fails, posted, posts_at, receiver_of, receives_by, route_between, sender_of, sends_by, takes_part, takes_part_failed, waits_by, waits_until, way_with}
+use Rattle.sg_calls.specs.declared.meetings.Comer.{Comer}
+use Rattle.sg_owners.specs.declared.owners.How.TheVariants as how
+use Rattle.sg_calls.specs.declared.stop.Stop.{Stop}
+use Rattle.sg_calls.specs.declared.stop.Stop.TheVariants.{Budget}
+use Rattle.sg_calls.specs.Answers.{answers_side, for_receiver, side_of, with_over}
+use Rattle.sg_calls.specs.Calls.{actor_of, answer_of_ask, answered, answered_call, computes, executes, told, with_execution, with_sleep}
+use Rattle.sg_calls.specs.Kills.{awaited, gives_up, kill_done, kills, kills_alive, withdrawn}
+use Rattle.sg_calls.specs.Lives.{created, joins_by, leaves}
+use Rattle.sg_calls.specs.Locks.{all_wake, caller_first, caller_gets, caller_last, joiners_wake, with_objects}
+use Rattle.sg_calls.specs.Meetings.{answer_of_over, both_fail, comer_fails, comes, comes_by, fails_with, joined, joins_over, joins_with, other_fails, posted, posts_at, receiver_of, receives_by, route_between, sender_of, sends_by, takes_part, takes_part_failed, waits_by, waits_until, way_with}
 use Rattle.sg_kernel.specs.Passes.{all_fail, applied_if, changes, ends, ends_by, ends_in, ends_one, enters_one, entry_stretches, fails}
-use Rattle.sg_kernel.specs.Steps.{Step, goes_on, stops, counted, and_then, each, all_of, at_once, readied}
-use Rattle.sg_kernel.specs.Suspensions.{held_by, held_if, held_on, held_to, suspended_to}
-use Rattle.sg_kernel.specs.World.{Setup, Core, host_of, is_suspended, state_of, whose_at, with_suspended}
+use Rattle.sg_calls.specs.Steps.{Step, goes_on, stops, counted, and_then, each, all_of, at_once, readied}
+use Rattle.sg_calls.specs.Suspensions.{held_by, held_if, held_on, held_to, suspended_to}
+use Rattle.sg_setup.specs.Setup.{Setup}
+use Rattle.sg_calls.specs.World.{Core, host_of, is_suspended, state_of, whose_at, with_suspended}
 use Rattle.sg_actor_laws.proofs.Kept.{Closed, Kept, Replying, all_kept, both, each_kept, either, finishes_kept, gives_up_kept, joiners_kept, more_kept, none_kept, one_made, side_kept}
 use Rattle.sg_await_laws.proofs.Objects.{AtMost, acquired_most, locked_most, released_most, unlocked_most}
 use Rattle.sg_await_laws.proofs.Over.{anything}

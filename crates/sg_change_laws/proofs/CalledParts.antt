@@ -33,25 +33,26 @@ use Rattle.sg_states.specs.Actors.{actor_at, blocking_in, is_alive, is_ended, no
 use Rattle.sg_sync.specs.declared.outcome.Outcome.{Outcome}
 use Rattle.sg_sync.specs.declared.outcome.Outcome.TheVariants.{GoesOn, Waits, Refused}
 use Rattle.sg_sync.specs.Objects.{Done, locked, unlocked, acquired, released, arrived}
-use Rattle.sg_kernel.specs.declared.meetings.Comer.{Comer}
-use Rattle.sg_kernel.specs.declared.owners.How.{How}
-use Rattle.sg_kernel.specs.declared.owners.How.TheVariants as how
-use Rattle.sg_kernel.specs.declared.owners.Whose.{Whose}
-use Rattle.sg_kernel.specs.declared.owners.Whose.TheVariants.{Over, Alone, Posted, Pair}
-use Rattle.sg_kernel.specs.declared.stop.Stop.TheVariants.{Budget}
-use Rattle.sg_kernel.specs.kept.Sound.{is_posted}
-use Rattle.sg_kernel.specs.Answers.{answers_side, finishes, for_receiver, side_of, with_over}
-use Rattle.sg_kernel.specs.Calls.{actor_of, alone, answer_of_ask, answered, answered_call, blocks_on, computes, executes, told, with_execution}
-use Rattle.sg_kernel.specs.Kills.{awaited, blocked_on, gives_up, gives_up_by, kill_done, kills, kills_alive, withdrawn}
-use Rattle.sg_kernel.specs.Lives.{begins, created, joins_by, leaves}
-use Rattle.sg_kernel.specs.Locks.{all_wake, caller_first, caller_gets, caller_last, joiners_wake, with_objects}
-use Rattle.sg_kernel.specs.Meetings.{answer_of_over, asks_for, await, both_fail, comer_fails, comes, comes_by, comm_over, fails_with, joined, joins_over, joins_with, other_fails, party_of, posted, posts_at, receiver_of, receives_by, route_between, sender_of, sends_by, takes_part, takes_part_failed, waits_by, waits_until, way_with}
-use Rattle.sg_kernel.specs.Steps.{Step, goes_on, stops, counted, and_then, each, at_once, readied}
-use Rattle.sg_kernel.specs.Suspensions.{held_by, held_if, held_on, held_to, suspended_to}
-use Rattle.sg_kernel.specs.World.{Setup, Core, host_of, is_suspended, state_of, whose_at, with_suspended}
-use Rattle.sg_kernel.proofs.Ends.{answers_side_goes}
-use Rattle.sg_kernel.proofs.Postings.{found_post}
-use Rattle.sg_kernel.proofs.Stated.{blocking_is}
+use Rattle.sg_calls.specs.declared.meetings.Comer.{Comer}
+use Rattle.sg_owners.specs.declared.owners.How.{How}
+use Rattle.sg_owners.specs.declared.owners.How.TheVariants as how
+use Rattle.sg_owners.specs.declared.owners.Whose.{Whose}
+use Rattle.sg_owners.specs.declared.owners.Whose.TheVariants.{Over, Alone, Posted, Pair}
+use Rattle.sg_calls.specs.declared.stop.Stop.TheVariants.{Budget}
+use Rattle.sg_calls.specs.kept.Sound.{is_posted}
+use Rattle.sg_calls.specs.Answers.{answers_side, finishes, for_receiver, side_of, with_over}
+use Rattle.sg_calls.specs.Calls.{actor_of, alone, answer_of_ask, answered, answered_call, blocks_on, computes, executes, told, with_execution}
+use Rattle.sg_calls.specs.Kills.{awaited, blocked_on, gives_up, gives_up_by, kill_done, kills, kills_alive, withdrawn}
+use Rattle.sg_calls.specs.Lives.{begins, created, joins_by, leaves}
+use Rattle.sg_calls.specs.Locks.{all_wake, caller_first, caller_gets, caller_last, joiners_wake, with_objects}
+use Rattle.sg_calls.specs.Meetings.{answer_of_over, asks_for, await, both_fail, comer_fails, comes, comes_by, comm_over, fails_with, joined, joins_over, joins_with, other_fails, party_of, posted, posts_at, receiver_of, receives_by, route_between, sender_of, sends_by, takes_part, takes_part_failed, waits_by, waits_until, way_with}
+use Rattle.sg_calls.specs.Steps.{Step, goes_on, stops, counted, and_then, each, at_once, readied}
+use Rattle.sg_calls.specs.Suspensions.{held_by, held_if, held_on, held_to, suspended_to}
+use Rattle.sg_setup.specs.Setup.{Setup}
+use Rattle.sg_calls.specs.World.{Core, host_of, is_suspended, state_of, whose_at, with_suspended}
+use Rattle.sg_calls.proofs.Finishes.{answers_side_goes}
+use Rattle.sg_calls.proofs.Postings.{found_post}
+use Rattle.sg_calls.proofs.Stated.{blocking_is}
 use Rattle.sg_failure_laws.proofs.Others.{rising_all}
 use Rattle.sg_failure_laws.proofs.Passed.{set_there}
 use Rattle.sg_actor_laws.proofs.Kept.{Closed, Replying, all_kept, gives_up_kept, joiners_kept, more_kept, none_kept, one_made, side_kept, then_more}

@@ -4,16 +4,17 @@ use Rattle.sg_activity.specs.Underway.{due_in, hits, work_of}
 use Rattle.sg_activity.specs.Task.{Task, phase_after, task_at}
 use Rattle.sg_profile.specs.Profiles.{rows_due}
 use Rattle.sg_route.specs.Roads.{Roads, roads_of}
-use Rattle.sg_kernel.specs.declared.owners.How.TheVariants as how
-use Rattle.sg_kernel.specs.declared.stop.Stop.{Stop}
-use Rattle.sg_kernel.specs.declared.stop.Stop.TheVariants.{Budget}
-use Rattle.sg_kernel.specs.Answers.{finishes}
+use Rattle.sg_owners.specs.declared.owners.How.TheVariants as how
+use Rattle.sg_calls.specs.declared.stop.Stop.{Stop}
+use Rattle.sg_calls.specs.declared.stop.Stop.TheVariants.{Budget}
+use Rattle.sg_calls.specs.Answers.{finishes}
 use Rattle.sg_kernel.specs.Failures.{NothingOffIsUsed, UsesNothingOff}
 use Rattle.sg_kernel.specs.Passes.{all_fail, changes, core_later, ends, ends_by, ends_in, ends_one, enters_one, entry_stretches, fails, next_span, pass_at, pass_of, settled, stretches}
-use Rattle.sg_kernel.specs.Start.{capacities_in, setup_of}
-use Rattle.sg_kernel.specs.Steps.{Step, and_then, all_of, counted, each, follows, goes_on, stops}
-use Rattle.sg_kernel.specs.World.{Setup, Core}
-use Rattle.sg_kernel.proofs.Ends.{finishes_goes}
+use Rattle.sg_kernel.specs.Start.{capacities_in}
+use Rattle.sg_setup.specs.Setup.{setup_of, Setup}
+use Rattle.sg_calls.specs.Steps.{Step, and_then, all_of, counted, each, follows, goes_on, stops}
+use Rattle.sg_calls.specs.World.{Core}
+use Rattle.sg_calls.proofs.Finishes.{finishes_goes}
 use Rattle.sg_kernel.proofs.Offs.{asks_clear, calls_clear, creates_clear, first_clear, passes_clear}
 use Rattle.sg_engine.specs.World.{World}
 use Rattle.sg_engine.specs.declared.ended.Ended.{Ended}

@@ -19,15 +19,16 @@ use Rattle.sg_route.specs.Route.{Route}
 use Rattle.sg_states.specs.declared.state.Actor.{Actor}
 use Rattle.sg_states.specs.declared.state.State.TheVariants.{Ready, Blocked}
 use Rattle.sg_states.specs.Actors.{blocking_in, put_state, state_at}
-use Rattle.sg_kernel.specs.declared.meetings.Comer.{Comer}
-use Rattle.sg_kernel.specs.declared.owners.How.TheVariants as how
-use Rattle.sg_kernel.specs.declared.stop.Stop.TheVariants.{Budget}
-use Rattle.sg_kernel.specs.Answers.{answers_by, answers_side, for_receiver, side_of, tells_bytes, with_over}
-use Rattle.sg_kernel.specs.Calls.{answered, answered_call}
-use Rattle.sg_kernel.specs.Meetings.{asks_for, await, comer_fails, comer_of, comes, comes_by, fails_with, joins_over, joins_with, party_of, posts_at, receiver_of, receives_by, route_between, sender_of, sends_by}
-use Rattle.sg_kernel.specs.Steps.{Step, and_then, counted, goes_on, readied, replied, stops}
-use Rattle.sg_kernel.specs.World.{Setup, Core, state_of}
-use Rattle.sg_kernel.proofs.Each.{eq_no}
+use Rattle.sg_calls.specs.declared.meetings.Comer.{Comer}
+use Rattle.sg_owners.specs.declared.owners.How.TheVariants as how
+use Rattle.sg_calls.specs.declared.stop.Stop.TheVariants.{Budget}
+use Rattle.sg_calls.specs.Answers.{answers_by, answers_side, for_receiver, side_of, tells_bytes, with_over}
+use Rattle.sg_calls.specs.Calls.{answered, answered_call}
+use Rattle.sg_calls.specs.Meetings.{asks_for, await, comer_fails, comer_of, comes, comes_by, fails_with, joins_over, joins_with, party_of, posts_at, receiver_of, receives_by, route_between, sender_of, sends_by}
+use Rattle.sg_calls.specs.Steps.{Step, and_then, counted, goes_on, readied, replied, stops}
+use Rattle.sg_setup.specs.Setup.{Setup}
+use Rattle.sg_calls.specs.World.{Core, state_of}
+use Rattle.sg_calls.proofs.Each.{eq_no}
 use Rattle.sg_failure_laws.specs.Laws.{call_fails, meeting_fails, side_fails, way_fails}
 use Rattle.sg_await_laws.proofs.Awaiting.{put_at, put_long, put_there}
 use Rattle.sg_change_laws.specs.Meets.{MeetingsTellBoth, MeetsBlocked, TellsBoth, comer_record}

@@ -20,20 +20,21 @@ use Rattle.sg_states.specs.declared.state.State.{State}
 use Rattle.sg_states.specs.declared.state.State.TheVariants.{Ready, Blocked, Ended}
 use Rattle.sg_states.specs.Actors.{blocking_in, is_alive, is_answered, joiners, joins, not_suspended, put_state, state_at}
 use Rattle.sg_states.specs.Records.{record_of}
-use Rattle.sg_kernel.specs.declared.owners.How.TheVariants as how
-use Rattle.sg_kernel.specs.declared.owners.Whose.{Whose}
-use Rattle.sg_kernel.specs.declared.owners.Whose.TheVariants.{Over, Alone, Posted, Pair}
-use Rattle.sg_kernel.specs.declared.stop.Stop.{Stop}
-use Rattle.sg_kernel.specs.declared.stop.Stop.TheVariants.{Budget}
-use Rattle.sg_kernel.specs.Answers.{answers, answers_by, answers_side, bare_side, for_receiver, is_on, tells_bytes, with_over}
-use Rattle.sg_kernel.specs.Calls.{answered}
-use Rattle.sg_kernel.specs.Kills.{awaited, blocked_on, gives_up, gives_up_by, kill_done, kill_stretches, kills, withdrawn}
-use Rattle.sg_kernel.specs.Lives.{exits, leaves}
-use Rattle.sg_kernel.specs.Locks.{joiners_wake, wakes, wakes_from}
-use Rattle.sg_kernel.specs.Steps.{Step, goes_on, stops, counted, follows, and_then, each, all_of, at_once, replied}
-use Rattle.sg_kernel.specs.World.{Setup, Core, MayCall, state_of, whose_at}
-use Rattle.sg_kernel.proofs.Each.{all_of-two, each_on, eq_no, eq_yes}
-use Rattle.sg_kernel.proofs.Stated.{blocking_is}
+use Rattle.sg_owners.specs.declared.owners.How.TheVariants as how
+use Rattle.sg_owners.specs.declared.owners.Whose.{Whose}
+use Rattle.sg_owners.specs.declared.owners.Whose.TheVariants.{Over, Alone, Posted, Pair}
+use Rattle.sg_calls.specs.declared.stop.Stop.{Stop}
+use Rattle.sg_calls.specs.declared.stop.Stop.TheVariants.{Budget}
+use Rattle.sg_calls.specs.Answers.{answers, answers_by, answers_side, bare_side, for_receiver, is_on, tells_bytes, with_over}
+use Rattle.sg_calls.specs.Calls.{answered}
+use Rattle.sg_calls.specs.Kills.{awaited, blocked_on, gives_up, gives_up_by, kill_done, kill_stretches, kills, withdrawn}
+use Rattle.sg_calls.specs.Lives.{exits, leaves}
+use Rattle.sg_calls.specs.Locks.{joiners_wake, wakes, wakes_from}
+use Rattle.sg_calls.specs.Steps.{Step, goes_on, stops, counted, follows, and_then, each, all_of, at_once, replied}
+use Rattle.sg_setup.specs.Setup.{Setup}
+use Rattle.sg_calls.specs.World.{Core, MayCall, state_of, whose_at}
+use Rattle.sg_calls.proofs.Each.{all_of-two, each_on, eq_no, eq_yes}
+use Rattle.sg_calls.proofs.Stated.{blocking_is}
 use Rattle.sg_failure_laws.specs.Laws.{TellsOther}
 use Rattle.sg_failure_laws.proofs.Killed.{Goes, Since, each_goes, gives_up_tells, joiners_tell, killer_tells, since_withdrawn}
 use Rattle.sg_failure_laws.proofs.Others.{entered_all}

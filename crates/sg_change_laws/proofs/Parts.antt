@@ -9,11 +9,11 @@ use Rattle.sg_base.specs.declared.ids.ActorId.{ActorId}
 use Rattle.sg_base.specs.declared.trace_record.Record.{Record}
 use Rattle.sg_activity.specs.Underway.{work_of}
 use Rattle.sg_states.specs.Actors.{is_ended}
-use Rattle.sg_kernel.specs.Calls.{answered, told}
-use Rattle.sg_kernel.specs.Lives.{created}
+use Rattle.sg_calls.specs.Calls.{answered, told}
+use Rattle.sg_calls.specs.Lives.{created}
 use Rattle.sg_kernel.specs.Passes.{pass_of}
-use Rattle.sg_kernel.specs.Steps.{Step}
-use Rattle.sg_kernel.specs.World.{Core, state_of}
+use Rattle.sg_calls.specs.Steps.{Step}
+use Rattle.sg_calls.specs.World.{Core, state_of}
 use Rattle.sg_script.specs.Stands.{one_more}
 use Rattle.sg_script.specs.declared.fault.ScriptFault.{ScriptFault}
 use Rattle.sg_engine.specs.World.{World}

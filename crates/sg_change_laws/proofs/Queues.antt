@@ -6,13 +6,13 @@ use Rattle.sg_profile.specs.Profiles.{rows_due}
 use Rattle.sg_route.specs.Roads.{Roads, roads_of}
 use Rattle.sg_states.specs.Actors.{is_alive, is_answered}
 use Rattle.sg_sync.specs.Objects.{Objects, waiting}
-use Rattle.sg_kernel.specs.declared.stop.Stop.TheVariants.{Budget}
-use Rattle.sg_kernel.specs.Calls.{actor_of}
-use Rattle.sg_kernel.specs.Kills.{kills}
+use Rattle.sg_calls.specs.declared.stop.Stop.TheVariants.{Budget}
+use Rattle.sg_calls.specs.Calls.{actor_of}
+use Rattle.sg_calls.specs.Kills.{kills}
 use Rattle.sg_kernel.specs.Passes.{core_later, next_span, pass_at, settled, stretches}
-use Rattle.sg_kernel.specs.Start.{setup_of}
-use Rattle.sg_kernel.specs.Steps.{stops, all_of, counted}
-use Rattle.sg_kernel.specs.World.{Setup, Core, IsActor, MayCall, state_of}
+use Rattle.sg_setup.specs.Setup.{setup_of, Setup}
+use Rattle.sg_calls.specs.Steps.{stops, all_of, counted}
+use Rattle.sg_calls.specs.World.{Core, IsActor, MayCall, state_of}
 use Rattle.sg_engine.specs.Run.{Progress}
 use Rattle.sg_actor_laws.specs.Dead.{HasEnded}
 use Rattle.sg_actor_laws.proofs.Dead.{dead_stay_dead}

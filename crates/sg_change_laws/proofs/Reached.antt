@@ -2,8 +2,9 @@
 use Rattle.std.proofs.Common.{◌⊎◌, ◌-◌, inl, inr, [], length, refl}
 use Rattle.sg_activity.specs.Links.{Capacities}
 use Rattle.sg_route.specs.Roads.{Roads, roads_of}
-use Rattle.sg_kernel.specs.Start.{first_core, setup_of}
-use Rattle.sg_kernel.specs.World.{Setup, Core, whose_at}
+use Rattle.sg_kernel.specs.Start.{first_core}
+use Rattle.sg_setup.specs.Setup.{setup_of, Setup}
+use Rattle.sg_calls.specs.World.{Core, whose_at}
 use Rattle.sg_failure_laws.proofs.Others.{none_asked, none_blocked}
 use Rattle.sg_await_laws.specs.Reached.{Reaches, Reached, here, calls, creates, asks, passes}
 use Rattle.sg_await_laws.specs.Runs.{Run, IsCoreOf}

@@ -14,16 +14,16 @@ use Rattle.sg_route.specs.Roads.{roads_of}
 use Rattle.sg_states.specs.declared.state.Blocking.{Blocking}
 use Rattle.sg_states.specs.declared.state.State.TheVariants.{Blocked}
 use Rattle.sg_states.specs.Actors.{blocking_in, joiners}
-use Rattle.sg_kernel.specs.declared.owners.How.TheVariants as how
-use Rattle.sg_kernel.specs.declared.owners.Whose.{Whose}
-use Rattle.sg_kernel.specs.declared.owners.Whose.TheVariants.{Over, Alone, Posted, Pair}
-use Rattle.sg_kernel.specs.Answers.{finishes, with_over}
-use Rattle.sg_kernel.specs.Calls.{answered}
-use Rattle.sg_kernel.specs.Kills.{awaited, gives_up, gives_up_by, kill_done, kill_stretches, withdrawn}
-use Rattle.sg_kernel.specs.Locks.{joiners_wake, wakes, wakes_from}
-use Rattle.sg_kernel.specs.Steps.{Step, all_of, and_then, counted, each}
-use Rattle.sg_kernel.specs.World.{Core, state_of, whose_at}
-use Rattle.sg_kernel.proofs.Each.{all_of-two, each_on}
+use Rattle.sg_owners.specs.declared.owners.How.TheVariants as how
+use Rattle.sg_owners.specs.declared.owners.Whose.{Whose}
+use Rattle.sg_owners.specs.declared.owners.Whose.TheVariants.{Over, Alone, Posted, Pair}
+use Rattle.sg_calls.specs.Answers.{finishes, with_over}
+use Rattle.sg_calls.specs.Calls.{answered}
+use Rattle.sg_calls.specs.Kills.{awaited, gives_up, gives_up_by, kill_done, kill_stretches, withdrawn}
+use Rattle.sg_calls.specs.Locks.{joiners_wake, wakes, wakes_from}
+use Rattle.sg_calls.specs.Steps.{Step, all_of, and_then, counted, each}
+use Rattle.sg_calls.specs.World.{Core, state_of, whose_at}
+use Rattle.sg_calls.proofs.Each.{all_of-two, each_on}
 use Rattle.sg_failure_laws.specs.Laws.{is_side}
 use Rattle.sg_failure_laws.proofs.Called.{calls_tell}
 use Rattle.sg_failure_laws.proofs.Passed.{set_there}

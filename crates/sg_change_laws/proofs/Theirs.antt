@@ -14,15 +14,15 @@ use Rattle.sg_states.specs.declared.state.Actor.{Actor}
 use Rattle.sg_states.specs.declared.state.State.{State}
 use Rattle.sg_states.specs.declared.state.State.TheVariants.{Ready, Blocked}
 use Rattle.sg_states.specs.Actors.{put_state, state_at}
-use Rattle.sg_kernel.specs.declared.owners.How.{How}
-use Rattle.sg_kernel.specs.declared.owners.How.TheVariants as how
-use Rattle.sg_kernel.specs.declared.owners.Whose.{Whose}
-use Rattle.sg_kernel.specs.declared.owners.Whose.TheVariants.{Over}
-use Rattle.sg_kernel.specs.kept.Sound.{is_posted}
-use Rattle.sg_kernel.specs.Answers.{with_over}
-use Rattle.sg_kernel.specs.Meetings.{asks_for}
-use Rattle.sg_kernel.specs.Steps.{blocked_by, readied}
-use Rattle.sg_kernel.specs.World.{Core, whose_at}
+use Rattle.sg_owners.specs.declared.owners.How.{How}
+use Rattle.sg_owners.specs.declared.owners.How.TheVariants as how
+use Rattle.sg_owners.specs.declared.owners.Whose.{Whose}
+use Rattle.sg_owners.specs.declared.owners.Whose.TheVariants.{Over}
+use Rattle.sg_calls.specs.kept.Sound.{is_posted}
+use Rattle.sg_calls.specs.Answers.{with_over}
+use Rattle.sg_calls.specs.Meetings.{asks_for}
+use Rattle.sg_calls.specs.Steps.{blocked_by, readied}
+use Rattle.sg_calls.specs.World.{Core, whose_at}
 use Rattle.sg_failure_laws.proofs.Passed.{put_there, set_there}
 use Rattle.sg_await_laws.proofs.Over.{is_over}
 use Rattle.sg_change_laws.specs.Theirs.{PartOf}

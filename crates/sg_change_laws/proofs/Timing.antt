@@ -6,10 +6,11 @@ use Rattle.sg_activity.specs.Underway as underway
 use Rattle.sg_activity.proofs.Listing.{at_listed, length-listed}
 use Rattle.sg_profile.specs.Profiles.{rows_due}
 use Rattle.sg_sync.specs.Objects.{Objects}
-use Rattle.sg_kernel.specs.declared.stop.Stop.TheVariants.{Budget}
+use Rattle.sg_calls.specs.declared.stop.Stop.TheVariants.{Budget}
 use Rattle.sg_kernel.specs.Passes.{core_later, next_span, pass_at, pass_of, settled, stretches}
-use Rattle.sg_kernel.specs.Steps.{Step, stops, all_of}
-use Rattle.sg_kernel.specs.World.{Setup, Core}
+use Rattle.sg_calls.specs.Steps.{Step, stops, all_of}
+use Rattle.sg_setup.specs.Setup.{Setup}
+use Rattle.sg_calls.specs.World.{Core}
 use Rattle.sg_change_laws.proofs.Around.{Lasting, Served, stretches_then}
 
 -- at this date, and with these energies

@@ -23,16 +23,17 @@ use Rattle.sg_states.specs.declared.state.State.{State}
 use Rattle.sg_states.specs.declared.state.State.TheVariants.{Ready, Blocked, Ended}
 use Rattle.sg_states.specs.Actors.{blocking_in, not_suspended, state_at}
 use Rattle.sg_states.specs.Records.{record_of}
-use Rattle.sg_kernel.specs.declared.owners.How.{How}
-use Rattle.sg_kernel.specs.declared.owners.How.TheVariants as how
-use Rattle.sg_kernel.specs.declared.owners.Whose.{Whose}
-use Rattle.sg_kernel.specs.declared.owners.Whose.TheVariants.{Over, Alone, Posted, Pair}
-use Rattle.sg_kernel.specs.declared.stop.Stop.{Stop}
-use Rattle.sg_kernel.specs.declared.stop.Stop.TheVariants.{Budget}
-use Rattle.sg_kernel.specs.Answers.{answer_to, answers, answers_by, answers_side, bare_side, finishes, for_receiver, is_on, party_eq, tells_bytes, with_over}
+use Rattle.sg_owners.specs.declared.owners.How.{How}
+use Rattle.sg_owners.specs.declared.owners.How.TheVariants as how
+use Rattle.sg_owners.specs.declared.owners.Whose.{Whose}
+use Rattle.sg_owners.specs.declared.owners.Whose.TheVariants.{Over, Alone, Posted, Pair}
+use Rattle.sg_calls.specs.declared.stop.Stop.{Stop}
+use Rattle.sg_calls.specs.declared.stop.Stop.TheVariants.{Budget}
+use Rattle.sg_calls.specs.Answers.{answer_to, answers, answers_by, answers_side, bare_side, finishes, for_receiver, is_on, party_eq, tells_bytes, with_over}
 use Rattle.sg_kernel.specs.Passes.{all_fail, applied_if, changes, core_later, ends, ends_by, ends_in, ends_one, enters_one, entry_stretches, fails, fails_one, next_span, pass_at, pass_of, settled, stretches}
-use Rattle.sg_kernel.specs.Steps.{Step, goes_on, stops, counted, follows, and_then, each, all_of, replied}
-use Rattle.sg_kernel.specs.World.{Setup, Core, state_of, whose_at}
+use Rattle.sg_calls.specs.Steps.{Step, goes_on, stops, counted, follows, and_then, each, all_of, replied}
+use Rattle.sg_setup.specs.Setup.{Setup}
+use Rattle.sg_calls.specs.World.{Core, state_of, whose_at}
 use Rattle.sg_kernel.proofs.Hits.{rest_is_hit}
 use Rattle.sg_kernel.proofs.Skips.{finishes_leaves}
 use Rattle.sg_failure_laws.proofs.Others.{first_there}

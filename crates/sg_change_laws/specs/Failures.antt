@@ -2,7 +2,7 @@
 use Rattle.std.specs.Prelude.{◌≡◌, ◌≢◌, ℕ, None, Some, All}
 use Rattle.sg_engine.specs.declared.ended.Ended.TheVariants as ended
 use Rattle.sg_kernel.specs.Failures.{UsesNothingOff}
-use Rattle.sg_kernel.specs.World.{Core}
+use Rattle.sg_calls.specs.World.{Core}
 use Rattle.sg_failure_laws.specs.Others.{IsFit, MayTell}
 use Rattle.sg_await_laws.specs.Runs.{Run, IsCoreOf, parts_in, run_to, whole}
 

@@ -10,12 +10,13 @@ use Rattle.sg_mailbox.specs.Posts.{partner}
 use Rattle.sg_route.specs.Roads.{Roads}
 use Rattle.sg_states.specs.declared.state.State.TheVariants.{Ready, Blocked}
 use Rattle.sg_states.specs.Records.{record_of}
-use Rattle.sg_kernel.specs.declared.meetings.Comer.{Comer}
-use Rattle.sg_kernel.specs.Answers.{tells_bytes}
-use Rattle.sg_kernel.specs.Calls.{answered}
-use Rattle.sg_kernel.specs.Meetings.{comer_of, party_of, posts_at, sender_of}
-use Rattle.sg_kernel.specs.Steps.{Step}
-use Rattle.sg_kernel.specs.World.{Setup, Core, state_of}
+use Rattle.sg_calls.specs.declared.meetings.Comer.{Comer}
+use Rattle.sg_calls.specs.Answers.{tells_bytes}
+use Rattle.sg_calls.specs.Calls.{answered}
+use Rattle.sg_calls.specs.Meetings.{comer_of, party_of, posts_at, sender_of}
+use Rattle.sg_calls.specs.Steps.{Step}
+use Rattle.sg_setup.specs.Setup.{Setup}
+use Rattle.sg_calls.specs.World.{Core, state_of}
 use Rattle.sg_failure_laws.specs.Laws.{call_fails}
 
 -- by the call of a side that comes it meets a post whose actor is another, and is blocked on that side

@@ -9,10 +9,11 @@ use Rattle.sg_route.specs.Roads.{Roads}
 use Rattle.sg_states.specs.declared.state.State.TheVariants.{Blocked}
 use Rattle.sg_states.specs.Actors.{blocking_in, is_alive}
 use Rattle.sg_states.specs.Records.{record_of}
-use Rattle.sg_kernel.specs.Calls.{answered}
-use Rattle.sg_kernel.specs.Kills.{blocked_on}
-use Rattle.sg_kernel.specs.Steps.{Step}
-use Rattle.sg_kernel.specs.World.{Setup, Core, MayCall, state_of}
+use Rattle.sg_calls.specs.Calls.{answered}
+use Rattle.sg_calls.specs.Kills.{blocked_on}
+use Rattle.sg_calls.specs.Steps.{Step}
+use Rattle.sg_setup.specs.Setup.{Setup}
+use Rattle.sg_calls.specs.World.{Core, MayCall, state_of}
 use Rattle.sg_failure_laws.specs.Laws.{TellsJoiner, TellsOther}
 use Rattle.sg_change_laws.specs.Told.{IsTold}
 

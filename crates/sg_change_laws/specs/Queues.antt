@@ -2,7 +2,7 @@
 use Rattle.std.specs.Prelude.{◌≡◌, ℕ, ◌+◌}
 use Rattle.sg_base.specs.declared.ids.ActorId.{ActorId}
 use Rattle.sg_sync.specs.Objects.{waiting}
-use Rattle.sg_kernel.specs.World.{Core}
+use Rattle.sg_calls.specs.World.{Core}
 use Rattle.sg_await_laws.specs.Runs.{Run, IsLaterCore, KillsAt}
 
 -- where a run kills an actor it waits for no mutex, no semaphore and not at the barrier, from behind that call on

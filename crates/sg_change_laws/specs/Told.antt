@@ -10,14 +10,14 @@ use Rattle.sg_states.specs.declared.state.State.TheVariants.{Ready, Blocked}
 use Rattle.sg_states.specs.Actors.{is_alive}
 use Rattle.sg_states.specs.Records.{end_by, record_of}
 use Rattle.sg_route.specs.Roads.{roads_of}
-use Rattle.sg_kernel.specs.declared.owners.How.{How}
-use Rattle.sg_kernel.specs.declared.owners.Whose.TheVariants.{Over}
-use Rattle.sg_kernel.specs.Calls.{answered}
-use Rattle.sg_kernel.specs.Kills.{awaited}
+use Rattle.sg_owners.specs.declared.owners.How.{How}
+use Rattle.sg_owners.specs.declared.owners.Whose.TheVariants.{Over}
+use Rattle.sg_calls.specs.Calls.{answered}
+use Rattle.sg_calls.specs.Kills.{awaited}
 use Rattle.sg_kernel.specs.Passes.{pass_of}
-use Rattle.sg_kernel.specs.Start.{setup_of}
-use Rattle.sg_kernel.specs.Steps.{Step}
-use Rattle.sg_kernel.specs.World.{Setup, Core, MayCall, state_of, whose_at}
+use Rattle.sg_setup.specs.Setup.{setup_of, Setup}
+use Rattle.sg_calls.specs.Steps.{Step}
+use Rattle.sg_calls.specs.World.{Core, MayCall, state_of, whose_at}
 use Rattle.sg_failure_laws.specs.Laws.{TellsCaller, over_by}
 use Rattle.sg_await_laws.specs.Runs.{Run, IsCoreOf}
 

@@ -1,5 +1,5 @@
 -- The energy of hosts: power in milliwatts, dates in nanoseconds, energy in milliwatt-nanoseconds.
-use Rattle.std.specs.Prelude.{ℕ, ◌+◌, ◌-◌, ◌*◌, ◌==◌, if◌then◌else◌, List, slice_index_or}
+use Rattle.std.specs.Prelude.{ℕ, ◌+◌, ◌-◌, ◌*◌, ◌^◌, ◌<◌, ◌≤◌, ◌==◌, if◌then◌else◌, List, slice_index_or}
 
 -- the power of a host since a date, and the energy that it used until then
 pub record Metered : Type 0 where
@@ -13,6 +13,11 @@ first_meter = record { power = 0; since = 0; energy = 0 }
 
 abbrev pub meter_of : List Metered → ℕ → Metered
 meter_of meters host = slice_index_or meters host first_meter
+
+-- a date that isn't before that since when a power is, and that can be counted
+pub record IsSince (since date : ℕ) : Type 0 where
+  pub from : since ≤ date
+  pub small : date < 10 ^ 34
 
 -- the energy that it used until a date, which isn't before since
 abbrev pub energy_at : Metered → ℕ → ℕ

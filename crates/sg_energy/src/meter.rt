@@ -1,6 +1,6 @@
 //! The energy of all hosts.
 ghost use Rattle.std.specs.Prelude.{◌≡◌, ◌≤◌, ◌<◌, ◌+◌, ◌*◌, ◌^◌, IfOk, length, replicate, slice_set};
-ghost use Rattle.sg_energy.specs.Meter.{energy_at, first_meter, meter_of, with_power};
+ghost use Rattle.sg_energy.specs.Meter.{energy_at, first_meter, meter_of, with_power, IsSince};
 ghost use Rattle.sg_energy.specs.kept.Reading.{first_reading};
 
 use crate::reading::{FIRST, Reading};
@@ -59,8 +59,7 @@ impl Meter {
     pub fn set(&mut self, host: PointId, power: u64, date: u128)
         requires host { host.0 < length self.old }
         requires power { power ≤ 10 ^ 9 }
-        requires from { (meter_of self.old host.0).since ≤ date }
-        requires small { date < 10 ^ 34 }
+        requires date { IsSince (meter_of self.old host.0).since date }
         ensures { self.new ≡ slice_set self.old host.0
             (with_power power date (meter_of self.old host.0)) }
     {
@@ -72,8 +71,7 @@ impl Meter {
     /// date isn't before that at which its power last changed.
     pub fn energy(&self, host: PointId, date: u128) -> (u128, u64)
         requires host { host.0 < length self.now }
-        requires from { (meter_of self.now host.0).since ≤ date }
-        requires small { date < 10 ^ 34 }
+        requires date { IsSince (meter_of self.now host.0).since date }
         ensures energy { result.0 * 10 ^ 12 + result.1 ≡ energy_at (meter_of self.now host.0) date }
         ensures rest { result.1 < 10 ^ 12 }
     {

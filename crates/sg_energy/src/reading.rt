@@ -1,6 +1,6 @@
 //! What is kept of one host.
 ghost use Rattle.std.specs.Prelude.{◌≡◌, ◌≤◌, ◌<◌, ◌+◌, ◌*◌, ◌^◌};
-ghost use Rattle.sg_energy.specs.Meter.{energy_at, with_power};
+ghost use Rattle.sg_energy.specs.Meter.{energy_at, with_power, IsSince};
 ghost use Rattle.sg_energy.specs.kept.Reading.{metered_of, IsReading};
 
 /// Nanoseconds in a second.
@@ -33,8 +33,7 @@ impl Reading {
     /// and times what is below a second in milliwatt-nanoseconds: so each product fits.
     pub(crate) fn energy(self, date: u128) -> (u128, u64)
         requires reading { IsReading self }
-        requires from { self.since ≤ date }
-        requires small { date < 10 ^ 34 }
+        requires date { IsSince self.since date }
         ensures energy { result.0 * 10 ^ 12 + result.1 ≡ energy_at (metered_of self) date }
         ensures rest { result.1 < 10 ^ 12 }
     {
@@ -50,8 +49,7 @@ impl Reading {
     pub(crate) fn with_power(self, power: u64, date: u128) -> Reading
         requires reading { IsReading self }
         requires power { power ≤ 10 ^ 9 }
-        requires from { self.since ≤ date }
-        requires small { date < 10 ^ 34 }
+        requires date { IsSince self.since date }
         ensures metered { metered_of result ≡ with_power power date (metered_of self) }
         ensures reading { IsReading result }
     {

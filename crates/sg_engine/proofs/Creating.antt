@@ -10,11 +10,11 @@ use Rattle.sg_base.specs.declared.ids.ActorId.{ActorId}
 use Rattle.sg_base.specs.Mind.{Mind}
 use Rattle.sg_edge.specs.Files.{PartView}
 use Rattle.sg_edge.specs.declared.files.Stage.TheVariants.{Fresh}
-use Rattle.sg_kernel.specs.Known.{Known, after}
-use Rattle.sg_kernel.specs.Lives.{created}
-use Rattle.sg_kernel.specs.Steps.{Step}
-use Rattle.sg_kernel.specs.World.{Core, IsActor, MayCall, state_of}
-use Rattle.sg_kernel.specs.declared.stop.Stop.{Stop}
+use Rattle.sg_calls.specs.Known.{Known, after}
+use Rattle.sg_calls.specs.Lives.{created}
+use Rattle.sg_calls.specs.Steps.{Step}
+use Rattle.sg_calls.specs.World.{Core, IsActor, MayCall, state_of}
+use Rattle.sg_calls.specs.declared.stop.Stop.{Stop}
 use Rattle.sg_rows.specs.Deployment.{Deployed, extent_of}
 use Rattle.sg_rows.specs.declared.rows.ActorRow.{ActorRow}
 use Rattle.sg_script.specs.Known.{Known as Names}

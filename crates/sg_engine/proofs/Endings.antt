@@ -9,7 +9,7 @@ use Rattle.sg_edge.proofs.Reading.{before-nil}
 use Rattle.sg_edge.specs.Files.{PartView, before, KeepsTelling, NoneLeft, TakesUpTo}
 use Rattle.sg_edge.specs.Sources.{Source, Gives}
 use Rattle.sg_edge.specs.Sinks.{IsWritten}
-use Rattle.sg_kernel.specs.World.{Core}
+use Rattle.sg_calls.specs.World.{Core}
 use Rattle.sg_rows.specs.Deployment.{Deployed, started_number}
 use Rattle.sg_rows.specs.Platform.{Platform}
 use Rattle.sg_script.specs.Answer.{answer_of}

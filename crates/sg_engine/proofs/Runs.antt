@@ -7,10 +7,11 @@ use Rattle.sg_base.specs.declared.call.Action.{Action}
 use Rattle.sg_base.specs.declared.call.Call.{Call}
 use Rattle.sg_base.specs.declared.ids.ActorId.{ActorId}
 use Rattle.sg_base.specs.Mind.{Mind}
-use Rattle.sg_kernel.specs.Calls.{answered}
-use Rattle.sg_kernel.specs.Lives.{created}
+use Rattle.sg_calls.specs.Calls.{answered}
+use Rattle.sg_calls.specs.Lives.{created}
 use Rattle.sg_kernel.specs.Passes.{pass_of}
-use Rattle.sg_kernel.specs.World.{Core, Setup, state_of}
+use Rattle.sg_calls.specs.World.{Core, state_of}
+use Rattle.sg_setup.specs.Setup.{Setup}
 use Rattle.sg_script.specs.Stands.{one_more}
 use Rattle.sg_script.specs.declared.fault.ScriptFault.{ScriptFault}
 use Rattle.sg_states.specs.Actors.{is_ended}

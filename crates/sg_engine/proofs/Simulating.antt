@@ -12,9 +12,10 @@ use Rattle.sg_edge.specs.declared.files.Part.{Part}
 use Rattle.sg_edge.specs.declared.sinks.Stream.{Stream}
 use Rattle.sg_edge.specs.declared.sinks.Stream.TheVariants.{Out}
 use Rattle.sg_edge.specs.Sinks.{GainsFront}
-use Rattle.sg_kernel.specs.Known.{Known}
+use Rattle.sg_calls.specs.Known.{Known}
 use Rattle.sg_base.specs.Limits.{Extent}
-use Rattle.sg_kernel.specs.World.{Setup, Core, extent}
+use Rattle.sg_setup.specs.Setup.{Setup}
+use Rattle.sg_calls.specs.World.{Core, extent}
 use Rattle.sg_states.specs.Actors.{is_over}
 use Rattle.sg_engine.specs.World.{World}
 use Rattle.sg_route.specs.Roads.{Roads}

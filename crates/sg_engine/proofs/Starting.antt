@@ -11,11 +11,12 @@ use Rattle.sg_edge.specs.declared.files.Part.{Part}
 use Rattle.sg_edge.specs.declared.files.Stage.TheVariants.{Fresh}
 use Rattle.sg_edge.specs.declared.sinks.Stream.{Stream}
 use Rattle.sg_edge.specs.Sources.{Source}
-use Rattle.sg_kernel.specs.Known.{Known, first_known}
-use Rattle.sg_kernel.specs.Start.{capacities_in, setup_of, home_of, capacity_of}
+use Rattle.sg_calls.specs.Known.{Known}
+use Rattle.sg_kernel.specs.Start.{first_known, capacities_in}
+use Rattle.sg_setup.specs.Setup.{setup_of, home_of, capacity_of}
 use Rattle.sg_states.specs.Actors.{first_actor}
 use Rattle.sg_states.specs.declared.state.Actor.{Actor}
-use Rattle.sg_kernel.specs.World.{extent}
+use Rattle.sg_calls.specs.World.{extent}
 use Rattle.sg_rows.specs.Deployment.{Deployed, extent_of, started_number, starts}
 use Rattle.sg_rows.specs.declared.rows.ActorRow.{ActorRow}
 use Rattle.sg_rows.specs.Platform.{Platform}

@@ -8,6 +8,7 @@ use Rattle.sg_base.specs.declared.call.Answer.{Answer}
 use Rattle.sg_base.specs.declared.call.Answer.TheVariants.{Start}
 use Rattle.sg_base.specs.declared.call.Call.{Call}
 use Rattle.sg_base.specs.declared.call.Call.TheVariants.{Ask}
+use Rattle.sg_base.specs.Mind.{Mind}
 use Rattle.sg_actor.specs.Seats.{SeatView, after}
 use Rattle.sg_states.specs.declared.state.Actor.{Actor}
 use Rattle.sg_states.specs.declared.state.State.{State}
@@ -16,12 +17,12 @@ use Rattle.sg_states.specs.Queue.{IsQueue}
 use Rattle.sg_states.specs.Actors.{answer_in, inbox_of, is_answered, is_ready, not_suspended}
 use Rattle.sg_engine.specs.declared.actor_call.ActorCall.{ActorCall}
 use Rattle.sg_engine.specs.kept.CallList.{call_list, with_call}
-use Rattle.sg_engine.specs.Run.{zip_with}
-use Rattle.sg_engine.specs.kept.SeatRules.{AreQueued, with_answer, call_in}
+use Rattle.sg_engine.specs.Run.{zip_with, call_after}
+use Rattle.sg_engine.specs.kept.SeatRules.{mind_in, minds_of, AreQueued, behind_turn, call_in}
 use Rattle.sg_engine.proofs.Listing.{calls_next, skipped_calls, all_listed}
 use Rattle.sg_engine.proofs.Merging.{merged, merged_all, skipped, was, placed, mapped_on}
 use Rattle.sg_engine.proofs.Queues.{last_id, last_at, last_before, last_next, last_within, not_true, quiet, quiet_end}
-use Rattle.sg_engine.proofs.SeatSteps.{length-zip_with, offered_at, idle_calls, idle_stays}
+use Rattle.sg_engine.proofs.SeatSteps.{length-zip_with, inbox_at, idle_calls, idle_stays}
 
 -- the id that stands at a place of the queue
 abbrev pub id_at : List ActorId → ℕ → ℕ
@@ -64,7 +65,7 @@ all_stepped states queue k new old d is within past number same stay =
     skipped new old d (last_id queue k) (length states) (last_within states queue k is within) same (λ j from to. stay j to (quiet_end states queue k j is within past from to))
     ∙ merged_all new old (length states) (omega (arith, number, same)) (omega (arith, number))
 
--- ---- offers
+-- ---- answers
 none_by : (suspended : Bool) (state : State) → (is_answered state && not suspended) ≡ false → cond suspended None (answer_in state) ≡ None
 none_by true state idle = refl
 none_by false Unstarted idle = refl
@@ -75,11 +76,12 @@ none_by false Ended idle = refl
 none_for : (actor : Actor) → is_ready actor ≡ false → inbox_of actor ≡ None
 none_for actor idle = none_by actor.suspended actor.state idle
 
-pub offers_stay : (places : List SeatView) (states : List Actor) (d : SeatView) → length states ≡ length places → IdleStay states (zip_with with_answer places (map inbox_of states)) places d
-offers_stay places states d same j within idle = offered_at places states j d same within ∙ ap (with_answer (get_or places j d)) (none_for (get_or states j (not_suspended Ended)) idle)
+-- without an answer each stays
+pub answers_stay : {X : Type 0} (f : X → Option Answer → X) → ((x : X) → f x None ≡ x) → (xs : List X) (states : List Actor) (d : X) → length states ≡ length xs → IdleStay states (zip_with f xs (map inbox_of states)) xs d
+answers_stay f stays xs states d same j within idle = inbox_at f xs states j d d same within ∙ ap (f (get_or xs j d)) (none_for (get_or states j (not_suspended Ended)) idle) ∙ stays (get_or xs j d)
 
-pub offers_number : (places : List SeatView) (states : List Actor) → length states ≡ length places → length (zip_with with_answer places (map inbox_of states)) ≡ length places
-offers_number places states same = length-zip_with with_answer places (map inbox_of states) (length-map states inbox_of ∙ same)
+pub answers_number : {X Z : Type 0} (f : X → Option Answer → Z) (xs : List X) (states : List Actor) → length states ≡ length xs → length (zip_with f xs (map inbox_of states)) ≡ length xs
+answers_number f xs states same = length-zip_with f xs (map inbox_of states) (length-map states inbox_of ∙ same)
 
 -- ---- turns and rests
 idle_at : (places : List SeatView) (states : List Actor) (j : ℕ) (d : SeatView) → AreQueued places states → length places ≡ length states → j < length states → is_ready (get_or states j (not_suspended Ended)) ≡ false → (get_or places j d).ready ≡ false
@@ -110,50 +112,98 @@ turned_on states queue k to now new old d is less within number ready stay inv m
     ∙ ap (λ (n : ℕ). merged n (map after old) old) (sym (last_at queue to (omega (arith, less))))
 
 -- ---- calls
-none_called : (places : List SeatView) (states : List Actor) (j : ℕ) (d : SeatView) → AreQueued places states → length places ≡ length states → j < length states → is_ready (get_or states j (not_suspended Ended)) ≡ false → get_or (map call_in places) j None ≡ None
-none_called places states j d ready same within idle =
-    get_or-map call_in places j d None (omega (arith, within, same)) ∙ idle_calls (get_or places j d) (idle_at places states j d ready same within idle)
+-- who isn't ready has made no call
+abbrev pub IdleCall : List Actor → List (Option Call) → Type 0
+IdleCall states row = (j : ℕ) → j < length states → is_ready (get_or states j (not_suspended Ended)) ≡ false → get_or row j None ≡ None
 
 -- one call more
+row_next : (row : List (Option Call)) (states : List Actor) (queue : List ActorId) (k : ℕ) (items items' : List ActorCall) (call : Option Call) → IsQueue states queue → k < length queue → length row ≡ length states → IdleCall states row →
+    items ≡ call_list 1 (take (last_id queue k) row) → items' ≡ items ++ with_call (id_at queue k) call [] → call ≡ get_or row (id_at queue k - 1) None → items' ≡ call_list 1 (take (last_id queue (k + 1)) row)
+row_next row states queue k items items' call is within same none before added made =
+    let ids = is.ids k (record { 0 = 0 }) within in
+    let i = id_at queue k - 1 in
+    calls_next row items items' i (id_at queue k) call (omega (arith, ids.0, ids.1, same))
+    (before ∙ skipped_calls 1 row (last_id queue k) i (last_before states queue k is within) (λ j from to. none j (within_states states queue k j is within to) (quiet states queue k j is within from to)))
+    added (omega (arith, ids.0)) made
+    ∙ ap (λ (n : ℕ). call_list 1 (take n row)) (sym (last_next queue k ids.0))
+
+-- all calls
+row_end : (row : List (Option Call)) (states : List Actor) (queue : List ActorId) (k : ℕ) → IsQueue states queue → k ≤ length queue → length queue ≤ k → length row ≡ length states → IdleCall states row → call_list 1 (take (last_id queue k) row) ≡ call_list 1 row
+row_end row states queue k is within past same none =
+    skipped_calls 1 row (last_id queue k) (length states) (last_within states queue k is within) (λ j from to. none j to (quiet_end states queue k j is within past from to))
+    ∙ all_listed row (length states) (omega (arith, same))
+
+-- those that lie in the seats
+none_called : (places : List SeatView) (states : List Actor) (d : SeatView) → AreQueued places states → length places ≡ length states → IdleCall states (map call_in places)
+none_called places states d ready same j within idle =
+    get_or-map call_in places j d None (omega (arith, within, same)) ∙ idle_calls (get_or places j d) (idle_at places states j d ready same within idle)
+
 pub called_on : (places : List SeatView) (states : List Actor) (queue : List ActorId) (k : ℕ) (items items' : List ActorCall) (call : Option Call) (d : SeatView) → IsQueue states queue → k < length queue → AreQueued places states → length places ≡ length states →
     items ≡ call_list 1 (take (last_id queue k) (map call_in places)) → items' ≡ items ++ with_call (id_at queue k) call [] → call ≡ call_in (get_or places (id_at queue k - 1) d) → items' ≡ call_list 1 (take (last_id queue (k + 1)) (map call_in places))
 called_on places states queue k items items' call d is within ready same before added made =
     let ids = is.ids k (record { 0 = 0 }) within in
-    let i = id_at queue k - 1 in
-    let place : i < length places = omega (arith, ids.0, ids.1, same) in
-    calls_next (map call_in places) items items' i (id_at queue k) call (omega (arith, place, length-map places call_in))
-    (before ∙ skipped_calls 1 (map call_in places) (last_id queue k) i (last_before states queue k is within) (λ j from to. none_called places states j d ready same (within_states states queue k j is within to) (quiet states queue k j is within from to)))
-    added (omega (arith, ids.0)) (made ∙ sym (get_or-map call_in places i d None place))
-    ∙ ap (λ (n : ℕ). call_list 1 (take n (map call_in places))) (sym (last_next queue k ids.0))
+    row_next (map call_in places) states queue k items items' call is within (length-map places call_in ∙ same) (none_called places states d ready same) before added
+    (made ∙ sym (get_or-map call_in places (id_at queue k - 1) d None (omega (arith, ids.0, ids.1, same))))
 
--- all calls
 pub all_called : (places : List SeatView) (states : List Actor) (queue : List ActorId) (k : ℕ) → IsQueue states queue → k ≤ length queue → length queue ≤ k → AreQueued places states → length places ≡ length states →
     call_list 1 (take (last_id queue k) (map call_in places)) ≡ call_list 1 (map call_in places)
-all_called places states queue k is within past ready same =
-    skipped_calls 1 (map call_in places) (last_id queue k) (length states) (last_within states queue k is within) (λ j from to. none_called places states j no_place ready same to (quiet_end states queue k j is within past from to))
-    ∙ all_listed (map call_in places) (length states) (omega (arith, length-map places call_in, same))
+all_called places states queue k is within past ready same = row_end (map call_in places) states queue k is within past (length-map places call_in ∙ same) (none_called places states no_place ready same)
+
+-- those that are made on the answers
+none_made : (minds : List (Option Mind)) (states : List Actor) → length states ≡ length minds → IdleCall states (zip_with call_after minds (map inbox_of states))
+none_made minds states same j within idle = inbox_at call_after minds states j None None same within ∙ ap (call_after (get_or minds j None)) (none_for (get_or states j (not_suspended Ended)) idle)
+
+minds_number : (places : List SeatView) (states : List Actor) → length places ≡ length states → length states ≡ length (minds_of places)
+minds_number places states same = sym (length-map places mind_in ∙ same)
+
+pub made_on : (places : List SeatView) (states : List Actor) (queue : List ActorId) (k : ℕ) (items items' : List ActorCall) (call : Option Call) → IsQueue states queue → k < length queue → length places ≡ length states → let row = zip_with call_after (minds_of places) (map inbox_of states) in
+    items ≡ call_list 1 (take (last_id queue k) row) → items' ≡ items ++ with_call (id_at queue k) call [] → call ≡ get_or row (id_at queue k - 1) None → items' ≡ call_list 1 (take (last_id queue (k + 1)) row)
+made_on places states queue k items items' call is within same before added made =
+    let minds = minds_number places states same in
+    row_next (zip_with call_after (minds_of places) (map inbox_of states)) states queue k items items' call is within (answers_number call_after (minds_of places) states minds ∙ sym minds) (none_made (minds_of places) states minds) before added made
+
+pub all_made : (places : List SeatView) (states : List Actor) (queue : List ActorId) (k : ℕ) → IsQueue states queue → k ≤ length queue → length queue ≤ k → length places ≡ length states → let row = zip_with call_after (minds_of places) (map inbox_of states) in
+    call_list 1 (take (last_id queue k) row) ≡ call_list 1 row
+all_made places states queue k is within past same =
+    let minds = minds_number places states same in
+    row_end (zip_with call_after (minds_of places) (map inbox_of states)) states queue k is within past (answers_number call_after (minds_of places) states minds ∙ sym minds) (none_made (minds_of places) states minds)
 
 -- ---- as the loops have it, where a seat is read and then written
-pub offer_next : {S : Type 0} (see : S → SeatView) (old now : List S) (states : List Actor) (queue : List ActorId) (k : ℕ) (r s : S) (answer : Option Answer) → IsQueue states queue → k < length queue → length old ≡ length states →
-    map see now ≡ merged (last_id queue k) (zip_with with_answer (map see old) (map inbox_of states)) (map see old) → answer ≡ inbox_of (get_or states (id_at queue k - 1) (not_suspended Ended)) → see s ≡ with_answer (see (get_or now (id_at queue k - 1) r)) answer →
-    map see (set now (id_at queue k - 1) s) ≡ merged (last_id queue (k + 1)) (zip_with with_answer (map see old) (map inbox_of states)) (map see old)
-offer_next see old now states queue k r s answer is within number inv has made =
+pub answer_next : {S : Type 0} (see : S → SeatView) (f : SeatView → Option Answer → SeatView) → ((place : SeatView) → f place None ≡ place) → (old now : List S) (states : List Actor) (queue : List ActorId) (k : ℕ) (r s : S) (answer : Option Answer) → IsQueue states queue → k < length queue → length old ≡ length states →
+    map see now ≡ merged (last_id queue k) (zip_with f (map see old) (map inbox_of states)) (map see old) → answer ≡ inbox_of (get_or states (id_at queue k - 1) (not_suspended Ended)) → see s ≡ f (see (get_or now (id_at queue k - 1) r)) answer →
+    map see (set now (id_at queue k - 1) s) ≡ merged (last_id queue (k + 1)) (zip_with f (map see old) (map inbox_of states)) (map see old)
+answer_next see f stays old now states queue k r s answer is within number inv has made =
     let places = map see old in
-    let new = zip_with with_answer places (map inbox_of states) in
+    let new = zip_with f places (map inbox_of states) in
     let long : length places ≡ length states = length-map old see ∙ number in
-    let same : length new ≡ length places = offers_number places states (sym long) in
-    let stay : IdleStay states new places (see r) = offers_stay places states (see r) (sym long) in
+    let same : length new ≡ length places = answers_number f places states (sym long) in
+    let stay : IdleStay states new places (see r) = answers_stay f stays places states (see r) (sym long) in
     let ids = is.ids k (record { 0 = 0 }) within in
     let mine : see (get_or now (id_at queue k - 1) r) ≡ get_or places (id_at queue k - 1) (see r) = was_at see states queue k now new places r is within long same stay inv in
     stepped_on see states queue k now new places s (see r) is within long same stay inv
-    (made ∙ ap₂ with_answer mine has ∙ sym (offered_at places states (id_at queue k - 1) (see r) (sym long) (omega (arith, ids.0, ids.1))))
+    (made ∙ ap₂ f mine has ∙ sym (inbox_at f places states (id_at queue k - 1) (see r) (see r) (sym long) (omega (arith, ids.0, ids.1))))
 
-pub offers_end : {S : Type 0} (see : S → SeatView) (old now : List S) (states : List Actor) (queue : List ActorId) (k : ℕ) → IsQueue states queue → k ≤ length queue → length queue ≤ k → length old ≡ length states →
-    map see now ≡ merged (last_id queue k) (zip_with with_answer (map see old) (map inbox_of states)) (map see old) → map see now ≡ zip_with with_answer (map see old) (map inbox_of states)
-offers_end see old now states queue k is within past number inv =
+pub answers_end : {S : Type 0} (see : S → SeatView) (f : SeatView → Option Answer → SeatView) → ((place : SeatView) → f place None ≡ place) → (old now : List S) (states : List Actor) (queue : List ActorId) (k : ℕ) → IsQueue states queue → k ≤ length queue → length queue ≤ k → length old ≡ length states →
+    map see now ≡ merged (last_id queue k) (zip_with f (map see old) (map inbox_of states)) (map see old) → map see now ≡ zip_with f (map see old) (map inbox_of states)
+answers_end see f stays old now states queue k is within past number inv =
     let places = map see old in
     let long : length places ≡ length states = length-map old see ∙ number in
-    inv ∙ all_stepped states queue k (zip_with with_answer places (map inbox_of states)) places no_place is within past long (offers_number places states (sym long)) (offers_stay places states no_place (sym long))
+    inv ∙ all_stepped states queue k (zip_with f places (map inbox_of states)) places no_place is within past long (answers_number f places states (sym long)) (answers_stay f stays places states no_place (sym long))
+
+-- the call that such a seat's actor makes on its answer, when its turn comes
+pub made_at : {S : Type 0} (see : S → SeatView) (old now : List S) (states : List Actor) (queue : List ActorId) (k : ℕ) (r : S) (call : Option Call) (answer : Option Answer) → IsQueue states queue → k < length queue → length old ≡ length states →
+    map see now ≡ merged (last_id queue k) (zip_with behind_turn (map see old) (map inbox_of states)) (map see old) → answer ≡ inbox_of (get_or states (id_at queue k - 1) (not_suspended Ended)) → call ≡ call_after (mind_in (see (get_or now (id_at queue k - 1) r))) answer →
+    call ≡ get_or (zip_with call_after (minds_of (map see old)) (map inbox_of states)) (id_at queue k - 1) None
+made_at see old now states queue k r call answer is within number inv has made =
+    let places = map see old in
+    let long : length places ≡ length states = length-map old see ∙ number in
+    let ids = is.ids k (record { 0 = 0 }) within in
+    let i = id_at queue k - 1 in
+    let mine : see (get_or now i r) ≡ get_or places i (see r) =
+    was_at see states queue k now (zip_with behind_turn places (map inbox_of states)) places r is within long (answers_number behind_turn places states (sym long)) (answers_stay behind_turn (λ place. refl) places states (see r) (sym long)) inv in
+    made
+    ∙ ap₂ call_after (ap mind_in mine ∙ sym (get_or-map mind_in places i (see r) None (omega (arith, ids.0, ids.1, long)))) has
+    ∙ sym (inbox_at call_after (minds_of places) states i None None (minds_number places states long) (omega (arith, ids.0, ids.1)))
 
 -- a change of each place, by which those that aren't ready stay
 pub change_next : {S : Type 0} (see : S → SeatView) (f : SeatView → SeatView) → ((place : SeatView) → place.ready ≡ false → f place ≡ place) → (old now : List S) (states : List Actor) (queue : List ActorId) (k : ℕ) (r s : S) → IsQueue states queue → k < length queue → length old ≡ length states → AreQueued (map see old) states →

@@ -5,8 +5,9 @@ use Rattle.std.specs.Option.{option_map_or}
 use Rattle.sg_base.specs.declared.trace_record.Record.{Record}
 use Rattle.sg_edge.specs.Sources.{Source}
 use Rattle.sg_states.specs.declared.state.Actor.{Actor}
-use Rattle.sg_kernel.specs.Start.{capacities_in, setup_of}
-use Rattle.sg_kernel.specs.World.{Core}
+use Rattle.sg_kernel.specs.Start.{capacities_in}
+use Rattle.sg_setup.specs.Setup.{setup_of}
+use Rattle.sg_calls.specs.World.{Core}
 use Rattle.sg_states.specs.Actors.{blocked_of, is_alive}
 use Rattle.sg_rows.specs.Platform.{Platform}
 use Rattle.sg_rows.specs.Deployment.{Deployed, started_number}

@@ -4,4 +4,5 @@ pub mod Invariant
 pub mod Moments
 pub mod SeatRules
 pub mod Stretches
+pub mod Turns
 pub mod Writing

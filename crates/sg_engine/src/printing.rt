@@ -2,7 +2,7 @@
 ghost use Rattle.std.specs.Prelude.{◌≡◌, ◌<◌, ◌++◌, slice_index_or, IfSome};
 ghost use Rattle.sg_states.specs.Actors.{actor_at};
 ghost use Rattle.sg_states.specs.Records.{AreRecords, IsRecord};
-ghost use Rattle.sg_kernel.specs.World.{IsActor};
+ghost use Rattle.sg_calls.specs.World.{IsActor};
 ghost use Rattle.sg_rows.specs.Deployment.{extent_of};
 ghost use Rattle.sg_trace.specs.Ending.{IsLastOf};
 ghost use Rattle.sg_trace.specs.Line.{line_of};

@@ -1,6 +1,6 @@
 //! What a run is of.
 ghost use Rattle.std.specs.Prelude.{◌≡◌, length};
-ghost use Rattle.sg_kernel.specs.Roads.{AreOver};
+ghost use Rattle.sg_calls.specs.Roads.{AreOver};
 ghost use Rattle.sg_rows.specs.Deployment.{IsDeployedOn};
 ghost use Rattle.sg_rows.specs.Ends.{link_ends};
 ghost use Rattle.sg_route.specs.Roads.{roads_of};

@@ -17,17 +17,17 @@ use Rattle.sg_states.specs.declared.state.Blocking.{Blocking}
 use Rattle.sg_states.specs.declared.state.State.{State}
 use Rattle.sg_states.specs.declared.state.State.TheVariants.{Unstarted, Ready, Blocked, Ended}
 use Rattle.sg_states.specs.Actors.{actor_at, blocking_in, is_alive, is_id, joined_by, joiners, joins, not_suspended, put_state, state_at}
-use Rattle.sg_kernel.specs.declared.owners.How.TheVariants as how
-use Rattle.sg_kernel.specs.declared.owners.Whose.{Whose}
-use Rattle.sg_kernel.specs.declared.owners.Whose.TheVariants.{Over, Alone, Posted, Pair}
-use Rattle.sg_kernel.specs.declared.stop.Stop.{Stop}
-use Rattle.sg_kernel.specs.Answers.{answer_to, answers, answers_by, answers_side, bare_side, finishes, for_receiver, is_on, tells_bytes, with_over}
-use Rattle.sg_kernel.specs.Kills.{awaited, gives_up, gives_up_by, kill_done, kill_stretches, kills, withdrawn}
-use Rattle.sg_kernel.specs.Locks.{joiners_wake, wakes, wakes_from}
-use Rattle.sg_kernel.specs.Steps.{Step, goes_on, counted, follows, and_then, each, all_of, at_once, readied, replied}
-use Rattle.sg_kernel.specs.World.{Core, state_of, whose_at}
-use Rattle.sg_kernel.proofs.Each.{eq_yes}
-use Rattle.sg_kernel.proofs.Stated.{blocking_is}
+use Rattle.sg_owners.specs.declared.owners.How.TheVariants as how
+use Rattle.sg_owners.specs.declared.owners.Whose.{Whose}
+use Rattle.sg_owners.specs.declared.owners.Whose.TheVariants.{Over, Alone, Posted, Pair}
+use Rattle.sg_calls.specs.declared.stop.Stop.{Stop}
+use Rattle.sg_calls.specs.Answers.{answer_to, answers, answers_by, answers_side, bare_side, finishes, for_receiver, is_on, tells_bytes, with_over}
+use Rattle.sg_calls.specs.Kills.{awaited, gives_up, gives_up_by, kill_done, kill_stretches, kills, withdrawn}
+use Rattle.sg_calls.specs.Locks.{joiners_wake, wakes, wakes_from}
+use Rattle.sg_calls.specs.Steps.{Step, goes_on, counted, follows, and_then, each, all_of, at_once, readied, replied}
+use Rattle.sg_calls.specs.World.{Core, state_of, whose_at}
+use Rattle.sg_calls.proofs.Each.{eq_yes}
+use Rattle.sg_calls.proofs.Stated.{blocking_is}
 use Rattle.sg_failure_laws.specs.Laws.{TellsJoiner, TellsKill, TellsKiller, TellsOther, is_over}
 use Rattle.sg_failure_laws.proofs.Passed.{Awaits, all_so, awaits, just, put_there, ready_after, set_there}
 

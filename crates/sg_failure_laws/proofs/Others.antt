@@ -39,28 +39,29 @@ use Rattle.sg_states.specs.Records.{end_by}
 use Rattle.sg_sync.specs.declared.outcome.Outcome.{Outcome}
 use Rattle.sg_sync.specs.declared.outcome.Outcome.TheVariants.{GoesOn, Waits, Refused}
 use Rattle.sg_sync.specs.Objects.{Done, locked, unlocked, acquired, released, arrived}
-use Rattle.sg_kernel.specs.declared.meetings.Comer.{Comer}
-use Rattle.sg_kernel.specs.declared.owners.How.{How}
-use Rattle.sg_kernel.specs.declared.owners.How.TheVariants as how
-use Rattle.sg_kernel.specs.declared.owners.Whose.{Whose}
-use Rattle.sg_kernel.specs.declared.owners.Whose.TheVariants.{Over, Alone, Posted, Pair}
-use Rattle.sg_kernel.specs.declared.stop.Stop.{Stop}
-use Rattle.sg_kernel.specs.declared.stop.Stop.TheVariants.{Budget}
-use Rattle.sg_kernel.specs.Answers.{answer_to, answers, answers_by, answers_side, bare_side, finishes, for_receiver, is_on, party_eq, side_of, tells_bytes, with_over}
-use Rattle.sg_kernel.specs.Calls.{actor_of, alone, answer_of_ask, answered, answered_call, blocks_on, computes, executed, executes, told, with_execution, with_sleep}
-use Rattle.sg_kernel.specs.Kills.{awaited, blocked_on, gives_up, gives_up_by, kill_done, kill_stretches, kills, withdrawn}
-use Rattle.sg_kernel.specs.Lives.{begins, creates, created, exits, joins_by, joins_one, leaves}
-use Rattle.sg_kernel.specs.Locks.{all_wake, caller_first, caller_gets, caller_last, joiners_wake, wakes, wakes_from, with_objects}
-use Rattle.sg_kernel.specs.Meetings.{answer_of_over, asks_for, await, both_fail, comer_fails, comes, comes_by, fails_with, joined, joins_on, joins_over, joins_with, other_fails, posted, posts_at, receiver_of, receives_by, route_between, sender_of, sends_by, takes_part, takes_part_failed, waits_by, waits_until, way_with}
+use Rattle.sg_calls.specs.declared.meetings.Comer.{Comer}
+use Rattle.sg_owners.specs.declared.owners.How.{How}
+use Rattle.sg_owners.specs.declared.owners.How.TheVariants as how
+use Rattle.sg_owners.specs.declared.owners.Whose.{Whose}
+use Rattle.sg_owners.specs.declared.owners.Whose.TheVariants.{Over, Alone, Posted, Pair}
+use Rattle.sg_calls.specs.declared.stop.Stop.{Stop}
+use Rattle.sg_calls.specs.declared.stop.Stop.TheVariants.{Budget}
+use Rattle.sg_calls.specs.Answers.{answer_to, answers, answers_by, answers_side, bare_side, finishes, for_receiver, is_on, party_eq, side_of, tells_bytes, with_over}
+use Rattle.sg_calls.specs.Calls.{actor_of, alone, answer_of_ask, answered, answered_call, blocks_on, computes, executed, executes, told, with_execution, with_sleep}
+use Rattle.sg_calls.specs.Kills.{awaited, blocked_on, gives_up, gives_up_by, kill_done, kill_stretches, kills, withdrawn}
+use Rattle.sg_calls.specs.Lives.{begins, creates, created, exits, joins_by, joins_one, leaves}
+use Rattle.sg_calls.specs.Locks.{all_wake, caller_first, caller_gets, caller_last, joiners_wake, wakes, wakes_from, with_objects}
+use Rattle.sg_calls.specs.Meetings.{answer_of_over, asks_for, await, both_fail, comer_fails, comes, comes_by, fails_with, joined, joins_on, joins_over, joins_with, other_fails, posted, posts_at, receiver_of, receives_by, route_between, sender_of, sends_by, takes_part, takes_part_failed, waits_by, waits_until, way_with}
 use Rattle.sg_kernel.specs.Passes.{all_fail, changes, core_later, ends, ends_by, ends_in, ends_one, enters_one, entry_stretches, fails, fails_one, next_span, pass_at, settled, stretches}
 use Rattle.sg_kernel.specs.Start.{first_core}
-use Rattle.sg_kernel.specs.Steps.{Step, goes_on, stops, counted, follows, and_then, each, all_of, at_once, blocked_by, readied, replied}
-use Rattle.sg_kernel.specs.Suspensions.{held_by, held_if, held_on, held_to, resumes, suspended_to, suspends}
-use Rattle.sg_kernel.specs.World.{Setup, Core, host_of, is_suspended, state_of, whose_at, with_suspended}
+use Rattle.sg_calls.specs.Steps.{Step, goes_on, stops, counted, follows, and_then, each, all_of, at_once, blocked_by, readied, replied}
+use Rattle.sg_calls.specs.Suspensions.{held_by, held_if, held_on, held_to, resumes, suspended_to, suspends}
+use Rattle.sg_setup.specs.Setup.{Setup}
+use Rattle.sg_calls.specs.World.{Core, host_of, is_suspended, state_of, whose_at, with_suspended}
 use Rattle.sg_kernel.proofs.Hits.{rest_is_hit}
-use Rattle.sg_kernel.proofs.Postings.{found_post}
+use Rattle.sg_calls.proofs.Postings.{found_post}
 use Rattle.sg_kernel.proofs.Skips.{finishes_leaves}
-use Rattle.sg_kernel.proofs.Stated.{blocking_is}
+use Rattle.sg_calls.proofs.Stated.{blocking_is}
 use Rattle.sg_failure_laws.specs.Laws.{is_failed, over_by}
 use Rattle.sg_failure_laws.specs.Others.{AreFit, IsFit, IsOwn, IsSleep, MayTell, NoOtherFails, Suits, TellsFew, is_nowhere, is_nowhere_at, may_fail}
 use Rattle.sg_failure_laws.proofs.Killed.{Since, gives_up_tells, killer_tells, since_withdrawn}

@@ -239,6 +239,7 @@ reached_more s a f f' c r old below none e places idle fixed holds =
     let here : fixed_at f'.holds.items c ≡ None = ap (λ hs. fixed_at hs c) holds ∙ get_or-set_same f.holds.items c None None (omega (arith, below, old.places.holds_len)) in
     record {
       ready = record {
+        sound = old.ready.sound;
         touched_room = old.ready.touched_room;
         reached_room = ap (λ (m : MarkSet). m.room) e ∙ old.ready.reached_room;
         covers = λ id h. all_stay (uses_at s.slots id) a.reached.members r.members grows (old.ready.covers id h);

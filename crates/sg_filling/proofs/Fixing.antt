@@ -10,7 +10,7 @@ use Rattle.sg_maxmin.proofs.Sums.{sum_by_same}
 use Rattle.sg_filling.specs.declared.filling.Filling.{Filling}
 use Rattle.sg_filling.specs.Component.{AreIn}
 use Rattle.sg_levels.specs.Numbered.{flow_in}
-use Rattle.sg_filling.specs.Filling.{AreAbove, AreCounted, AreFixed, AreJoined, HasPlaces, IsLeast, IsLessBy, IsStepped, KeepsCount, MayStep, StepsPartly, bound_limit, fixed_at, given, limits_at, taken_on, unfixed_uses, waiting_on, waits_with, weight_on}
+use Rattle.sg_filling.specs.Filling.{AreAbove, AreCounted, AreFixed, AreJoined, FixesFlow, HasPlaces, IsLeast, IsLessBy, IsStepped, KeepsCount, MayStep, StepsPartly, bound_limit, fixed_at, given, limits_at, taken_on, unfixed_uses, waiting_on, waits_with, weight_on}
 use Rattle.sg_filling.proofs.Growing.{at_in, in_at}
 use Rattle.sg_filling.proofs.Listing.{bool_cases, eq_cases}
 use Rattle.sg_filling.proofs.Rows.{in_is, into, is_in_In, same_in, times_out}
@@ -95,6 +95,13 @@ fixed_stay s low row a b p all = λ i h. let id = get_or row i 0 in some_stays l
 
 pub count_same : (s : Sharing) (touched : List ℕ) (a : Filling) (x : ℕ) → KeepsCount s touched a a x x
 count_same s touched a x = record { counted = λ reached h. h; looks = omega arith }
+
+-- where nothing is fixed
+pub fixes_same : (s : Sharing) (flow low : ℕ) (a : Filling) (x : ℕ) → HasPlaces s a → FixesFlow s flow low a a x x
+fixes_same s flow low a x places = record {
+  fixes = record { partly = partly_same s low a places; agenda = refl; holds = refl };
+  count = λ touched once there. count_same s touched a x;
+}
 
 -- ---- one flow is fixed
 module _ (s : Sharing) (fixed : List (Option ℕ)) (f low : ℕ) (below : f < length fixed) (none : fixed_at fixed f ≡ None) where

@@ -18,3 +18,4 @@ pub mod Notes
 pub mod Joined
 pub mod Noted
 pub mod Holding
+pub mod Last

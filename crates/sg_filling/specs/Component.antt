@@ -2,7 +2,7 @@
 use Rattle.std.specs.Prelude.{◌≡◌, ℕ, Bool, ◌<◌, ◌+◌, ◌≤◌, List, length, sum_by, slice_index, IsTrue}
 use Rattle.sg_base.specs.MarkSet.{MarkSet, is_in}
 use Rattle.sg_chains.specs.Chained.{users_on}
-use Rattle.sg_maxmin.specs.Sharing.{Sharing, uses_at}
+use Rattle.sg_maxmin.specs.Sharing.{Sharing, IsSound, uses_at}
 use Rattle.sg_filling.specs.declared.component.Component.{Component}
 
 -- the numbers come after those that were there
@@ -55,8 +55,9 @@ pub record MarksRows (rows : ℕ → List ℕ) (numbers : List ℕ) (old new : M
   pub few : length new.members ≤ length old.members + lengths rows numbers
   pub least : (test : ℕ → Bool) → ((i : ℕ) → i < length numbers → RowPasses test (rows (slice_index numbers i))) → AllPass test old.members → AllPass test new.members
 
--- there is room for all flows and all resources, and what the touched flows use is reached
+-- there is room for all flows and all resources of a system, and what the touched flows use is reached
 pub record IsOpen (s : Sharing) (component : Component) : Type 0 where
+  pub sound : IsSound s
   pub touched_room : length s.slots ≤ component.touched.room
   pub reached_room : component.reached.room ≡ length s.capacities
   pub covers : Covers (uses_at s.slots) component.touched.members component.reached.members

@@ -1,5 +1,5 @@
 -- A filling of the touched flows, by their numbers.
-use Rattle.std.specs.Prelude.{◌≡◌, ◌≢◌, ℕ, ◌+◌, ◌-◌, ◌*◌, ◌/◌, ◌<◌, ◌≤◌, ◌==◌, ◌⊎◌, Bool, true, false, AllPairs, Option, None, Some, IsSome, is_none, option_map, option_to_list, if◌then◌else◌, List, [], ◌∷◌, ◌++◌, map, flat_map, length, sum_by, min, All, Contains, slice_index, slice_index_or}
+use Rattle.std.specs.Prelude.{◌≡◌, ◌≢◌, ℕ, ◌+◌, ◌-◌, ◌*◌, ◌/◌, ◌<◌, ◌≤◌, ◌==◌, ◌⊎◌, Bool, true, false, AllPairs, Option, None, Some, IsSome, is_none, option_map, option_to_list, if◌then◌else◌, List, [], ◌∷◌, ◌++◌, map, flat_map, length, sum_by, min, All, Contains, slice_index, slice_index_or, slice_set}
 use Rattle.sg_maxmin.specs.Fill.{Flow, share_at, bound_level, level_of}
 use Rattle.sg_chains.specs.Chained.{times}
 use Rattle.sg_maxmin.specs.Sharing.{Sharing, IsSound, flow_at, uses_at}
@@ -11,7 +11,7 @@ use Rattle.sg_filling.specs.declared.filling.Filling.{Filling}
 use Rattle.sg_filling.specs.declared.filling.Least.{Least}
 use Rattle.sg_filling.specs.declared.filling.Low.{Low}
 use Rattle.sg_filling.specs.declared.filling.Span.{Span}
-use Rattle.sg_filling.specs.Component.{IsClosure}
+use Rattle.sg_filling.specs.Component.{IsClosure, MarksRow}
 use Rattle.sg_filling.specs.Dates.{IsIdle}
 
 -- the touched flows
@@ -59,6 +59,11 @@ IsStepped low at None after = (at × (after ≡ Some low)) ⊎ ((at → ⊥) × 
 -- the same of a flow by its number
 abbrev pub FlowSteps : List (Option Flow) → List ℕ → ℕ → List (Option ℕ) → List (Option ℕ) → ℕ → Type 0
 FlowSteps slots levels low old new id = IsStepped low (IsLeast (Some low) (limits_at slots levels id)) (fixed_at old id) (fixed_at new id)
+
+-- the same of each touched flow
+abbrev pub AreStepped : Sharing → List ℕ → ℕ → Filling → Filling → Type 0
+AreStepped s touched low old new =
+    (i : ℕ) → i < length touched → FlowSteps s.slots old.levels.items low old.fixed.items new.fixed.items (slice_index touched i)
 
 -- the touched flows are held
 pub record ArePart (s : Sharing) (touched : List ℕ) : Type 0 where
@@ -114,6 +119,17 @@ pub record HasPlaces (s : Sharing) (filling : Filling) : Type 0 where
 pub record HasFlow (s : Sharing) (filling : Filling) (id : ℕ) : Type 0 where
   pub places : HasPlaces s filling
   pub held : IsSome (flow_at s.slots id)
+
+-- what fixing a flow at this level does: at each resource that it uses its share is taken off what is left, it waits no more, and the level must be divided again; no level, hold or key changes
+pub record FixesAt (s : Sharing) (flow low : ℕ) (old new : Filling) : Type 0 where
+  pub places : HasPlaces s new
+  pub levels : new.levels.items ≡ old.levels.items
+  pub agenda : new.agenda ≡ old.agenda
+  pub holds : new.holds.items ≡ old.holds.items
+  pub fixed : new.fixed.items ≡ slice_set old.fixed.items flow (Some low)
+  pub left : IsLessBy (λ c. times c (uses_at s.slots flow) * share_at (flow_in s.slots flow) low) old.left.items new.left.items
+  pub waiting : IsLessBy (weight_on s.slots flow) old.waiting.items new.waiting.items
+  pub stale : MarksRow (uses_at s.slots flow) old.stale new.stale
 
 -- levels, holds, keys and what is fixed stay
 pub record KeepsLevels (old new : Filling) : Type 0 where
@@ -245,6 +261,25 @@ abbrev pub AreAbove : Sharing → List ℕ → ℕ → Filling → Type 0
 AreAbove s row low filling =
     (id : ℕ) → is_in id row ≡ true → fixed_at filling.fixed.items id ≡ None →
     (x : ℕ) → Contains (limits_at s.slots filling.levels.items id) x → low ≤ x
+
+-- the resource is one, and no unfixed flow on it is limited below this level
+pub record CanFixOn (s : Sharing) (low : ℕ) (filling : Filling) (resource : ℕ) : Type 0 where
+  pub places : HasPlaces s filling
+  pub exists : resource < length s.capacities
+  pub above : AreAbove s (users_on s.users resource) low filling
+
+-- the touched flows are held, each once; no unfixed one is limited below this level, and none has a bound below the floor
+pub record CanFixBounded (s : Sharing) (touched : List ℕ) (low : ℕ) (floor : Option ℕ) (filling : Filling) : Type 0 where
+  pub part : ArePart s touched
+  pub once : AllPairs (λ a b. a ≢ b) touched
+  pub places : HasPlaces s filling
+  pub above : AreAbove s touched low filling
+  pub floor_is : IsFloor floor (unfixed_bounds s.slots filling.fixed.items touched)
+
+-- what fixes one flow, where it is unfixed, keeps the count of all flows among which it is
+pub record FixesFlow (s : Sharing) (flow low : ℕ) (old new : Filling) (before after : ℕ) : Type 0 where
+  pub fixes : FixesFlows s low old new
+  pub count : (touched : List ℕ) → AllPairs (λ a b. a ≢ b) touched → is_in flow touched ≡ true → KeepsCount s touched old new before after
 
 -- all flows of the row are fixed
 abbrev pub AreFixed : List ℕ → Filling → Type 0

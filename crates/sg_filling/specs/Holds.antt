@@ -1,5 +1,5 @@
 -- At which level a filling takes each resource: there it holds its flows.
-use Rattle.std.specs.Prelude.{◌≡◌, ℕ, ◌+◌, ◌*◌, ◌<◌, ◌≤◌, ◌==◌, ◌⊎◌, Bool, true, Option, None, Some, IsSome, is_none, if◌then◌else◌, List, Contains, length, sum_by, slice_index, slice_set}
+use Rattle.std.specs.Prelude.{◌≡◌, ℕ, ◌+◌, ◌*◌, ◌<◌, ◌≤◌, ◌==◌, ◌⊎◌, Bool, true, false, Option, None, Some, IsSome, is_none, if◌then◌else◌, List, Contains, length, sum_by, slice_index, slice_set}
 use Rattle.sg_base.specs.MarkSet.{is_in}
 use Rattle.sg_chains.specs.Chained.{users_on}
 use Rattle.sg_maxmin.specs.Fill.{Flow}
@@ -7,8 +7,8 @@ use Rattle.sg_maxmin.specs.Sharing.{Sharing}
 use Rattle.sg_levels.specs.Numbered.{below_at, row_level}
 use Rattle.sg_filling.specs.declared.filling.Filling.{Filling}
 use Rattle.sg_filling.specs.declared.filling.Low.{Low}
-use Rattle.sg_filling.specs.Dates.{AreDated, IsIdle}
-use Rattle.sg_filling.specs.Filling.{AreAbove, AreCounted, AreFixed, AreJoined, AreLeveled, AreLevels, AreTaken, HasPlaces, IsFloor, KeepsHolds, KeepsOthers, StepsPartly, fixed_at, unfixed_bounds, unfixed_limits, unfixed_uses}
+use Rattle.sg_filling.specs.Dates.{AreDated, HaveNone, IsIdle}
+use Rattle.sg_filling.specs.Filling.{AreAbove, AreCounted, AreFixed, AreJoined, AreLeveled, AreLevels, AreTaken, HasPlaces, IsFloor, IsLeast, KeepsFixed, KeepsHolds, KeepsOthers, StepsPartly, fixed_at, limits_at, unfixed_bounds, unfixed_limits, unfixed_uses}
 
 -- a resource is noted where it is at this level
 abbrev pub noted_at : ℕ → ℕ → Filling → List (Option ℕ)
@@ -52,6 +52,14 @@ untaken s reached filling = sum_by (λ c. if is_none (fixed_at filling.holds.ite
 abbrev pub AreFresh : List ℕ → ℕ → Filling → Type 0
 AreFresh reached low filling = (c : ℕ) → is_in c reached ≡ true → slice_index filling.levels.items c ≡ low → fixed_at filling.holds.items c ≡ None
 
+-- a filling between two steps: what is left and what waits is counted, the keys are right, and no unfixed flow has a bound below the floor
+pub record IsUnderWay (s : Sharing) (touched reached : List ℕ) (floor : Option ℕ) (filling : Filling) : Type 0 where
+  pub joined : AreJoined s touched reached
+  pub places : HasPlaces s filling
+  pub counted : AreCounted s filling.fixed.items touched filling.left.items filling.waiting.items (λ c. is_in c reached)
+  pub dated : AreDated reached filling
+  pub floor_is : IsFloor floor (unfixed_bounds s.slots filling.fixed.items touched)
+
 -- a filling at the level of its next step
 pub record IsAtLevel (s : Sharing) (touched reached : List ℕ) (low : Low) (filling : Filling) : Type 0 where
   pub joined : AreJoined s touched reached
@@ -74,6 +82,23 @@ pub record FixesUsers (s : Sharing) (touched reached : List ℕ) (low : Low) (ol
   pub noted : NotesHolds reached low.level old new
   pub on : (i : ℕ) → i < length reached → slice_index old.levels.items (slice_index reached i) ≡ low.level → AreFixed (users_on s.users (slice_index reached i)) new
   pub count : CountsOnce s touched reached old new before after
+
+-- a filling at the level of its last step: all touched flows are unfixed and at it; no resource has a key
+pub record IsLast (s : Sharing) (touched reached : List ℕ) (low : ℕ) (filling : Filling) : Type 0 where
+  pub joined : AreJoined s touched reached
+  pub places : HasPlaces s filling
+  pub unfixed : (id : ℕ) → is_in id touched ≡ true → fixed_at filling.fixed.items id ≡ None
+  pub at : (id : ℕ) → is_in id touched ≡ true → IsLeast (Some low) (limits_at s.slots filling.levels.items id)
+  pub quiet : (c : ℕ) → is_in c reached ≡ false → slice_index filling.waiting.items c ≡ 0
+  pub keys : HaveNone filling.agenda
+
+-- what the last step does: all touched flows are fixed at its level, and nobody waits
+pub record FixesRest (s : Sharing) (touched reached : List ℕ) (low : ℕ) (old new : Filling) : Type 0 where
+  pub places : HasPlaces s new
+  pub idle : IsIdle new
+  pub fixed : (id : ℕ) → is_in id touched ≡ true → fixed_at new.fixed.items id ≡ Some low
+  pub kept : KeepsFixed old new
+  pub noted : NotesHolds reached low old new
 
 -- a filling begins: no touched flow is fixed, and no reached resource is noted
 pub record IsBegun (s : Sharing) (touched reached : List ℕ) (filling : Filling) : Type 0 where

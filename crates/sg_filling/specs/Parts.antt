@@ -9,7 +9,7 @@ use Rattle.sg_levels.specs.Kept.{PassAlong}
 use Rattle.sg_filling.specs.declared.component.Component.{Component}
 use Rattle.sg_filling.specs.declared.filling.Filling.{Filling}
 use Rattle.sg_filling.specs.declared.parts.Parts.{Parts}
-use Rattle.sg_filling.specs.Component.{AllPass, Grows, IsClosedBy, IsOpen, touched_uses}
+use Rattle.sg_filling.specs.Component.{AllPass, Grows, IsClosedBy, IsOpen, PassAlong as PassRows, StaysWithin, touched_uses}
 use Rattle.sg_filling.specs.Dates.{IsIdle}
 use Rattle.sg_levels.specs.Numbered.{flow_in}
 use Rattle.sg_filling.specs.Filling.{HasPlaces, HasResources, fixed_at}
@@ -29,6 +29,17 @@ pub record IsFilled (s : Sharing) (component : Component) (filling : Filling) : 
   pub levels : (id : ℕ) → is_in id component.touched.members ≡ true → fixed_at filling.fixed.items id ≡ Some (level_in_all s id)
   pub holds : (c : ℕ) → is_in c component.reached.members ≡ true → IsHold (slice_index s.capacities c) s.slots filling.fixed.items (users_on s.users c) (fixed_at filling.holds.items c)
 
+-- and the resource is one
+pub record IsFilledAt (s : Sharing) (component : Component) (filling : Filling) (resource : ℕ) : Type 0 where
+  pub filled : IsFilled s component filling
+  pub exists : resource < length s.capacities
+
+-- and the flow is held, and isn't touched yet
+pub record IsFilledBut (s : Sharing) (component : Component) (filling : Filling) (flow : ℕ) : Type 0 where
+  pub filled : IsFilled s component filling
+  pub held : IsSome (flow_at s.slots flow)
+  pub untouched : is_in flow component.touched.members ≡ false
+
 -- looks that suffice for the touched flows: six at each use, of which two reach it, one begins, and the others find and fix the flow
 abbrev pub part_looks : Sharing → Component → ℕ
 part_looks s component = 6 * touched_uses s component
@@ -39,6 +50,16 @@ pub record FillsOn (s : Sharing) (old new : Component) (filling : Filling) (befo
   pub touched : Grows old.touched.members new.touched.members
   pub reached : Grows old.reached.members new.reached.members
   pub looks : after + part_looks s old ≤ before + part_looks s new
+
+-- Of filling from a start: what begins there is touched and reached, and nothing else but what sharing joins to it.
+pub record FillsFrom (s : Sharing) (Starts : (ℕ → Bool) → (ℕ → Bool) → Type 0) (old new : Component) (filling : Filling) (before after : ℕ) : Type 0 where
+  pub on : FillsOn s old new filling before after
+  pub there : Starts (λ id. is_in id new.touched.members) (λ r. is_in r new.reached.members)
+  pub least : (p q : ℕ → Bool) → PassRows s p q → Starts p q → StaysWithin p q old new
+
+-- the test holds of the numbers that haven't ended
+abbrev pub RunningPass : List ℕ → List ℕ → (ℕ → Bool) → Type 0
+RunningPass numbers ended test = (id : ℕ) → is_in id numbers ≡ true → is_in id ended ≡ false → IsTrue (test id)
 
 -- flows under these numbers are held, but for those that ended
 pub record AreHeldUnless (s : Sharing) (ended : MarkSet) (numbers : List ℕ) : Type 0 where

@@ -1,10 +1,10 @@
 //! Filling part by part: what sharing joins to one flow is filled by itself.
-ghost use Rattle.std.specs.Prelude.{◌≡◌, ◌≤◌, ◌<◌, ◌+◌, ℕ, Bool, true, false, IsSome, IsTrue, All, length};
+ghost use Rattle.std.specs.Prelude.{◌≡◌, ◌<◌, false, IsSome, IsTrue, All, length};
 ghost use Rattle.sg_base.specs.MarkSet.{is_in, with_mark};
 ghost use Rattle.sg_chains.specs.Chained.{users_on};
 ghost use Rattle.sg_maxmin.specs.Sharing.{flow_at};
-ghost use Rattle.sg_filling.specs.Component.{AllPass, PassAlong, StaysWithin};
-ghost use Rattle.sg_filling.specs.Parts.{AreHeldUnless, FillsOn, IsFilled};
+ghost use Rattle.sg_filling.specs.Component.{AllPass};
+ghost use Rattle.sg_filling.specs.Parts.{AreHeldUnless, FillsFrom, IsFilled, IsFilledAt, IsFilledBut, RunningPass};
 
 use crate::component::{Component, reach, touch};
 use crate::filling::{Filling, fill};
@@ -20,14 +20,9 @@ fn fill_part<L: Ledger>(
     filling: &mut Filling,
     steps: &mut Steps<L>,
 )
-    requires held { IsSome (flow_at system.now.slots flow) }
-    requires untouched { is_in flow component.old.touched.members ≡ false }
-    requires filled { IsFilled system.now component.old filling.old }
-    ensures on { FillsOn system.now component.old component.new filling.new
+    requires { IsFilledBut system.now component.old filling.old flow }
+    ensures { FillsFrom system.now (λ p q. IsTrue (p flow)) component.old component.new filling.new
         steps.old steps.new }
-    ensures there { IsTrue (is_in flow component.new.touched.members) }
-    ensures least { (p q : ℕ → Bool) → PassAlong system.now p q → IsTrue (p flow)
-        → StaysWithin p q component.old component.new }
 {
     let touched = component.touched.members().len();
     let reached = component.reached.members().len();
@@ -54,13 +49,8 @@ fn fill_running<L: Ledger>(
     requires flow { (flow < ended.now.room) × (flow < length system.now.slots) }
     requires held { is_in flow ended.now.members ≡ false → IsSome (flow_at system.now.slots flow) }
     requires filled { IsFilled system.now component.old filling.old }
-    ensures on { FillsOn system.now component.old component.new filling.new
-        steps.old steps.new }
-    ensures there { is_in flow ended.now.members ≡ false
-        → IsTrue (is_in flow component.new.touched.members) }
-    ensures least { (p q : ℕ → Bool) → PassAlong system.now p q
-        → (is_in flow ended.now.members ≡ false → IsTrue (p flow))
-        → StaysWithin p q component.old component.new }
+    ensures { FillsFrom system.now (λ p q. is_in flow ended.now.members ≡ false → IsTrue (p flow))
+        component.old component.new filling.new steps.old steps.new }
 {
     if ended.contains(flow) {
         return;
@@ -82,13 +72,8 @@ pub fn fill_marked<L: Ledger>(
 )
     requires marked { AreHeldUnless system.now ended.now marked.now }
     requires filled { IsFilled system.now component.old filling.old }
-    ensures on { FillsOn system.now component.old component.new filling.new
-        steps.old steps.new }
-    ensures there { (id : ℕ) → is_in id marked.now ≡ true → is_in id ended.now.members ≡ false
-        → IsTrue (is_in id component.new.touched.members) }
-    ensures least { (p q : ℕ → Bool) → PassAlong system.now p q
-        → ((id : ℕ) → is_in id marked.now ≡ true → is_in id ended.now.members ≡ false
-        → IsTrue (p id)) → StaysWithin p q component.old component.new }
+    ensures { FillsFrom system.now (λ p q. RunningPass marked.now ended.now.members p)
+        component.old component.new filling.new steps.old steps.new }
 {
     for flow in marked {
         fill_running(system, *flow, ended, component, filling, steps);
@@ -103,14 +88,10 @@ fn fill_from<L: Ledger>(
     filling: &mut Filling,
     steps: &mut Steps<L>,
 )
-    requires resource { resource < length system.now.capacities }
+    requires at { IsFilledAt system.now component.old filling.old resource }
     requires used { 0 < length (users_on system.now.users resource) }
-    requires filled { IsFilled system.now component.old filling.old }
-    ensures on { FillsOn system.now component.old component.new filling.new
-        steps.old steps.new }
-    ensures there { IsTrue (is_in resource component.new.reached.members) }
-    ensures least { (p q : ℕ → Bool) → PassAlong system.now p q → IsTrue (q resource)
-        → StaysWithin p q component.old component.new }
+    ensures { FillsFrom system.now (λ p q. IsTrue (q resource)) component.old component.new
+        filling.new steps.old steps.new }
 {
     let touched = component.touched.members().len();
     let reached = component.reached.members().len();
@@ -127,9 +108,8 @@ fn fill_from<L: Ledger>(
 
 // Reaches a resource that no flow uses: it holds none.
 fn reach_free(system: &System, resource: usize, component: &mut Component, filling: &mut Filling)
-    requires resource { resource < length system.now.capacities }
+    requires at { IsFilledAt system.now component.old filling.old resource }
     requires free { length (users_on system.now.users resource) ≡ 0 }
-    requires filled { IsFilled system.now component.old filling.old }
     ensures filled { IsFilled system.now component.new filling.new }
     ensures touched { component.new.touched ≡ component.old.touched }
     ensures reached { component.new.reached ≡ record component.old.reached {
@@ -148,13 +128,9 @@ fn fill_on<L: Ledger>(
     filling: &mut Filling,
     steps: &mut Steps<L>,
 )
-    requires resource { resource < length system.now.capacities }
-    requires filled { IsFilled system.now component.old filling.old }
-    ensures on { FillsOn system.now component.old component.new filling.new
-        steps.old steps.new }
-    ensures there { IsTrue (is_in resource component.new.reached.members) }
-    ensures least { (p q : ℕ → Bool) → PassAlong system.now p q → IsTrue (q resource)
-        → StaysWithin p q component.old component.new }
+    requires { IsFilledAt system.now component.old filling.old resource }
+    ensures { FillsFrom system.now (λ p q. IsTrue (q resource)) component.old component.new
+        filling.new steps.old steps.new }
 {
     if component.reached.contains(resource) {
         return;
@@ -175,11 +151,8 @@ pub fn fill_on_all<L: Ledger>(
 )
     requires resources { All (λ c. c < length system.now.capacities) resources.now }
     requires filled { IsFilled system.now component.old filling.old }
-    ensures on { FillsOn system.now component.old component.new filling.new
-        steps.old steps.new }
-    ensures there { AllPass (λ c. is_in c component.new.reached.members) resources.now }
-    ensures least { (p q : ℕ → Bool) → PassAlong system.now p q → AllPass q resources.now
-        → StaysWithin p q component.old component.new }
+    ensures { FillsFrom system.now (λ p q. AllPass q resources.now) component.old component.new
+        filling.new steps.old steps.new }
 {
     for c in resources {
         fill_on(system, *c, component, filling, steps);

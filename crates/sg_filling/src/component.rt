@@ -2,7 +2,7 @@
 ghost use Rattle.std.specs.Prelude.{◌≡◌, ◌≤◌, ◌<◌, ◌+◌, ℕ, Bool, IfOk, IsTrue, All, length, take};
 ghost use Rattle.sg_base.specs.MarkSet.{is_in};
 ghost use Rattle.sg_chains.specs.Chained.{users_on};
-ghost use Rattle.sg_maxmin.specs.Sharing.{IsSound, uses_at};
+ghost use Rattle.sg_maxmin.specs.Sharing.{uses_at};
 ghost use Rattle.sg_filling.specs.Component.{AreIn, AreVisited, IsClosedBy, IsOpen, MarksRow, PassAlong, Passes, RowPasses, Spreads, StaysWithin, lengths, touched_uses};
 
 use sg_base::{Marks, Memory, Steps};
@@ -53,7 +53,6 @@ pub fn touch<L: Ledger>(
     steps: &mut Steps<L>,
 )
     requires flow { flow < component.old.touched.room }
-    requires sound { IsSound system.now }
     requires open { IsOpen system.now component.old }
     ensures spreads { Spreads system.now component.old component.new }
     ensures there { IsTrue (is_in flow component.new.touched.members) }
@@ -77,7 +76,6 @@ fn touch_users<L: Ledger>(
     steps: &mut Steps<L>,
 )
     requires resource { resource < length system.now.capacities }
-    requires sound { IsSound system.now }
     requires open { IsOpen system.now component.old }
     ensures spreads { Spreads system.now component.old component.new }
     ensures there { AreIn (users_on system.now.users resource)
@@ -105,7 +103,6 @@ pub fn reach<L: Ledger>(
     component: &mut Component,
     steps: &mut Steps<L>,
 )
-    requires sound { IsSound system.now }
     requires open { IsOpen system.now component.old }
     requires visited { AreVisited system.now visited component.old }
     ensures spreads { Spreads system.now component.old component.new }

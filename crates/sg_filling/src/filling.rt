@@ -1,15 +1,15 @@
 //! The filling of the touched flows alone.
-ghost use Rattle.std.specs.Prelude.{◌≡◌, ◌≢◌, ◌≤◌, ◌<◌, ◌+◌, ◌-◌, ◌*◌, ◌/◌, ◌^◌, ◌++◌, ◌∷◌, ℕ, List, [], Option, None, Some, IfOk, IfSome, IsSome, true, false, AllPairs, All, length, min, option_map, option_to_list, slice_index, slice_set};
+ghost use Rattle.std.specs.Prelude.{◌≡◌, ◌≢◌, ◌≤◌, ◌<◌, ◌+◌, ◌-◌, ◌*◌, ◌/◌, ◌^◌, ◌++◌, ◌∷◌, ℕ, List, [], Option, None, Some, IfOk, IfSome, IsSome, true, false, AllPairs, All, length, min, option_map, option_to_list, slice_index, slice_set, sum_by};
 ghost use Rattle.sg_base.specs.MarkSet.{is_in, with_mark};
-ghost use Rattle.sg_chains.specs.Chained.{times, users_on};
-ghost use Rattle.sg_maxmin.specs.Fill.{bound_level as level_of_bound, level_of, share_at, share_of, bounded};
+ghost use Rattle.sg_chains.specs.Chained.{users_on};
+ghost use Rattle.sg_maxmin.specs.Fill.{bound_level as level_of_bound, level_of, share_of, bounded};
 ghost use Rattle.sg_maxmin.specs.Laws.{HaveLimits};
-ghost use Rattle.sg_maxmin.specs.Sharing.{IsSound, flow_at, uses_at};
-ghost use Rattle.sg_filling.specs.Component.{AreIn, MarksRow, lengths};
+ghost use Rattle.sg_maxmin.specs.Sharing.{flow_at, uses_at};
+ghost use Rattle.sg_filling.specs.Component.{AreIn, lengths};
 ghost use Rattle.sg_filling.specs.Dates.{AreDated, HaveKeys, IsIdle, StayDated};
-ghost use Rattle.sg_levels.specs.Numbered.{bound_at, flow_in};
-ghost use Rattle.sg_filling.specs.Filling.{AreAbove, AreAmong, AreCounted, AreFixed, AreJoined, AreLeveled, AreLevels, ArePart, AreTaken, FixesFlows, FlowSteps, HasFlow, HasPlaces, HasResources, IsFloor, IsLeast, IsLessBy, IsLow, IsMoreBy, IsNext, IsNextOf, IsOver, IsUpTo, KeepsCount, KeepsFixed, KeepsHolds, KeepsLevels, StepsPartly, bound_limit, fixed_at, flows_at, least_with, limits_at, unfixed_bounds, unfixed_limits, waited_levels, weight_of, weight_on};
-ghost use Rattle.sg_filling.specs.Holds.{AreNoted, CountsOnce, FixesUsers, IsAtLevel, IsBegun, IsEnded, NotesHolds, noted_at, users_at};
+ghost use Rattle.sg_levels.specs.Numbered.{IsHeld, weight_at};
+ghost use Rattle.sg_filling.specs.Filling.{AreAbove, AreAmong, AreFixed, AreJoined, AreLeveled, AreLevels, ArePart, AreStepped, AreTaken, CanFixBounded, CanFixOn, FixesAt, FixesFlow, FixesFlows, HasFlow, HasPlaces, HasResources, IsLeast, IsLow, IsMoreBy, IsNext, IsNextOf, IsOver, IsUpTo, KeepsCount, KeepsFixed, KeepsHolds, KeepsLevels, StepsPartly, bound_limit, fixed_at, least_with, limits_at, unfixed_bounds, unfixed_limits, waited_levels, weight_of, weight_on};
+ghost use Rattle.sg_filling.specs.Holds.{AreNoted, CountsOnce, FixesRest, FixesUsers, IsAtLevel, IsBegun, IsEnded, IsLast, IsUnderWay, MayHold, NotesHolds, noted_at, users_at};
 
 use crate::dates::{date_all, due, has_keys, is_late};
 use sg_base::{Marks, Memory, Steps};
@@ -130,20 +130,21 @@ fn add_uses<L: Ledger>(system: &System, flow: usize, waiting: &mut [u64], steps:
     }
 }
 
-// What is left where a share is given.
-fn less(left: u64, weight: u32, bound: Option<u64>, level: u64) -> u64
-    ensures { result ≡ left - bounded bound (weight * level) }
+// What is left where a share is given, of which a greatest number may stand for more.
+fn less(left: u64, share: u64) -> u64
+    ensures { (given : ℕ) → share ≡ min given (2 ^ 64 - 1) → result ≡ left - given }
 {
-    left.saturating_sub(capped_share(weight, bound, level))
+    left.saturating_sub(share)
 }
 
 // A flow waits no more at a resource: its share is taken off what is left there, and the level must be divided again.
-fn take_use(resource: usize, weight: u32, bound: Option<u64>, level: u64, filling: &mut Filling)
+fn take_use(resource: usize, weight: u32, share: u64, filling: &mut Filling)
     requires left { resource < length filling.old.left.items }
     requires waiting { resource < length filling.old.waiting.items }
     requires stale { resource < filling.old.stale.room }
-    ensures left { filling.new.left.items ≡ slice_set filling.old.left.items resource
-        (slice_index filling.old.left.items resource - bounded bound (weight * level)) }
+    ensures left { (given : ℕ) → share ≡ min given (2 ^ 64 - 1)
+        → filling.new.left.items ≡ slice_set filling.old.left.items resource
+        (slice_index filling.old.left.items resource - given) }
     ensures waiting { filling.new.waiting.items ≡ slice_set filling.old.waiting.items resource
         (slice_index filling.old.waiting.items resource - weight) }
     ensures stale { filling.new.stale ≡ record filling.old.stale {
@@ -151,16 +152,20 @@ fn take_use(resource: usize, weight: u32, bound: Option<u64>, level: u64, fillin
     } }
     ensures kept { KeepsLevels filling.old filling.new }
 {
-    filling.left[resource] = less(filling.left[resource], weight, bound, level);
+    filling.left[resource] = less(filling.left[resource], share);
     filling.waiting[resource] = filling.waiting[resource].saturating_sub(weight as u64);
     filling.stale.insert(resource);
 }
 
-// What is left, for each unit of weight that waits.
+// What is left, for each unit of weight that waits. Often that is one, and a division takes its time.
 fn level(left: u64, waiting: u64) -> u64
     ensures { result ≡ left / waiting }
 {
-    if waiting == 0 { 0 } else { left / waiting }
+    match waiting {
+        0 => 0,
+        1 => left,
+        _ => left / waiting,
+    }
 }
 
 // The levels of the listed resources.
@@ -291,8 +296,7 @@ fn least_level(reached: &[usize], filling: &Filling) -> Least
 
 // The lesser of the level of a flow's bound, and of what was found before.
 fn least_with_bound(system: &System, flow: usize, least: Option<u64>) -> Option<u64>
-    requires sound { IsSound system.now }
-    requires held { IsSome (flow_at system.now.slots flow) }
+    requires { IsHeld system.now flow }
     ensures { (list : List ℕ) → IsLeast least list
         → IsLeast result (list ++ option_to_list (bound_limit system.now.slots flow)) }
 {
@@ -398,13 +402,7 @@ fn lowest(
     filling: &Filling,
     floor: Option<u64>,
 ) -> Option<Low>
-    requires joined { AreJoined system.now touched.now reached.now }
-    requires places { HasPlaces system.now filling.now }
-    requires counted { AreCounted system.now filling.now.fixed.items touched.now
-        filling.now.left.items filling.now.waiting.items (λ c. is_in c reached.now) }
-    requires dated { AreDated reached.now filling.now }
-    requires floor { IsFloor floor
-        (unfixed_bounds system.now.slots filling.now.fixed.items touched.now) }
+    requires { IsUnderWay system.now touched.now reached.now floor filling.now }
     ensures low { IsLow result
         (unfixed_limits system.now.slots filling.now.fixed.items filling.now.levels.items
         touched.now)
@@ -427,26 +425,17 @@ fn fix<L: Ledger>(
     steps: &mut Steps<L>,
 )
     requires { HasFlow system.now filling.old flow }
-    ensures places { HasPlaces system.now filling.new }
-    ensures levels { filling.new.levels.items ≡ filling.old.levels.items }
-    ensures agenda { filling.new.agenda ≡ filling.old.agenda }
-    ensures holds { filling.new.holds.items ≡ filling.old.holds.items }
-    ensures fixed { filling.new.fixed.items ≡ slice_set filling.old.fixed.items flow (Some low) }
-    ensures left { IsLessBy (λ c. times c (uses_at system.now.slots flow)
-        * share_at (flow_in system.now.slots flow) low)
-        filling.old.left.items filling.new.left.items }
-    ensures waiting { IsLessBy (weight_on system.now.slots flow)
-        filling.old.waiting.items filling.new.waiting.items }
-    ensures stale { MarksRow (uses_at system.now.slots flow) filling.old.stale filling.new.stale }
+    ensures fixes { FixesAt system.now flow low filling.old filling.new }
     ensures looks { steps.new ≡ steps.old + length (uses_at system.now.slots flow) }
 {
     filling.fixed[flow] = Some(low);
     let weight = system.weight(flow);
     let bound = system.bound(flow);
+    let share = capped_share(weight, bound, low);
     let mut at = system.first_of(flow);
     while let Some(i) = at {
         let one = system.look(i, steps);
-        take_use(one.resource, weight, bound, low, filling);
+        take_use(one.resource, weight, share, filling);
         at = one.next_of_flow;
     }
 }
@@ -462,11 +451,8 @@ fn fix_flow<L: Ledger>(
     requires of { HasFlow system.now filling.old flow }
     requires at { fixed_at filling.old.fixed.items flow ≡ None
         → IsLeast (Some low) (limits_at system.now.slots filling.old.levels.items flow) }
-    ensures fixes { FixesFlows system.now low filling.old filling.new }
+    ensures fixes { FixesFlow system.now flow low filling.old filling.new steps.old steps.new }
     ensures done { IsSome (fixed_at filling.new.fixed.items flow) }
-    ensures count { (touched : List ℕ) → AllPairs (λ a b. a ≢ b) touched
-        → is_in flow touched ≡ true
-        → KeepsCount system.now touched filling.old filling.new steps.old steps.new }
 {
     if filling.fixed[flow].is_none() {
         fix(system, flow, low, filling, steps);
@@ -481,10 +467,8 @@ fn fix_users<L: Ledger>(
     filling: &mut Filling,
     steps: &mut Steps<L>,
 )
-    requires places { HasPlaces system.now filling.old }
-    requires resource { resource < length system.now.capacities }
+    requires on { CanFixOn system.now low filling.old resource }
     requires level { slice_index filling.old.levels.items resource ≡ low }
-    requires above { AreAbove system.now (users_on system.now.users resource) low filling.old }
     ensures fixes { FixesFlows system.now low filling.old filling.new }
     ensures done { AreFixed (users_on system.now.users resource) filling.new }
     ensures count { (touched : List ℕ) → AllPairs (λ a b. a ≢ b) touched
@@ -508,9 +492,7 @@ fn fix_on<L: Ledger>(
     filling: &mut Filling,
     steps: &mut Steps<L>,
 )
-    requires places { HasPlaces system.now filling.old }
-    requires resource { resource < length system.now.capacities }
-    requires above { AreAbove system.now (users_on system.now.users resource) low filling.old }
+    requires { CanFixOn system.now low filling.old resource }
     ensures partly { StepsPartly system.now low filling.old filling.new }
     ensures agenda { filling.new.agenda ≡ filling.old.agenda }
     ensures noted { filling.new.holds.items ≡ noted_at low resource filling.old }
@@ -529,8 +511,7 @@ fn fix_on<L: Ledger>(
 
 // Whether the bound of a flow is at this level.
 fn is_bound_at(system: &System, flow: usize, low: u64) -> bool
-    requires sound { IsSound system.now }
-    requires held { IsSome (flow_at system.now.slots flow) }
+    requires { IsHeld system.now flow }
     ensures at { result ≡ true → bound_limit system.now.slots flow ≡ Some low }
     ensures off { result ≡ false → bound_limit system.now.slots flow ≡ Some low → ⊥ }
 {
@@ -550,12 +531,9 @@ fn fix_bounded<L: Ledger>(
 )
     requires of { HasFlow system.now filling.old flow }
     requires above { AreAbove system.now (flow ∷ []) low filling.old }
-    ensures fixes { FixesFlows system.now low filling.old filling.new }
+    ensures fixes { FixesFlow system.now flow low filling.old filling.new steps.old steps.new }
     ensures done { bound_limit system.now.slots flow ≡ Some low
         → IsSome (fixed_at filling.new.fixed.items flow) }
-    ensures count { (touched : List ℕ) → AllPairs (λ a b. a ≢ b) touched
-        → is_in flow touched ≡ true
-        → KeepsCount system.now touched filling.old filling.new steps.old steps.new }
 {
     if filling.fixed[flow].is_some() {
         return;
@@ -574,12 +552,7 @@ fn fix_all_bounded<L: Ledger>(
     filling: &mut Filling,
     steps: &mut Steps<L>,
 )
-    requires part { ArePart system.now touched.now }
-    requires once { AllPairs (λ a b. a ≢ b) touched.now }
-    requires places { HasPlaces system.now filling.old }
-    requires above { AreAbove system.now touched.now low filling.old }
-    requires floor { IsFloor floor
-        (unfixed_bounds system.now.slots filling.old.fixed.items touched.now) }
+    requires { CanFixBounded system.now touched.now low floor filling.old }
     ensures fixes { FixesFlows system.now low filling.old filling.new }
     ensures bounds { (i : ℕ) → i < length touched.now
         → bound_limit system.now.slots (slice_index touched.now i) ≡ Some low
@@ -666,9 +639,7 @@ fn fix_all<L: Ledger>(
     requires at { IsAtLevel system.now touched.now reached.now low filling.old }
     ensures partly { StepsPartly system.now low.level filling.old filling.new }
     ensures noted { NotesHolds reached.now low.level filling.old filling.new }
-    ensures stepped { (i : ℕ) → i < length touched.now
-        → FlowSteps system.now.slots filling.old.levels.items low.level
-        filling.old.fixed.items filling.new.fixed.items (slice_index touched.now i) }
+    ensures stepped { AreStepped system.now touched.now low.level filling.old filling.new }
     ensures count { CountsOnce system.now touched.now reached.now filling.old filling.new
         steps.old steps.new }
 {
@@ -718,9 +689,7 @@ fn step<L: Ledger>(
     requires levels { AreLevels reached.now filling.old }
     ensures places { HasPlaces system.now filling.new }
     ensures noted { NotesHolds reached.now low.level filling.old filling.new }
-    ensures stepped { (i : ℕ) → i < length touched.now
-        → FlowSteps system.now.slots filling.old.levels.items low.level
-        filling.old.fixed.items filling.new.fixed.items (slice_index touched.now i) }
+    ensures stepped { AreStepped system.now touched.now low.level filling.old filling.new }
     ensures levels { AreLevels reached.now filling.new }
     ensures dated { AreDated reached.now filling.new }
     ensures kept { KeepsFixed filling.old filling.new }
@@ -729,6 +698,129 @@ fn step<L: Ledger>(
 {
     fix_all(system, touched, reached, low, filling, steps);
     renew(system, filling);
+}
+
+// Whether the touched flows together have this weight.
+fn weigh(system: &System, touched: &[usize], weight: u64) -> bool
+    requires { All (λ id. IsSome (flow_at system.now.slots id)) touched.now }
+    ensures { result ≡ true → weight ≡ sum_by (weight_at system.now.slots) touched.now }
+{
+    let mut rest = weight;
+    for flow in touched {
+        let one = system.weight(*flow) as u64;
+        if rest < one {
+            return false;
+        }
+        rest -= one;
+    }
+    rest == 0
+}
+
+// Whether a resource is at this level, and the weight of all touched flows waits there.
+fn holds_all(
+    system: &System,
+    touched: &[usize],
+    resource: usize,
+    low: u64,
+    filling: &Filling,
+) -> bool
+    requires part { ArePart system.now touched.now }
+    requires level { resource < length filling.now.levels.items }
+    requires waiting { resource < length filling.now.waiting.items }
+    ensures level { result ≡ true → slice_index filling.now.levels.items resource ≡ low }
+    ensures weight { result ≡ true → slice_index filling.now.waiting.items resource
+        ≡ sum_by (weight_at system.now.slots) touched.now }
+{
+    if filling.levels[resource] == low {
+        weigh(system, touched, filling.waiting[resource])
+    } else {
+        false
+    }
+}
+
+// Whether the first step is the last one too, as one resource holds all touched flows. Behind it a flow is fixed, so that
+// no later step is asked.
+fn is_last(
+    step: usize,
+    system: &System,
+    touched: &[usize],
+    reached: &[usize],
+    low: Low,
+    filling: &Filling,
+) -> bool
+    requires { IsAtLevel system.now touched.now reached.now low filling.now }
+    ensures { result ≡ true → IsLast system.now touched.now reached.now low.level filling.now }
+{
+    if step > 0 {
+        return false;
+    }
+    if has_keys(&filling.agenda) {
+        return false;
+    }
+    if low.at.first < low.at.end {
+        holds_all(system, touched, reached[low.at.first], low.level, filling)
+    } else {
+        false
+    }
+}
+
+// Fixes the touched flows at this level.
+fn fix_touched(touched: &[usize], low: u64, fixed: &mut [Option<u64>])
+    requires { All (λ id. id < length fixed.old) touched.now }
+    ensures fixed { (i : ℕ) → i < length touched.now
+        → fixed_at fixed.new (slice_index touched.now i) ≡ Some low }
+    ensures others { (id : ℕ) → is_in id touched.now ≡ false
+        → fixed_at fixed.new id ≡ fixed_at fixed.old id }
+{
+    for flow in touched {
+        fixed[*flow] = Some(low);
+    }
+}
+
+// Notes the reached resources that are at this level, and nobody waits there any more.
+fn note_reached(
+    reached: &[usize],
+    low: u64,
+    levels: &[u64],
+    holds: &mut [Option<u64>],
+    waiting: &mut [u64],
+)
+    requires levels { All (λ c. c < length levels.now) reached.now }
+    requires holds { All (λ c. c < length holds.old) reached.now }
+    requires waiting { All (λ c. c < length waiting.old) reached.now }
+    ensures others { (c : ℕ) → is_in c reached.now ≡ false
+        → fixed_at holds.new c ≡ fixed_at holds.old c }
+    ensures may { (c : ℕ) → MayHold low (slice_index levels.now c)
+        (fixed_at holds.old c) (fixed_at holds.new c) }
+    ensures noted { (i : ℕ) → i < length reached.now
+        → slice_index levels.now (slice_index reached.now i) ≡ low
+        → fixed_at holds.new (slice_index reached.now i) ≡ Some low }
+    ensures gone { (i : ℕ) → i < length reached.now
+        → slice_index waiting.new (slice_index reached.now i) ≡ 0 }
+    ensures kept { (c : ℕ) → is_in c reached.now ≡ false
+        → slice_index waiting.new c ≡ slice_index waiting.old c }
+{
+    for c in reached {
+        if levels[*c] == low {
+            holds[*c] = Some(low);
+        }
+        waiting[*c] = 0;
+    }
+}
+
+// The last step, at this level: since no other comes, what is left and the levels stay as they are.
+fn fix_rest(system: &System, touched: &[usize], reached: &[usize], low: u64, filling: &mut Filling)
+    requires { IsLast system.now touched.now reached.now low filling.old }
+    ensures { FixesRest system.now touched.now reached.now low filling.old filling.new }
+{
+    fix_touched(touched, low, &mut filling.fixed);
+    note_reached(
+        reached,
+        low,
+        &filling.levels,
+        &mut filling.holds,
+        &mut filling.waiting,
+    );
 }
 
 // The steps of a filling, from no flow fixed on, until all touched flows are fixed.
@@ -762,6 +854,10 @@ fn fill_steps<L: Ledger>(
         match lowest(system, touched, reached, filling, floor) {
             None => return,
             Some(low) => {
+                if is_last(n, system, touched, reached, low, filling) {
+                    fix_rest(system, touched, reached, low.level, filling);
+                    return;
+                }
                 step(system, touched, reached, low, filling, steps);
                 floor = low.floor;
             }

@@ -1,7 +1,7 @@
 //! Entries rise and sink in the binary heap.
 ghost use Rattle.std.specs.Prelude.{◌≡◌, ◌≤◌, ◌<◌, ◌+◌, ◌-◌, ◌*◌, ◌/◌, ℕ, length, slice_set};
 ghost use Rattle.sg_heap.specs.Agenda.{IsNoLater, digits};
-ghost use Rattle.sg_heap.specs.kept.Heap.{InOrder, IsInHand, IsSifted, MayMove, MayRise, MaySink, entry_at, key_of};
+ghost use Rattle.sg_heap.specs.kept.Heap.{InOrder, IsInHand, IsLooseInHand, IsSifted, MayRise, MaySink, Sifts, entry_at, key_of};
 
 use crate::entry::{Entry, is_before, put};
 use sg_base::Steps;
@@ -95,11 +95,8 @@ pub(crate) fn sift<L: Ledger>(
     count: usize,
     steps: &mut Steps<L>,
 )
-    requires hand { IsInHand heap.old place.old count from entry }
-    requires loose { MayMove (slice_set heap.old from entry) count from }
-    ensures sifted { IsSifted count (slice_set heap.old from entry)
-        (slice_set place.old entry.slot from) heap.new place.new }
-    ensures most { steps.new ≤ steps.old + (2 * digits count + 1) }
+    requires { IsLooseInHand heap.old place.old count from entry }
+    ensures { Sifts count from entry heap.old place.old heap.new place.new steps.old steps.new }
 {
     if from > 0 && is_before(entry, heap[(from - 1) / 2], steps) {
         rise(heap, place, from, entry, count, steps);
@@ -118,11 +115,8 @@ pub(crate) fn drop_in<L: Ledger>(
     count: usize,
     steps: &mut Steps<L>,
 )
-    requires hand { IsInHand heap.old place.old count from entry }
-    requires loose { MayMove (slice_set heap.old from entry) count from }
-    ensures sifted { IsSifted count (slice_set heap.old from entry)
-        (slice_set place.old entry.slot from) heap.new place.new }
-    ensures most { steps.new ≤ steps.old + (2 * digits count + 1) }
+    requires { IsLooseInHand heap.old place.old count from entry }
+    ensures { Sifts count from entry heap.old place.old heap.new place.new steps.old steps.new }
 {
     let mut at = from;
     while 2 * at + 1 < count {

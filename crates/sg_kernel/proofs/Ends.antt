@@ -1,54 +1,18 @@
 -- Phases end one after another.
-use Rattle.std.proofs.Common.{◌≡◌, ◌≢◌, ℕ, Bool, true, false, cond, Option, None, Some, List, [], ◌∷◌, refl, sym, ap, ◌∙◌}
+use Rattle.std.proofs.Common.{◌≡◌, ◌≢◌, ℕ, Bool, cond, Option, None, Some, List, [], ◌∷◌, refl, sym, ap, ◌∙◌}
 use Rattle.sg_activity.specs.Task.{Task, phase_after, task_at}
-use Rattle.sg_mailbox.specs.declared.sides.Side.{Side}
-use Rattle.sg_base.specs.declared.awaits.Party.{Party}
-use Rattle.sg_base.specs.declared.awaits.Party.TheVariants as party
-use Rattle.sg_kernel.specs.declared.owners.How.{How}
-use Rattle.sg_kernel.specs.declared.owners.How.TheVariants as how
-use Rattle.sg_kernel.specs.declared.owners.Whose.{Whose}
-use Rattle.sg_kernel.specs.declared.owners.Whose.TheVariants.{Over, Alone, Posted, Pair}
-use Rattle.sg_kernel.specs.declared.stop.Stop.TheVariants.{Budget}
-use Rattle.sg_kernel.specs.World.{Setup, Core, state_of, whose_at}
-use Rattle.sg_states.specs.declared.state.Blocking.{Blocking}
-use Rattle.sg_states.specs.Actors.{blocking_in}
-use Rattle.sg_kernel.specs.Steps.{Step, stops, counted}
-use Rattle.sg_kernel.specs.Answers.{answers, answers_by, answers_side, bare_side, finishes, for_receiver, is_on, with_over}
+use Rattle.sg_owners.specs.declared.owners.How.TheVariants as how
+use Rattle.sg_calls.specs.declared.stop.Stop.TheVariants.{Budget}
+use Rattle.sg_setup.specs.Setup.{Setup}
+use Rattle.sg_calls.specs.World.{Core, whose_at}
+use Rattle.sg_calls.specs.Steps.{Step, stops, counted}
+use Rattle.sg_calls.specs.Answers.{with_over}
 use Rattle.sg_kernel.specs.Passes.{ends_in, ends_one, ends_by, ends, fails, fails_one}
-use Rattle.sg_kernel.specs.Known.{Known, after}
-use Rattle.sg_kernel.proofs.Each.{eq_no, eq_yes, then_after, both_on, still, still_stops, still_next, still_used_up}
+use Rattle.sg_calls.specs.Known.{Known, after}
+use Rattle.sg_calls.proofs.Each.{eq_no, eq_yes, still, still_stops, still_next, still_used_up}
+use Rattle.sg_calls.proofs.Finishes.{answers_goes}
 
 -- ---- a phase end goes on
-answers_by_goes : (over : How) (serial : ℕ) (side : Party) (given : Side) (blocking : Option Blocking) (core : Core) → (answers_by over serial side given blocking core).stop ≡ None
-answers_by_goes over serial side given None core = refl
-answers_by_goes over serial side given (Some blocking) core = cases (is_on serial side blocking.on) _ _ refl refl
-  where
-    cases : (b : Bool) (one other : Step) → one.stop ≡ None → other.stop ≡ None → (cond b one other).stop ≡ None
-    cases true one other e f = e
-    cases false one other e f = f
-
-pub answers_side_goes : (over : How) (serial : ℕ) (side : Party) (given : Side) (core : Core) → (answers_side over serial side given core).stop ≡ None
-answers_side_goes over serial side given core = answers_by_goes over serial side given (blocking_in (state_of core given.actor.0)) core
-
--- a communication's two sides are answered one after another
-pub after_both : (over : How) (serial : ℕ) (sender receiver : Side) (known : Known) →
-    after (answers_side over serial party.Receiver (for_receiver sender receiver) (after (answers_side over serial party.Sender sender known.core) known).core) (after (answers_side over serial party.Sender sender known.core) known)
-    ≡ after (answers over serial (Pair sender receiver) known.core) known
-after_both over serial sender receiver known =
-    then_after (answers_side over serial party.Sender sender known.core) (answers_side over serial party.Receiver (for_receiver sender receiver)) known (answers_side_goes over serial party.Sender sender known.core)
-
-answers_goes : (over : How) (serial : ℕ) (whose : Whose) (core : Core) → (answers over serial whose core).stop ≡ None
-answers_goes over serial (Over before) core = refl
-answers_goes over serial (Alone actor) core = answers_side_goes over serial party.Alone (bare_side actor.0) core
-answers_goes over serial (Posted mailbox sends side) core = refl
-answers_goes over serial (Pair sender receiver) core =
-    both_on (answers_side over serial party.Sender sender core) (answers_side over serial party.Receiver (for_receiver sender receiver)) (answers_side_goes over serial party.Sender sender core)
-    (answers_side_goes over serial party.Receiver (for_receiver sender receiver))
-
--- an activity is over
-pub finishes_goes : (over : How) (serial : ℕ) (core : Core) → (finishes over serial core).stop ≡ None
-finishes_goes over serial core = answers_goes over serial (whose_at core serial) (with_over over serial core)
-
 ends_goes_in : (serial : ℕ) (after : Option Task) (core : Core) → (ends_in serial after core).stop ≡ None
 ends_goes_in serial None core = answers_goes how.Done serial (whose_at core serial) (with_over how.Done serial core)
 ends_goes_in serial (Some next) core = refl

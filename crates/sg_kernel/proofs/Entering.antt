@@ -12,16 +12,17 @@ use Rattle.sg_profile.specs.Profiles.{Timetable, past_next, rows_due}
 use Rattle.sg_profile.proofs.Ahead.{rows_are_left, ahead_steps}
 use Rattle.sg_rows.specs.declared.network.Network.{Network}
 use Rattle.sg_base.specs.declared.trace_record.Record.{Record}
-use Rattle.sg_kernel.specs.declared.fields.Fields.{Fields}
-use Rattle.sg_kernel.specs.declared.stop.Stop.TheVariants.{Budget}
-use Rattle.sg_kernel.specs.Known.{Known, after}
-use Rattle.sg_kernel.specs.World.{Setup, Core}
-use Rattle.sg_kernel.specs.Steps.{stops, and_then, all_of}
+use Rattle.sg_calls.specs.declared.fields.Fields.{Fields}
+use Rattle.sg_calls.specs.declared.stop.Stop.TheVariants.{Budget}
+use Rattle.sg_calls.specs.Known.{Known, after}
+use Rattle.sg_setup.specs.Setup.{Setup}
+use Rattle.sg_calls.specs.World.{Core}
+use Rattle.sg_calls.specs.Steps.{stops, and_then, all_of}
 use Rattle.sg_kernel.specs.Passes.{all_fail, applied, applied_if, changes, enters_one, entry_stretches}
-use Rattle.sg_kernel.specs.kept.Coming.{IsApplied, IsDueEntry}
-use Rattle.sg_kernel.specs.kept.Sound.{core_of, known_of, row_next, rows_now, setup_in, IsTimely, IsTimetable}
-use Rattle.sg_kernel.specs.kept.Whole.{IsPassing}
-use Rattle.sg_kernel.proofs.Each.{eq_no, eq_yes, all_of-two}
+use Rattle.sg_kernel.specs.kept.Coming.{IsApplied, IsDueEntry, row_next, rows_now}
+use Rattle.sg_calls.specs.kept.Sound.{core_of, known_of, setup_in, IsTimely, IsTimetable}
+use Rattle.sg_calls.specs.kept.Whole.{IsPassing}
+use Rattle.sg_calls.proofs.Each.{eq_no, eq_yes, all_of-two}
 
 -- ---- one entry and its failures, unless the budget is used up
 pub change_is : (setup : Setup) (row : ℕ) (core : Core) → core.events ≢ setup.budget → changes setup row core ≡ and_then (enters_one setup row core) (all_fail setup)

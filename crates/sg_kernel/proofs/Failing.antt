@@ -5,17 +5,17 @@ use Rattle.std.proofs.lemmas.List.{length-set}
 use Rattle.std.proofs.lemmas.List.Elements.{All-set}
 use Rattle.sg_activity.specs.Doing.{Doing, IsHit, gave_up}
 use Rattle.sg_activity.specs.Task.{Task, task_at}
-use Rattle.sg_kernel.specs.declared.fields.Fields.{Fields}
-use Rattle.sg_kernel.specs.declared.owners.How.TheVariants as how
-use Rattle.sg_kernel.specs.declared.owners.Whose.{Whose}
-use Rattle.sg_kernel.specs.declared.owners.Whose.TheVariants.{Over}
-use Rattle.sg_kernel.specs.World.{extent}
-use Rattle.sg_kernel.specs.kept.Owners.{Owned}
-use Rattle.sg_kernel.specs.kept.Sound.{setup_in, is_idle, AreHeld, AreMeeting, IsOwner, IsSound}
-use Rattle.sg_kernel.specs.kept.Whole.{IsPassing}
-use Rattle.sg_kernel.proofs.Begins.{held_with, sound_with}
-use Rattle.sg_kernel.proofs.PostsKept.{meeting_gone, under_way}
-use Rattle.sg_kernel.proofs.Timely.{IsTimelyAt}
+use Rattle.sg_calls.specs.declared.fields.Fields.{Fields}
+use Rattle.sg_owners.specs.declared.owners.How.TheVariants as how
+use Rattle.sg_owners.specs.declared.owners.Whose.{Whose}
+use Rattle.sg_owners.specs.declared.owners.Whose.TheVariants.{Over}
+use Rattle.sg_calls.specs.World.{extent}
+use Rattle.sg_owners.specs.Owners.{Owned}
+use Rattle.sg_calls.specs.kept.Sound.{setup_in, is_idle, AreMeeting, IsOwner}
+use Rattle.sg_calls.specs.kept.Whole.{IsPassing}
+use Rattle.sg_calls.proofs.Begins.{held_with, sound_with, sound_counted, held_counted}
+use Rattle.sg_calls.proofs.PostsKept.{meeting_gone, under_way}
+use Rattle.sg_calls.proofs.Timely.{IsTimelyAt}
 
 -- what is under way isn't over
 pub not_over : (fields : Fields) (serial : ℕ) (task : Task) → task_at fields.doing.under.tasks serial ≡ Some task → AreMeeting fields → get_or fields.whose.whose (serial - 1) (Over how.Done) ≢ Over how.Done
@@ -24,35 +24,6 @@ not_over fields serial task at meeting over = true≢false (sym (ap is_idle over
 pub failed_owner : (fields : Fields) (serial : ℕ) (whose : Whose) → whose ≡ get_or fields.whose.whose (serial - 1) (Over how.Done) → IsHit fields.doing serial → IsPassing fields → IsOwner (extent (setup_in fields)) whose
 failed_owner fields serial whose is hit passing =
     subst (IsOwner (extent (setup_in fields))) (sym is) (passing.limited (serial - 1) (Over how.Done) (omega (arith, hit.from, hit.to, passing.sound.numbered)))
-
--- ---- an event is counted
-pub sound_counted : (fields : Fields) → fields.events ≢ fields.budget → IsSound fields → IsSound (record fields { events = fields.events + 1 })
-sound_counted fields go was = record {
-  numbered = was.numbered;
-  few = omega (arith, was.few);
-  within = omega (arith, was.within, go);
-  budgeted = was.budgeted;
-  hosts_counted = was.hosts_counted;
-  links_counted = was.links_counted;
-  homes_known = was.homes_known;
-  hosts_known = was.hosts_known;
-  requests_known = was.requests_known;
-  requests_few = omega (arith, was.requests_few);
-  extent_is = was.extent_is;
-  network_kept = was.network_kept;
-}
-
-pub held_counted : (fields : Fields) → AreHeld fields → AreHeld (record fields { events = fields.events + 1 })
-held_counted fields was = record {
-  owners = was.owners;
-  counts = was.counts;
-  actors = was.actors;
-  few = λ k d within. omega (arith, was.few k d within);
-  once = was.once;
-  held = was.held;
-  locking = was.locking;
-  acquiring = was.acquiring;
-}
 
 -- all that holds in a pass holds on
 pub failed_passing : (fields : Fields) (serial : ℕ) (whose : Owned) (doing : Doing) → IsHit fields.doing serial → whose ≡ record fields.whose { whose = set fields.whose.whose (serial - 1) (Over how.Failed) } → doing ≡ gave_up serial fields.doing → fields.events ≢ fields.budget →

@@ -31,22 +31,23 @@ use Rattle.sg_requests.specs.Requested.{Requested}
 use Rattle.sg_sync.specs.Objects as sync
 use Rattle.sg_sync.specs.Objects.{Objects}
 use Rattle.sg_sync.proofs.Counts.{nobody_waits}
-use Rattle.sg_kernel.specs.declared.fields.Fields.{Fields}
+use Rattle.sg_calls.specs.declared.fields.Fields.{Fields}
 use Rattle.sg_states.specs.declared.state.State.TheVariants.{Ended}
 use Rattle.sg_states.specs.Actors.{blocking_in, first_actor, not_suspended}
-use Rattle.sg_kernel.specs.declared.owners.How.TheVariants as how
-use Rattle.sg_kernel.specs.declared.owners.Whose.{Whose}
-use Rattle.sg_kernel.specs.declared.owners.Whose.TheVariants.{Over}
-use Rattle.sg_kernel.specs.Known.{Known, first_known}
-use Rattle.sg_kernel.specs.Meetings.{posts_from}
+use Rattle.sg_owners.specs.declared.owners.How.TheVariants as how
+use Rattle.sg_owners.specs.declared.owners.Whose.{Whose}
+use Rattle.sg_owners.specs.declared.owners.Whose.TheVariants.{Over}
+use Rattle.sg_calls.specs.Known.{Known}
+use Rattle.sg_kernel.specs.Start.{first_known, capacities_in, first_objects}
+use Rattle.sg_calls.specs.Meetings.{posts_from}
 use Rattle.sg_kernel.specs.kept.First.{first_states, objects_of}
-use Rattle.sg_kernel.specs.kept.Owners.{Owned}
-use Rattle.sg_kernel.specs.Start.{host_cap, power_of, link_cap, caps_in, caps_of, link_caps, home_of, capacity_of, replays, capacities_in, setup_of, first_objects}
-use Rattle.sg_kernel.specs.World.{extent}
-use Rattle.sg_kernel.specs.kept.Sound.{point_number, IsSound, HasRoom, known_of, setup_in, is_idle, AwaitsMade, IsMade, IsOwner, IsTimely, IsTimetable, AreMeeting, AreHeld, AreLimited}
+use Rattle.sg_owners.specs.Owners.{Owned}
+use Rattle.sg_setup.specs.Setup.{host_cap, power_of, link_cap, caps_in, caps_of, link_caps, home_of, capacity_of, replays, setup_of}
+use Rattle.sg_calls.specs.World.{extent}
+use Rattle.sg_calls.specs.kept.Sound.{point_number, IsSound, HasRoom, known_of, setup_in, is_idle, AwaitsMade, IsMade, IsOwner, IsTimely, IsTimetable, AreMeeting, AreHeld, AreLimited}
 use Rattle.sg_states.specs.States.{ActorStates}
 use Rattle.sg_kernel.proofs.Over.{links_count}
-use Rattle.sg_kernel.proofs.Stated.{AreAwaiting}
+use Rattle.sg_calls.proofs.Stated.{AreAwaiting}
 
 -- ---- hosts and links keep to their limits
 pub power_fits : (power : Option rows.Power) → IfSome power IsPowerRow → IfSome (option_map power_of power) IsPower

@@ -9,10 +9,10 @@ use Rattle.sg_profile.specs.Ahead.{IsNear}
 use Rattle.sg_profile.specs.Profiles.{dates_of, earliest, rows_due_from}
 use Rattle.sg_profile.proofs.Cases.{earlier_of}
 use Rattle.sg_states.specs.States.{ActorStates}
-use Rattle.sg_kernel.specs.declared.fields.Fields.{Fields}
+use Rattle.sg_calls.specs.declared.fields.Fields.{Fields}
 use Rattle.sg_kernel.specs.Passes.{next_span, span_to}
-use Rattle.sg_kernel.specs.kept.Coming.{IsNextDate}
-use Rattle.sg_kernel.specs.kept.Sound.{core_of, latest, rows_now, setup_in, IsDated, IsSound, IsTimely}
+use Rattle.sg_kernel.specs.kept.Coming.{IsNextDate, rows_now}
+use Rattle.sg_calls.specs.kept.Sound.{core_of, latest, setup_in, IsDated, IsSound, IsTimely}
 use Rattle.sg_kernel.proofs.Timely.{entry_near, next_entry}
 
 -- ---- no later than a date may be after one more event

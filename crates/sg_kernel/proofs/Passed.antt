@@ -8,21 +8,23 @@ use Rattle.sg_activity.specs.Underway.{is_running, passed}
 use Rattle.sg_states.specs.declared.state.Actor.{Actor}
 use Rattle.sg_states.specs.Actors.{state_at}
 use Rattle.sg_states.specs.States.{ActorStates}
-use Rattle.sg_kernel.specs.declared.fields.Fields.{Fields}
-use Rattle.sg_kernel.specs.declared.stop.Stop.TheVariants.{Budget, Deadlock, Starved}
-use Rattle.sg_kernel.specs.World.{Setup, Core}
-use Rattle.sg_kernel.specs.Steps.{stops, all_of}
+use Rattle.sg_calls.specs.declared.fields.Fields.{Fields}
+use Rattle.sg_calls.specs.declared.stop.Stop.TheVariants.{Budget, Deadlock, Starved}
+use Rattle.sg_setup.specs.Setup.{Setup}
+use Rattle.sg_calls.specs.World.{Core}
+use Rattle.sg_calls.specs.Steps.{stops, all_of}
 use Rattle.sg_kernel.specs.Passes.{core_later, next_span, pass_at, settled_pass, stretches}
 use Rattle.sg_kernel.specs.kept.Coming.{IsNextDate}
-use Rattle.sg_kernel.specs.kept.Sound.{is_queued, known_of, AreHeld, AreMeeting, IsSound}
-use Rattle.sg_kernel.specs.kept.Whole.{IsPassing, IsWhole}
-use Rattle.sg_kernel.proofs.Begins.{held_with, sound_with}
-use Rattle.sg_kernel.proofs.Each.{eq_no, eq_yes}
-use Rattle.sg_kernel.proofs.Limits.{homes_counted}
-use Rattle.sg_kernel.proofs.Moves.{roomy_less}
+use Rattle.sg_calls.specs.kept.Sound.{is_queued, known_of, AreHeld, AreMeeting, IsSound}
+use Rattle.sg_calls.specs.kept.Whole.{IsPassing, IsWhole}
+use Rattle.sg_calls.proofs.Begins.{held_with, sound_with}
+use Rattle.sg_calls.proofs.Each.{eq_no, eq_yes}
+use Rattle.sg_calls.proofs.Limits.{homes_counted}
+use Rattle.sg_calls.proofs.Moves.{roomy_less}
 use Rattle.sg_kernel.proofs.Nexts.{up_to_entries}
-use Rattle.sg_kernel.proofs.Stated.{AreAwaiting}
-use Rattle.sg_kernel.proofs.Timely.{timely_moved, IsTimelyAt}
+use Rattle.sg_calls.proofs.Stated.{AreAwaiting}
+use Rattle.sg_kernel.proofs.Timely.{timely_moved}
+use Rattle.sg_calls.proofs.Timely.{IsTimelyAt}
 
 -- ---- a pass of a world whose rates are up to date
 -- where nothing comes next

@@ -12,17 +12,17 @@ use Rattle.sg_requests.specs.Requested.{Requested}
 use Rattle.sg_states.specs.declared.state.Actor.{Actor}
 use Rattle.sg_states.specs.Actors.{state_at}
 use Rattle.sg_states.specs.States.{ActorStates}
-use Rattle.sg_kernel.specs.declared.fields.Fields.{Fields}
-use Rattle.sg_kernel.specs.declared.owners.How.TheVariants as how
-use Rattle.sg_kernel.specs.declared.owners.Whose.{Whose}
-use Rattle.sg_kernel.specs.declared.owners.Whose.TheVariants.{Over}
-use Rattle.sg_kernel.specs.World.{extent}
-use Rattle.sg_kernel.specs.Meetings.{posts_from}
-use Rattle.sg_kernel.specs.kept.Owners.{Owned}
-use Rattle.sg_kernel.specs.kept.Sound.{setup_in, is_idle, is_queued, IsMade, IsOwner}
-use Rattle.sg_kernel.specs.kept.Whole.{IsWhole}
-use Rattle.sg_kernel.proofs.Stated.{AreAwaiting}
-use Rattle.sg_kernel.proofs.Timely.{IsTimelyAt}
+use Rattle.sg_calls.specs.declared.fields.Fields.{Fields}
+use Rattle.sg_owners.specs.declared.owners.How.TheVariants as how
+use Rattle.sg_owners.specs.declared.owners.Whose.{Whose}
+use Rattle.sg_owners.specs.declared.owners.Whose.TheVariants.{Over}
+use Rattle.sg_calls.specs.World.{extent}
+use Rattle.sg_calls.specs.Meetings.{posts_from}
+use Rattle.sg_owners.specs.Owners.{Owned}
+use Rattle.sg_calls.specs.kept.Sound.{setup_in, is_idle, is_queued, IsMade, IsOwner}
+use Rattle.sg_calls.specs.kept.Whole.{IsWhole}
+use Rattle.sg_calls.proofs.Stated.{AreAwaiting}
+use Rattle.sg_calls.proofs.Timely.{IsTimelyAt}
 
 -- how much room there is, is all that changed
 pub record IsRoomier (fields : Fields) (doing : Doing) (whose : Owned) (boxes : Posts) (requests : Requested) (states : ActorStates) : Type 0 where

@@ -1,87 +1,20 @@
 -- Where a simulation begins: from a platform and a deployment.
-use Rattle.std.specs.Prelude.{ℕ, Bool, true, false, None, option_map, List, [], ◌∷◌, ◌++◌, length, map, replicate}
-use Rattle.std.specs.List.{count_by, flat_map}
-use Rattle.sg_lives.specs.declared.kinds.HostCap.{HostCap}
-use Rattle.sg_lives.specs.declared.kinds.LinkCap.{LinkCap}
-use Rattle.sg_lives.specs.declared.kinds.Power.{Power}
+use Rattle.std.specs.Prelude.{None, [], length, map, replicate}
 use Rattle.sg_activity.specs.Links.{Capacities}
 use Rattle.sg_activity.specs.Underway.{nothing_on}
-use Rattle.sg_profile.specs.Profiles.{first_turns, profiles_in}
-use Rattle.sg_rows.specs.declared.rows.ActorRow.{ActorRow}
-use Rattle.sg_rows.specs.declared.rows.Function.{Function}
-use Rattle.sg_rows.specs.declared.rows.Function.TheVariants.{Replay, Worker, Master, Churn}
-use Rattle.sg_rows.specs.declared.rows.HostRow.{HostRow}
-use Rattle.sg_rows.specs.declared.rows.LinkRow.{LinkRow}
-use Rattle.sg_rows.specs.declared.rows.Policy.{Policy}
-use Rattle.sg_rows.specs.declared.rows.Policy.TheVariants.{Shared, Fatpipe, SplitDuplex}
-use Rattle.sg_rows.specs.declared.rows.Power as rows
-use Rattle.sg_rows.specs.declared.rows.SemaphoreRow.{SemaphoreRow}
-use Rattle.sg_rows.specs.declared.network.Network.{Network}
-use Rattle.sg_rows.specs.Deployment.{Deployed, starts}
-use Rattle.sg_rows.specs.Ends.{link_ends}
-use Rattle.sg_rows.specs.Network.{bandwidth_over}
+use Rattle.sg_profile.specs.Profiles.{first_turns}
+use Rattle.sg_rows.specs.Deployment.{starts}
 use Rattle.sg_rows.specs.Platform.{Platform}
 use Rattle.sg_sync.specs.Objects.{Objects}
 use Rattle.sg_states.specs.Actors.{first_actor}
-use Rattle.sg_kernel.specs.World.{Setup, Core}
-
-abbrev pub power_of : rows.Power → Power
-power_of power = record { idle = power.idle; epsilon = power.epsilon; all = power.all; off = power.off }
-
-abbrev pub host_cap : HostRow → HostCap
-host_cap host = record { speed = host.speed; cores = host.cores; power = option_map power_of host.power }
-
-abbrev pub link_cap : ℕ → Bool → LinkCap
-link_cap bandwidth fatpipe = record { bandwidth = bandwidth; fatpipe = fatpipe }
-
--- the links of one row: SPLITDUPLEX gives two, up and then down
-abbrev pub caps_of : Policy → ℕ → List LinkCap
-caps_of Shared bandwidth = link_cap bandwidth false ∷ []
-caps_of Fatpipe bandwidth = link_cap bandwidth true ∷ []
-caps_of SplitDuplex bandwidth = link_cap bandwidth false ∷ link_cap bandwidth false ∷ []
-
--- the links of a row, whose bandwidth has the factor
-abbrev pub caps_in : Network → LinkRow → List LinkCap
-caps_in network row = caps_of row.policy (bandwidth_over network row.bandwidth)
-
--- the links of all rows, and last the loopback, a FATPIPE link of 498,000,000 bytes a second without the factor
-abbrev pub link_caps : Network → List LinkRow → List LinkCap
-link_caps network rows = flat_map (caps_in network) rows ++ link_cap 498000000 true ∷ []
-
-abbrev pub home_of : ActorRow → ℕ
-home_of actor = actor.host.0
-
-abbrev pub is_replay : Function → Bool
-is_replay Replay = true
-is_replay Worker = false
-is_replay (Master tasks flops bytes workers) = false
-is_replay (Churn seed next prev steps) = false
-
-abbrev pub replays : ActorRow → Bool
-replays actor = is_replay actor.function
-
-abbrev pub capacity_of : SemaphoreRow → ℕ
-capacity_of semaphore = semaphore.capacity
+use Rattle.sg_setup.specs.Setup.{Setup, host_cap, link_caps}
+use Rattle.sg_calls.specs.World.{Core}
+use Rattle.sg_calls.specs.Known.{Known}
 
 -- the hosts and links of a platform
 abbrev pub capacities_in : Platform → Capacities
 capacities_in platform =
     record { hosts = map host_cap platform.hosts; links = link_caps platform.network platform.links }
-
--- what is simulated; the barrier has as many members as there are replay actors
-abbrev pub setup_of : Platform → Deployed → ℕ → Setup
-setup_of platform deployed budget = record {
-  hosts = length platform.hosts;
-  links = length (link_ends platform.links);
-  network = platform.network;
-  profiles = profiles_in platform;
-  homes = map home_of deployed.actors;
-  starts = map starts deployed.actors;
-  mutexes = length deployed.mutexes;
-  semaphores = map capacity_of deployed.semaphores;
-  members = count_by replays deployed.actors;
-  budget = budget;
-}
 
 -- mutexes are free, semaphores have their capacities, and nobody waits
 abbrev pub first_objects : Setup → Objects
@@ -107,3 +40,6 @@ first_core capacities setup = record {
   objects = first_objects setup;
   events = 0;
 }
+
+abbrev pub first_known : Capacities → Setup → Known
+first_known capacities setup = record { setup = setup; core = first_core capacities setup; records = []; room = 0 }

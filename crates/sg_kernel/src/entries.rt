@@ -3,17 +3,16 @@
 ghost use Rattle.std.specs.Prelude.{◌≡◌, ◌<◌, [], MatchOption, Ok, OnOk, drop, length};
 ghost use Rattle.sg_profile.specs.Profiles.{IsEntry};
 ghost use Rattle.sg_rows.specs.Network.{IsNetwork};
-ghost use Rattle.sg_kernel.specs.Steps.{each};
+ghost use Rattle.sg_calls.specs.Steps.{each};
 ghost use Rattle.sg_kernel.specs.Passes.{changes, enters_one};
 ghost use Rattle.sg_kernel.specs.kept.Acts.{CanEnter, Changes, Enters};
-ghost use Rattle.sg_kernel.specs.kept.Coming.{CountsSome, IsApplied, IsDueEntry};
-ghost use Rattle.sg_kernel.specs.kept.Sound.{row_next, rows_now, setup_in, IsTimely};
-ghost use Rattle.sg_kernel.specs.kept.Whole.{IsPassing};
+ghost use Rattle.sg_kernel.specs.kept.Coming.{CountsSome, IsApplied, IsDueEntry, row_next, rows_now};
+ghost use Rattle.sg_calls.specs.kept.Sound.{setup_in, IsTimely};
+ghost use Rattle.sg_calls.specs.kept.Whole.{IsPassing};
 
 use crate::failures::fail_all;
-use crate::fields::Fields;
-use crate::stop::Stop;
 use sg_activity::Activities;
+use sg_calls::{Fields, Stop};
 use sg_profile::Entry;
 use sg_rows::Network;
 

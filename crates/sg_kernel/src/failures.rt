@@ -5,14 +5,12 @@ ghost use Rattle.sg_activity.specs.Underway.{hits};
 ghost use Rattle.sg_kernel.specs.Passes.{all_fail, fails_one};
 ghost use Rattle.sg_kernel.specs.kept.Acts.{Changes, Enters};
 ghost use Rattle.sg_kernel.specs.kept.Asks.{CanFail};
-ghost use Rattle.sg_kernel.specs.kept.Sound.{setup_in};
-ghost use Rattle.sg_kernel.specs.kept.Whole.{IsPassing};
+ghost use Rattle.sg_calls.specs.kept.Sound.{setup_in};
+ghost use Rattle.sg_calls.specs.kept.Whole.{IsPassing};
 
-use crate::answers::answer_owners;
-use crate::fields::Fields;
-use crate::owners::How;
-use crate::stop::Stop;
 use sg_base::Serial;
+use sg_calls::{Fields, Stop, answer_owners};
+use sg_owners::How;
 
 // The first activity of those that use something that is off fails, and whose it was is answered.
 fn fail(fields: &mut Fields, serial: Serial)

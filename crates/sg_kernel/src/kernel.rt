@@ -8,25 +8,22 @@ ghost use Rattle.sg_rows.specs.Deployment.{IsDeployedOn};
 ghost use Rattle.sg_states.specs.Actors.{actor_at, blocked_of, inbox_of, is_alive, is_over, is_ready, is_unstarted};
 ghost use Rattle.sg_states.specs.Queue.{IsQueue};
 ghost use Rattle.sg_states.specs.Records.{IsTellable, AreRecords};
-ghost use Rattle.sg_kernel.specs.World.{extent, is_suspended, state_of, IsActor, MayCall};
-ghost use Rattle.sg_kernel.specs.Calls.{answered, told};
-ghost use Rattle.sg_kernel.specs.Lives.{created};
-ghost use Rattle.sg_kernel.specs.declared.stop.Stop.TheVariants as stop;
-ghost use Rattle.sg_kernel.specs.Steps.{result_of};
-ghost use Rattle.sg_kernel.specs.Start.{capacities_in, setup_of};
-ghost use Rattle.sg_kernel.specs.Roads.{AreOver};
+ghost use Rattle.sg_calls.specs.World.{extent, is_suspended, state_of, IsActor, MayCall};
+ghost use Rattle.sg_calls.specs.Calls.{answered, told};
+ghost use Rattle.sg_calls.specs.Lives.{created};
+ghost use Rattle.sg_calls.specs.declared.stop.Stop.TheVariants as stop;
+ghost use Rattle.sg_calls.specs.Steps.{result_of};
+ghost use Rattle.sg_kernel.specs.Start.{capacities_in, first_known};
+ghost use Rattle.sg_setup.specs.Setup.{setup_of};
+ghost use Rattle.sg_calls.specs.Roads.{AreOver};
 ghost use Rattle.sg_kernel.specs.Passes.{pass_of};
-ghost use Rattle.sg_kernel.specs.Known.{after, after_call, first_known};
+ghost use Rattle.sg_calls.specs.Known.{after, after_call};
 
-use crate::at_once::go_on;
 use crate::beginning::first_fields;
-use crate::calls::answer_call;
-use crate::creating::create;
-use crate::fields::Fields;
 use crate::passes::move_on;
-use crate::stop::Stop;
 use arrayvec::ArrayVec;
 use sg_base::{Action, ActorId, Answer, Call, LinkId, Memory, PointId, Record, Steps};
+use sg_calls::{Fields, Stop, answer_call, create, go_on};
 use sg_route::Router;
 use sg_rows::{Deployment, PlatformText};
 use sg_states::State;
@@ -63,12 +60,12 @@ impl Drop for Kernel {
 }
 
 impl Model for Kernel {
-    ghost use Rattle.sg_kernel.specs.Known.{Known};
+    ghost use Rattle.sg_calls.specs.Known.{Known};
 
     ghost Value = { Known };
 
-    ghost use Rattle.sg_kernel.specs.kept.Sound.{known_of};
-    ghost use Rattle.sg_kernel.specs.kept.Whole.{IsWhole};
+    ghost use Rattle.sg_calls.specs.kept.Sound.{known_of};
+    ghost use Rattle.sg_calls.specs.kept.Whole.{IsWhole};
 
     ghost view = { λ s. known_of s.fields };
 

@@ -3,7 +3,7 @@ ghost use Rattle.std.specs.Prelude.{◌≡◌, length};
 ghost use Rattle.sg_route.specs.Roads.{roads_of};
 ghost use Rattle.sg_rows.specs.Ends.{link_ends};
 ghost use Rattle.sg_kernel.specs.Failures.{NothingOffIsUsed};
-ghost use Rattle.sg_kernel.specs.Roads.{AreOver};
+ghost use Rattle.sg_calls.specs.Roads.{AreOver};
 
 use sg_route::{Router, routes_are_good};
 use sg_rows::PlatformText;

@@ -3,20 +3,18 @@
 ghost use Rattle.std.specs.Prelude.{◌≡◌, ◌≢◌, ◌<◌, IsTrue, MatchOption, None, Some, if◌then◌else◌};
 ghost use Rattle.sg_lives.specs.declared.kinds.PhaseKind.TheVariants as phase_kind;
 ghost use Rattle.sg_activity.specs.Underway.{is_running};
-ghost use Rattle.sg_kernel.specs.Steps.{all_of, each, result_of};
+ghost use Rattle.sg_calls.specs.Steps.{all_of, each, result_of};
 ghost use Rattle.sg_kernel.specs.Passes.{ends, ends_one, next_span, settled_pass};
 ghost use Rattle.sg_kernel.specs.kept.Acts.{CanEnd, Ends, Passes};
 ghost use Rattle.sg_kernel.specs.kept.Asks.{CanMoveOn, CanPass};
 ghost use Rattle.sg_kernel.specs.kept.Coming.{coming, CountsSome, IsNextDate};
-ghost use Rattle.sg_kernel.specs.kept.Sound.{core_of, setup_in, StepsBy};
-ghost use Rattle.sg_kernel.specs.kept.Whole.{IsPassing, IsWhole};
+ghost use Rattle.sg_calls.specs.kept.Sound.{core_of, setup_in, StepsBy};
+ghost use Rattle.sg_calls.specs.kept.Whole.{IsPassing, IsWhole};
 
-use crate::answers::answer_owners;
 use crate::entries::change_due;
-use crate::fields::Fields;
-use crate::owners::How;
-use crate::stop::Stop;
 use sg_activity::{Activities, Phase, PhaseKind};
+use sg_calls::{Fields, Stop, answer_owners};
+use sg_owners::How;
 
 // Why there is no next date.
 fn none_next(doing: &Activities) -> Stop

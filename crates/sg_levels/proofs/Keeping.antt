@@ -1,13 +1,20 @@
 -- What is kept, as a flow's part or the system changes.
-use Rattle.std.proofs.Common.{◌≡◌, ℕ, ◌^◌, ◌<◌, ◌≤◌, ◌⊎◌, inl, inr, None, IsSome, length, get_or-set_same, get_or-set_other, set, slice_index, sum_by, sym, ap, subst, ◌∙◌, arith}
-use Rattle.sg_chains.specs.Chained.{users_on}
+use Rattle.std.proofs.Common.{◌≡◌, ℕ, ◌*◌, ◌^◌, ◌<◌, ◌≤◌, ◌⊎◌, inl, inr, None, IsSome, length, get_or-set_same, get_or-set_other, set, slice_index, sum_by, sym, ap, subst, ◌∙◌, arith}
+use Rattle.sg_chains.specs.Chained.{times, users_on}
 use Rattle.sg_maxmin.specs.Sharing.{Sharing, IsSound, flow_at, uses_at}
 use Rattle.sg_levels.specs.declared.levels.Levels.{Levels}
-use Rattle.sg_levels.specs.Kept.{HasPlaces, IsKept, Shifts}
+use Rattle.sg_levels.specs.Kept.{CanShift, HasPlaces, IsKept, Shifts}
 use Rattle.sg_levels.proofs.Listed.{eq_cases, none_some, some_of}
-use Rattle.sg_levels.proofs.Demand.{parts_move, rows_same}
+use Rattle.sg_levels.proofs.Demand.{part_in, parts_fit, parts_move, rows_same}
 
 -- ---- one flow has another part
+-- for its own in the demand on its resources any may stand that is no greater than that of a flow without a level
+pub can_shift : (s : Sharing) (all : Levels) (flow before after : ℕ) → IsKept s all → before ≡ slice_index all.parts.items flow → after ≤ 2 ^ 65 → CanShift before after (uses_at s.slots flow) all.demands.items
+can_shift s all flow before after kept is le = record {
+  some = λ c. subst (λ b. times c (uses_at s.slots flow) * b ≤ slice_index all.demands.items c) (sym is) (omega (arith, part_in s kept.places.sound all.parts.items flow c, kept.demands c));
+  fits = λ c. omega (arith, parts_fit s kept.places.sound all.parts.items kept.fit flow after le c, kept.demands c);
+}
+
 pub moved_kept : (s : Sharing) → IsSound s → (old new : Levels) (flow part : ℕ) → IsSome (flow_at s.slots flow) → flow < length old.parts.items → part ≤ 2 ^ 65 → IsKept s old → HasPlaces s new → new.parts.items ≡ set old.parts.items flow part → new.longest ≡ old.longest →
     Shifts (slice_index old.parts.items flow) part (uses_at s.slots flow) old.demands.items new.demands.items → ((c : ℕ) → slice_index new.counts.items c ≤ slice_index old.counts.items c) → IsKept s new
 moved_kept s sound old new flow part held below le kept places is same shifts counts = record {

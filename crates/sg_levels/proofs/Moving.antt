@@ -8,13 +8,17 @@ use Rattle.sg_levels.specs.Numbered.{bound_of, flow_in, level_at}
 use Rattle.sg_levels.specs.Demand.{demand_of}
 use Rattle.sg_levels.specs.Held.{IsAtMost, IsUnder}
 use Rattle.sg_levels.specs.Settling.{AreSettlingOn, HasCause}
-use Rattle.sg_levels.specs.Kept.{ActivatesAll, ActivatesBut, AreParts, IsKept, IsMoved, IsSettlingOn, NotesMoved}
+use Rattle.sg_levels.specs.Kept.{ActivatesAll, ActivatesBut, AreParts, IsKept, IsMoved, IsSettlingOn, Moves, NotesMoved}
 use Rattle.sg_levels.proofs.Listed.{eq_cases}
-use Rattle.sg_levels.proofs.Noted.{noted_one}
+use Rattle.sg_levels.proofs.Noted.{noted_none, noted_one}
 use Rattle.sg_levels.proofs.Steps.{held_user, uses_row, user_below, skip_keeps, lower_keeps, raise_keeps}
 
 pub moved_notes : (s : Sharing) (old new : Levels) (flow : ℕ) (level : Option ℕ) → IsMoved s old new flow level → NotesMoved old new
 moved_notes s old new flow level m = noted_one old.moved new.moved old.levels.items new.levels.items flow level m.noted m.level_is
+
+-- a flow that stays as it is
+pub stays_put : (s : Sharing) (flow : ℕ) (all : Levels) → IsKept s all → Moves s flow all all
+stays_put s flow all kept = record { kept = kept; moved = noted_none all.moved all.levels.items; within = λ p q along here are. are }
 
 pub more_off : (id flow : ℕ) (but : List ℕ) → id ≢ flow → is_in id but ≡ false → is_in id (flow ∷ but) ≡ false
 more_off id flow but ne off = ap (λ b. b || is_in id but) (ne_eqb flow id (λ e. ne (sym e))) ∙ off

@@ -1,11 +1,13 @@
 -- What a `Levels` keeps, and what a change and a look at a resource do to it.
-use Rattle.std.specs.Prelude.{◌≡◌, ◌≢◌, ℕ, ◌+◌, ◌-◌, ◌*◌, ◌^◌, ◌<◌, ◌≤◌, Bool, true, false, ◌||◌, is_none, Option, None, Some, IsTrue, IsSome, IfSome, List, [], All, length, sum_by, slice_index, slice_set, ◌==◌, if◌then◌else◌}
+use Rattle.std.specs.Prelude.{◌≡◌, ◌≢◌, ℕ, ◌+◌, ◌-◌, ◌*◌, ◌^◌, ◌<◌, ◌≤◌, Bool, true, false, ◌||◌, is_none, Option, None, Some, IsTrue, IsSome, IfSome, List, [], ◌∷◌, All, length, sum_by, slice_index, slice_set, ◌==◌, if◌then◌else◌}
 use Rattle.sg_base.specs.MarkSet.{is_in, with_mark}
 use Rattle.sg_chains.specs.Chained.{times, users_on}
 use Rattle.sg_maxmin.specs.Fill.{Flow, level_of, share_of}
 use Rattle.sg_maxmin.specs.Sharing.{Sharing, IsSound, Changes, flow_at, held, uses_at}
+use Rattle.sg_levels.specs.declared.hold.Above.{Above}
+use Rattle.sg_levels.specs.declared.hold.Rest.{Rest}
 use Rattle.sg_levels.specs.declared.levels.Levels.{Levels}
-use Rattle.sg_levels.specs.Numbered.{below_at, flow_in, level_at, row_level, row_taken, row_waiting}
+use Rattle.sg_levels.specs.Numbered.{below_at, flow_in, level_at, row_level, row_taken, row_waiting, weight_at}
 use Rattle.sg_levels.specs.Demand.{demand_of}
 use Rattle.sg_levels.specs.Held.{AreFilled, AreHeld, IsHold}
 use Rattle.sg_levels.specs.Settling.{AreNoted, AreSettling, AreSettlingBut, AreSettlingOn, is_active}
@@ -21,6 +23,11 @@ pub record HasPlaces (s : Sharing) (kept : Levels) : Type 0 where
   pub demands : length kept.demands.items ≡ length s.capacities
   pub counts : length kept.counts.items ≡ length s.capacities
   pub active : kept.active.room ≡ length s.capacities
+
+-- and the resource is one
+pub record HasResource (s : Sharing) (all : Levels) (r : ℕ) : Type 0 where
+  pub places : HasPlaces s all
+  pub resource : r < length s.capacities
 
 -- The demand on each resource is the sum of its flows' parts in it; where there is no flow there is no part; and no flow has more
 -- uses than the longest. A resource has as many users as are counted, or more.
@@ -58,6 +65,11 @@ pub record IsSettlingAt (s : Sharing) (all : Levels) (r : ℕ) : Type 0 where
   pub settling : IsSettling s all
   pub resource : r < length s.capacities
 
+-- and there it holds its flows, if at any level
+pub record HasHold (s : Sharing) (all : Levels) (r : ℕ) (hold : Option ℕ) : Type 0 where
+  pub at : IsSettlingAt s all r
+  pub hold_is : IsHold (slice_index s.capacities r) s.slots all.levels.items (users_on s.users r) hold
+
 -- the same while the users of a resource are looked at
 pub record IsSettlingOn (s : Sharing) (all : Levels) (resource : ℕ) (was : Option ℕ) (todo : List ℕ) : Type 0 where
   pub parts : AreParts s all []
@@ -90,6 +102,12 @@ pub record IsMoved (s : Sharing) (old new : Levels) (flow : ℕ) (level : Option
   pub noted : new.moved ≡ record old.moved { members = with_mark flow old.moved.members }
   pub stale : new.stale ≡ old.stale
   pub holds : new.holds.items ≡ old.holds.items
+
+-- and what is kept is right still; each use of the flow is looked at once
+pub record MovesTo (s : Sharing) (flow : ℕ) (level : Option ℕ) (old new : Levels) (before after : ℕ) : Type 0 where
+  pub moved : IsMoved s old new flow level
+  pub kept : IsKept s new
+  pub looks : after ≡ before + length (uses_at s.slots flow)
 
 -- nothing changes but the demands and the counts, and which resources are active
 pub record KeepsLevels (old new : Levels) : Type 0 where
@@ -156,6 +174,11 @@ pub record HasLeft (old new : Levels) (flow : ℕ) : Type 0 where
   pub stale : new.stale ≡ old.stale
   pub holds : new.holds.items ≡ old.holds.items
 
+-- at each of these resources one part of the demand may stand for another: it is no more than the demand, and this runs over nowhere
+pub record CanShift (before after : ℕ) (resources demands : List ℕ) : Type 0 where
+  pub some : (c : ℕ) → times c resources * before ≤ slice_index demands c
+  pub fits : (c : ℕ) → slice_index demands c + times c resources * after < 2 ^ 128
+
 -- at each of these resources one part of the demand stands for another
 abbrev pub Shifts : ℕ → ℕ → List ℕ → List ℕ → List ℕ → Type 0
 Shifts before after resources old new = (c : ℕ) → slice_index new c + times c resources * before ≡ slice_index old c + times c resources * after
@@ -216,6 +239,13 @@ pub record Moves (s : Sharing) (flow : ℕ) (old new : Levels) : Type 0 where
   pub moved : NotesMoved old new
   pub within : FlowStaysWithin s flow old new
 
+-- what a look at a user of a resource does, of which another hold was written before; the flow's uses are looked at so often
+pub record SettlesUser (s : Sharing) (resource : ℕ) (was : Option ℕ) (flow : ℕ) (old new : Levels) (times before after : ℕ) : Type 0 where
+  pub settles : (todo : List ℕ) → IsSettlingOn s old resource was (flow ∷ todo) → IsSettlingOn s new resource was todo
+  pub moves : Moves s flow old new
+  pub looks : after ≤ before + times * length (uses_at s.slots flow)
+  pub few : times ≤ 2
+
 abbrev pub ResourceStaysWithin : Sharing → ℕ → Levels → Levels → Type 0
 ResourceStaysWithin s resource old new = (p q : ℕ → Bool) → PassAlong s p q → IsTrue (q resource) → IsWithin p q old → IsWithin p q new
 
@@ -227,6 +257,12 @@ pub record Settles (s : Sharing) (resource : ℕ) (old new : Levels) : Type 0 wh
 
 abbrev pub UsesStayWithin : List ℕ → Levels → Levels → Type 0
 UsesStayWithin resources old new = (p q : ℕ → Bool) → ((r : ℕ) → is_in r resources ≡ true → IsTrue (q r)) → IsWithin p q old → IsWithin p q new
+
+-- What a change of the system does: what is kept is right of it, each flow that changed is noted, and what is active, noted or stale is what was and what the change joins to it.
+pub record KeepsUp (s t : Sharing) (Joins : Levels → Levels → Type 0) (old new : Levels) : Type 0 where
+  pub between : IsBetween t new
+  pub changed : NotesChanged s t old new
+  pub joins : Joins old new
 
 abbrev pub StaysWithin : Sharing → Levels → Levels → Type 0
 StaysWithin s old new = (p q : ℕ → Bool) → PassAlong s p q → IsWithin p q old → IsWithin p q new
@@ -245,6 +281,24 @@ pub record IsLevelAbove (s : Sharing) (resource : ℕ) (levels : List (Option �
 pub record IsPass (s : Sharing) (resource looks users : ℕ) : Type 0 where
   pub all : users ≡ length (users_on s.users resource)
   pub few : users ≤ looks
+
+-- the resource of a sound system is one, and there is a level for each flow
+pub record CanPass (s : Sharing) (resource : ℕ) (levels : List (Option ℕ)) : Type 0 where
+  pub sound : IsSound s
+  pub exists : resource < length s.capacities
+  pub levels_len : length s.slots ≤ length levels
+
+-- the flow is held, and with it neither the weights that wait nor the users run over
+pub record CanCount (s : Sharing) (id : ℕ) (rest : Rest) : Type 0 where
+  pub sound : IsSound s
+  pub held : IsSome (flow_at s.slots id)
+  pub fits : rest.waiting + weight_at s.slots id < 2 ^ 64
+  pub few : rest.users + 1 < 2 ^ 64
+
+-- what a first pass over the users of a resource found, with none of them fixed
+pub record IsFirstPass (s : Sharing) (resource : ℕ) (levels : List (Option ℕ)) (looks : ℕ) (first : Above) : Type 0 where
+  pub level_is : IsLevelAbove s resource levels 0 first.level
+  pub pass : IsPass s resource looks first.users
 
 -- so many looks suffice for the hold of a resource with so many users
 abbrev pub hold_looks : ℕ → ℕ

@@ -1,5 +1,5 @@
 -- Flows and their levels by number, and the flows on a resource as a list of their numbers.
-use Rattle.std.specs.Prelude.{◌≡◌, ℕ, ◌-◌, ◌/◌, ltb, Option, None, Some, is_none, option_map, List, length, sum_by, slice_index, slice_index_or, if◌then◌else◌}
+use Rattle.std.specs.Prelude.{◌≡◌, ℕ, ◌-◌, ◌/◌, ltb, Option, None, Some, IsSome, is_none, option_map, List, length, sum_by, slice_index, slice_index_or, if◌then◌else◌}
 use Rattle.sg_chains.specs.Chained.{users_on}
 use Rattle.sg_maxmin.specs.Fill.{Flow, Fixed, flow, share_of_fixed, bound_level, level}
 use Rattle.sg_maxmin.specs.Sharing.{Sharing, IsSound, flow_at, held, uses_at}
@@ -22,6 +22,11 @@ bound_at slots id = slot_bound (flow_at slots id)
 -- the flow under a number
 abbrev pub flow_in : List (Option Flow) → ℕ → Flow
 flow_in slots id = flow (uses_at slots id) (weight_at slots id) (bound_at slots id)
+
+-- a flow of a sound system
+pub record IsHeld (s : Sharing) (id : ℕ) : Type 0 where
+  pub sound : IsSound s
+  pub held : IsSome (flow_at s.slots id)
 
 -- the level of a flow's bound, if it has one
 abbrev pub bound_of : Flow → Option ℕ

@@ -3,7 +3,7 @@ ghost use Rattle.std.specs.Prelude.{◌≡◌, ◌≤◌, ◌<◌, ◌+◌, ◌*
 ghost use Rattle.sg_chains.specs.Chained.{times};
 ghost use Rattle.sg_maxmin.specs.Fill.{flow};
 ghost use Rattle.sg_maxmin.specs.Sharing.{IsFlow, IsSound, flow_at, uses_at};
-ghost use Rattle.sg_levels.specs.Kept.{Activates, FlowJoins, HasFlow, HasLeft, IsBetween, IsEnded, IsKept, IsMoved, IsStarted, KeepsLevels, NotesChanged, ResourceJoins, UsesStayWithin};
+ghost use Rattle.sg_levels.specs.Kept.{Activates, FlowJoins, HasFlow, HasLeft, IsBetween, IsEnded, IsKept, IsMoved, IsStarted, KeepsLevels, KeepsUp, ResourceJoins, UsesStayWithin};
 ghost use Rattle.sg_levels.specs.Numbered.{bound_of as bound_of_flow, flow_in};
 
 use crate::levels::Levels;
@@ -55,9 +55,7 @@ impl Levels {
         requires use_room { length uses.now ≤ system.old.use_room }
         requires between { IsBetween system.old self.old }
         ensures started { IsStarted system.old system.new result (flow uses.now weight bound) }
-        ensures between { IsBetween system.new self.new }
-        ensures changed { NotesChanged system.old system.new self.old self.new }
-        ensures within { FlowJoins result self.old self.new }
+        ensures keeps { KeepsUp system.old system.new (FlowJoins result) self.old self.new }
     {
         system.is_sound();
         self.longest = self.longest.max(uses.len());
@@ -75,9 +73,8 @@ impl Levels {
         requires held { IsSome (flow_at system.old.slots flow) }
         requires between { IsBetween system.old self.old }
         ensures ended { IsEnded system.old system.new flow }
-        ensures between { IsBetween system.new self.new }
-        ensures changed { NotesChanged system.old system.new self.old self.new }
-        ensures within { UsesStayWithin (uses_at system.old.slots flow) self.old self.new }
+        ensures keeps { KeepsUp system.old system.new
+            (UsesStayWithin (uses_at system.old.slots flow)) self.old self.new }
         ensures looks { steps.new ≡ steps.old + length (uses_at system.old.slots flow) }
     {
         system.is_sound();
@@ -96,9 +93,7 @@ impl Levels {
             system.new ≡ record system.old {
               slots = slice_set system.old.slots flow (Some (record held { bound = Some bound }));
             }) }
-        ensures between { IsBetween system.new self.new }
-        ensures changed { NotesChanged system.old system.new self.old self.new }
-        ensures within { FlowJoins flow self.old self.new }
+        ensures keeps { KeepsUp system.old system.new (FlowJoins flow) self.old self.new }
     {
         system.is_sound();
         let before = system.bound(flow);
@@ -117,9 +112,7 @@ impl Levels {
         ensures offered { system.new ≡ record system.old {
           capacities = slice_set system.old.capacities resource capacity;
         } }
-        ensures between { IsBetween system.new self.new }
-        ensures changed { NotesChanged system.old system.new self.old self.new }
-        ensures within { ResourceJoins resource self.old self.new }
+        ensures keeps { KeepsUp system.old system.new (ResourceJoins resource) self.old self.new }
     {
         system.is_sound();
         let before = system.capacity(resource);

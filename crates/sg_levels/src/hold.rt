@@ -1,10 +1,9 @@
 //! The level at which a resource holds its flows.
-ghost use Rattle.std.specs.Prelude.{◌≡◌, ◌≤◌, ◌<◌, ◌+◌, ◌-◌, ◌*◌, ◌/◌, ◌^◌, ℕ, Option, None, Some, IfSome, IsSome, is_none, length, min, slice_index, if◌then◌else◌};
+ghost use Rattle.std.specs.Prelude.{◌≡◌, ◌≤◌, ◌<◌, ◌+◌, ◌-◌, ◌*◌, ◌/◌, ◌^◌, ℕ, Option, None, Some, IfSome, is_none, length, min, slice_index, if◌then◌else◌};
 ghost use Rattle.sg_chains.specs.Chained.{users_on};
 ghost use Rattle.sg_maxmin.specs.Fill.{bounded, share_of_fixed};
-ghost use Rattle.sg_maxmin.specs.Sharing.{IsSound, flow_at};
 ghost use Rattle.sg_levels.specs.Held.{IsHold};
-ghost use Rattle.sg_levels.specs.Kept.{IsLevelAbove, IsPass, IsRest, hold_looks};
+ghost use Rattle.sg_levels.specs.Kept.{CanCount, CanPass, IsFirstPass, IsLevelAbove, IsPass, IsRest};
 ghost use Rattle.sg_levels.specs.Numbered.{below_at, flow_in, level_at, row_level, row_taken, row_waiting, weight_at, when_below};
 
 use sg_base::Steps;
@@ -65,10 +64,7 @@ fn less(left: u64, weight: u32, bound: Option<u64>, level: u64) -> u64
 
 // One flow more on the resource, fixed or not.
 fn with_flow(system: &System, flow: usize, fixed: Option<u64>, rest: Rest) -> Rest
-    requires sound { IsSound system.now }
-    requires held { IsSome (flow_at system.now.slots flow) }
-    requires fits { rest.waiting + weight_at system.now.slots flow < 2 ^ 64 }
-    requires few { rest.users + 1 < 2 ^ 64 }
+    requires { CanCount system.now flow rest }
     ensures left { result.left ≡ rest.left - share_of_fixed (flow_in system.now.slots flow) fixed }
     ensures waiting { result.waiting ≡ rest.waiting
         + (if is_none fixed then weight_at system.now.slots flow else 0) }
@@ -98,9 +94,7 @@ fn rest_of<L: Ledger>(
     looks: u64,
     steps: &mut Steps<L>,
 ) -> Option<Rest>
-    requires sound { IsSound system.now }
-    requires resource { resource < length system.now.capacities }
-    requires levels { length system.now.slots ≤ length levels.now }
+    requires { CanPass system.now resource levels.now }
     ensures rest { IfSome result (λ rest.
         IsRest system.now resource levels.now low rest.left rest.waiting) }
     ensures users { IfSome result (λ rest. IsPass system.now resource looks rest.users) }
@@ -148,9 +142,7 @@ pub(crate) fn level_above<L: Ledger>(
     looks: u64,
     steps: &mut Steps<L>,
 ) -> Option<Above>
-    requires sound { IsSound system.now }
-    requires resource { resource < length system.now.capacities }
-    requires levels { length system.now.slots ≤ length levels.now }
+    requires { CanPass system.now resource levels.now }
     ensures level { IfSome result (λ above.
         IsLevelAbove system.now resource levels.now low above.level) }
     ensures users { IfSome result (λ above. IsPass system.now resource looks above.users) }
@@ -177,10 +169,8 @@ pub(crate) fn hold_of<L: Ledger>(
     looks: u64,
     steps: &mut Steps<L>,
 ) -> Option<Found>
-    requires resource { resource < length system.now.capacities }
-    requires levels { length system.now.slots ≤ length levels.now }
-    requires first { IsLevelAbove system.now resource levels.now 0 first.level }
-    requires users { IsPass system.now resource looks first.users }
+    requires on { CanPass system.now resource levels.now }
+    requires first { IsFirstPass system.now resource levels.now looks first }
     ensures hold { IfSome result (λ found. IsHold (slice_index system.now.capacities resource)
         system.now.slots levels.now (users_on system.now.users resource) found.hold) }
     ensures users { IfSome result (λ found. found.users ≡ first.users) }

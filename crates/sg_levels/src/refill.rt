@@ -1,11 +1,10 @@
 //! The way back of a settling: the levels and the holds that a filling found are written.
 ghost use Rattle.std.specs.Prelude.{◌≡◌, ◌≤◌, ◌<◌, ◌+◌, ◌-◌, ◌*◌, ◌^◌, ℕ, [], false, All, IsSome, length, slice_set, slice_index};
 ghost use Rattle.sg_base.specs.MarkSet.{is_in};
-ghost use Rattle.sg_chains.specs.Chained.{times};
 ghost use Rattle.sg_maxmin.specs.Sharing.{IsSound, flow_at, uses_at};
 ghost use Rattle.sg_levels.specs.Demand.{demand_of};
 ghost use Rattle.sg_levels.specs.Held.{AreFilled};
-ghost use Rattle.sg_levels.specs.Kept.{AreGiven, AreHeldAt, AreParts, FlowsStayWithin, HasFlow, IsBetween, IsFound, IsGiven, IsKept, IsWithin, KeepsFlows, Moves, NotesMoved, PassAlong, Shifts, is_one_of};
+ghost use Rattle.sg_levels.specs.Kept.{AreGiven, AreHeldAt, AreParts, CanShift, FlowsStayWithin, HasFlow, IsBetween, IsFound, IsGiven, IsKept, IsWithin, KeepsFlows, Moves, NotesMoved, PassAlong, Shifts, is_one_of};
 ghost use Rattle.sg_levels.specs.Numbered.{all_uses, flow_in, level_at};
 ghost use Rattle.sg_levels.specs.Settling.{is_active};
 
@@ -55,10 +54,7 @@ fn shift_uses<L: Ledger>(
 )
     requires sound { IsSound system.now }
     requires places { length demands.old.items ≡ length system.now.capacities }
-    requires some { (c : ℕ) → times c (uses_at system.now.slots flow) * before
-        ≤ slice_index demands.old.items c }
-    requires fits { (c : ℕ) → slice_index demands.old.items c
-        + times c (uses_at system.now.slots flow) * after < 2 ^ 128 }
+    requires shift { CanShift before after (uses_at system.now.slots flow) demands.old.items }
     ensures places { length demands.new.items ≡ length demands.old.items }
     ensures shifts { Shifts before after (uses_at system.now.slots flow)
         demands.old.items demands.new.items }

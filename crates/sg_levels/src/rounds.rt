@@ -3,8 +3,8 @@ ghost use Rattle.std.specs.Prelude.{◌≡◌, ◌≢◌, ◌≤◌, ◌<◌, �
 ghost use Rattle.sg_base.specs.MarkSet.{is_in};
 ghost use Rattle.sg_chains.specs.Chained.{users_on};
 ghost use Rattle.sg_maxmin.specs.Sharing.{IsSound, flow_at, uses_at};
-ghost use Rattle.sg_levels.specs.Held.{AreFilled, IsHold};
-ghost use Rattle.sg_levels.specs.Kept.{HasFlow, IsBetween, IsBetweenBut, IsKept, IsLevelAbove, IsPass, IsSettling, IsSettlingAt, HasPlaces, Moves, NotesChanged, NotesMoved, Settles, StaysWithin};
+ghost use Rattle.sg_levels.specs.Held.{AreFilled};
+ghost use Rattle.sg_levels.specs.Kept.{HasFlow, HasHold, HasPlaces, HasResource, IsBetween, IsBetweenBut, IsFirstPass, IsSettling, IsSettlingAt, Moves, NotesChanged, NotesMoved, Settles, StaysWithin};
 ghost use Rattle.sg_levels.specs.Allowed.{AreNew, IsSpent, KnowsUsers, SparesLooks};
 ghost use Rattle.sg_levels.specs.Joined.{spare_looks};
 ghost use Rattle.sg_levels.specs.Numbered.{all_uses, level_at};
@@ -91,8 +91,7 @@ fn renew_all<L: Ledger>(system: &System, kept: &mut Levels, steps: &mut Steps<L>
 impl Levels {
     // Whether a resource offers more than the demand on it.
     fn has_slack(&self, system: &System, resource: usize) -> bool
-        requires resource { resource < length system.now.capacities }
-        requires demand { resource < length self.now.demands.items }
+        requires { HasResource system.now self.now resource }
         ensures { IsTrue result
             → (slice_index self.now.demands.items resource
             < slice_index system.now.capacities resource)
@@ -103,10 +102,8 @@ impl Levels {
 
     // A resource that held none and holds none needs no look.
     fn put_to_rest(&mut self, system: &System, resource: usize)
-        requires at { IsSettlingAt system.now self.old resource }
+        requires none { HasHold system.now self.old resource None }
         requires held { level_at self.old.holds.items resource ≡ None }
-        requires none { IsHold (slice_index system.now.capacities resource) system.now.slots
-            self.old.levels.items (users_on system.now.users resource) None }
         ensures { Settles system.now resource self.old self.new }
     {
         system.is_sound();
@@ -123,9 +120,7 @@ impl Levels {
         hold: Option<u64>,
         steps: &mut Steps<L>,
     ) -> u64
-        requires at { IsSettlingAt system.now self.old resource }
-        requires hold { IsHold (slice_index system.now.capacities resource) system.now.slots
-            self.old.levels.items (users_on system.now.users resource) hold }
+        requires { HasHold system.now self.old resource hold }
         ensures settles { Settles system.now resource self.old self.new }
         ensures looks { steps.new ≤ steps.old + length (users_on system.now.users resource)
             + result * self.old.longest }
@@ -150,8 +145,7 @@ impl Levels {
         steps: &mut Steps<L>,
     ) -> Option<u64>
         requires at { IsSettlingAt system.now self.old resource }
-        requires first { IsLevelAbove system.now resource self.old.levels.items 0 first.level }
-        requires users { IsPass system.now resource looks first.users }
+        requires first { IsFirstPass system.now resource self.old.levels.items looks first }
         ensures settles { Settles system.now resource self.old self.new }
         ensures spent { IfSome result (λ left.
             steps.new + first.users + left ≤ steps.old + looks) }
@@ -216,8 +210,7 @@ impl Levels {
 
     // A level below which an active resource has nothing to do. Only the order is by it: any is right.
     fn key(&self, system: &System, resource: usize) -> u64
-        requires resource { resource < length system.now.capacities }
-        requires places { HasPlaces system.now self.now }
+        requires { HasResource system.now self.now resource }
     {
         match self.holds[resource] {
             Some(hold) => hold,

@@ -1,13 +1,13 @@
 //! A settling: levels and holds are made to agree, one resource at a time, in whatever order.
-ghost use Rattle.std.specs.Prelude.{◌≡◌, ◌≤◌, ◌<◌, ◌+◌, ◌-◌, ◌*◌, ◌^◌, ℕ, true, false, IsTrue, Option, None, Some, IfSome, IsSome, List, [], ◌∷◌, length, option_map, slice_index, slice_set, ◌==◌, if◌then◌else◌};
+ghost use Rattle.std.specs.Prelude.{◌≡◌, ◌≤◌, ◌<◌, ◌+◌, ◌-◌, ◌*◌, ◌^◌, ℕ, true, false, IsTrue, Option, None, Some, IfSome, IsSome, [], ◌∷◌, length, option_map, slice_index, slice_set, ◌==◌, if◌then◌else◌};
 ghost use Rattle.sg_base.specs.MarkSet.{is_in};
 ghost use Rattle.sg_chains.specs.Chained.{times, users_on};
 ghost use Rattle.sg_maxmin.specs.Fill.{bound_level as level_of_bound};
-ghost use Rattle.sg_maxmin.specs.Sharing.{IsSound, flow_at, uses_at};
+ghost use Rattle.sg_maxmin.specs.Sharing.{flow_at, uses_at};
 ghost use Rattle.sg_levels.specs.Demand.{demand_of};
-ghost use Rattle.sg_levels.specs.Held.{AreFilled, IsAtMost, IsHold, IsUnder};
-ghost use Rattle.sg_levels.specs.Kept.{Activates, ActivatesBut, ActivatesOnly, HasFlow, HasPlaces, IsKept, IsMoved, IsSettling, IsSettlingOn, IsUser, KeepsLevels, Lessens, Moves, NotesMoved, ResourceStaysWithin, Shifts};
-ghost use Rattle.sg_levels.specs.Numbered.{all_uses, bound_of as bound_of_flow, flow_in, level_at};
+ghost use Rattle.sg_levels.specs.Held.{IsAtMost, IsUnder};
+ghost use Rattle.sg_levels.specs.Kept.{Activates, ActivatesBut, ActivatesOnly, CanShift, HasFlow, HasPlaces, IsKept, IsSettlingOn, IsUser, KeepsLevels, Lessens, MovesTo, NotesMoved, ResourceStaysWithin, SettlesUser, Shifts};
+ghost use Rattle.sg_levels.specs.Numbered.{IsHeld, bound_of as bound_of_flow, flow_in, level_at};
 ghost use Rattle.sg_levels.specs.Settling.{HasCause, is_active};
 
 use crate::hold::capped_share;
@@ -57,8 +57,7 @@ fn bound_level(weight: u32, bound: Option<u64>) -> Option<u64>
 
 // The level of a flow's bound.
 pub(crate) fn bound_of(system: &System, flow: usize) -> Option<u64>
-    requires sound { IsSound system.now }
-    requires held { IsSome (flow_at system.now.slots flow) }
+    requires { IsHeld system.now flow }
     ensures { result ≡ bound_of_flow (flow_in system.now.slots flow) }
 {
     bound_level(system.weight(flow), system.bound(flow))
@@ -120,10 +119,7 @@ pub(crate) fn visit_uses<L: Ledger>(
     steps: &mut Steps<L>,
 )
     requires places { HasPlaces system.now kept.old }
-    requires some { (c : ℕ) → times c (uses_at system.now.slots flow) * before
-        ≤ slice_index kept.old.demands.items c }
-    requires fits { (c : ℕ) → slice_index kept.old.demands.items c
-        + times c (uses_at system.now.slots flow) * after < 2 ^ 128 }
+    requires shift { CanShift before after (uses_at system.now.slots flow) kept.old.demands.items }
     ensures activates { Activates (uses_at system.now.slots flow)
         kept.old.active.members kept.new.active.members }
     ensures shifts { Shifts before after (uses_at system.now.slots flow)
@@ -148,8 +144,7 @@ fn has_cause<L: Ledger>(
     kept: &Levels,
     steps: &mut Steps<L>,
 ) -> bool
-    requires held { IsSome (flow_at system.now.slots flow) }
-    requires places { HasPlaces system.now kept.now }
+    requires { HasFlow system.now kept.now flow }
     ensures cause { IsTrue result
         → HasCause kept.now.holds.items (flow_in system.now.slots flow) level }
     ensures looks { steps.new ≤ steps.old + length (uses_at system.now.slots flow) }
@@ -177,11 +172,9 @@ pub(crate) fn move_flow<L: Ledger>(
     steps: &mut Steps<L>,
 )
     requires { HasFlow system.now kept.old flow }
-    ensures moved { IsMoved system.now kept.old kept.new flow level }
+    ensures to { MovesTo system.now flow level kept.old kept.new steps.old steps.new }
     ensures activates { Activates (uses_at system.now.slots flow)
         kept.old.active.members kept.new.active.members }
-    ensures kept { IsKept system.now kept.new }
-    ensures looks { steps.new ≡ steps.old + length (uses_at system.now.slots flow) }
 {
     let before = kept.part(flow);
     let after = part_of(system, flow, level);
@@ -201,13 +194,11 @@ fn lower<L: Ledger>(
     steps: &mut Steps<L>,
 )
     requires { IsUser system.now kept.old resource flow }
-    ensures moved { IsMoved system.now kept.old kept.new flow (Some hold) }
+    ensures to { MovesTo system.now flow (Some hold) kept.old kept.new steps.old steps.new }
     ensures activates { ActivatesBut resource (uses_at system.now.slots flow)
         kept.old.active.members kept.new.active.members }
     ensures only { ActivatesOnly (uses_at system.now.slots flow)
         kept.old.active.members kept.new.active.members }
-    ensures kept { IsKept system.now kept.new }
-    ensures looks { steps.new ≡ steps.old + length (uses_at system.now.slots flow) }
 {
     let was = kept.is_active(resource);
     move_flow(system, flow, Some(hold), kept, steps);
@@ -227,12 +218,8 @@ fn settle_held<L: Ledger>(
     requires of { IsUser system.now kept.old resource flow }
     requires most { IsAtMost (level_at kept.old.levels.items flow)
         (level_at kept.old.holds.items resource) }
-    ensures settles { (was : Option ℕ) (todo : List ℕ)
-        → IsSettlingOn system.now kept.old resource was (flow ∷ todo)
-        → IsSettlingOn system.now kept.new resource was todo }
-    ensures moves { Moves system.now flow kept.old kept.new }
-    ensures looks { steps.new ≤ steps.old + result * length (uses_at system.now.slots flow) }
-    ensures few { result ≤ 2 }
+    ensures { (was : Option ℕ) → SettlesUser system.now resource was flow kept.old kept.new result
+        steps.old steps.new }
 {
     let level = kept.level(flow);
     if is_same(kept.hold(resource), level) {
@@ -256,12 +243,8 @@ fn settle_user<L: Ledger>(
     steps: &mut Steps<L>,
 ) -> u64
     requires { IsUser system.now kept.old resource flow }
-    ensures settles { (todo : List ℕ)
-        → IsSettlingOn system.now kept.old resource was (flow ∷ todo)
-        → IsSettlingOn system.now kept.new resource was todo }
-    ensures moves { Moves system.now flow kept.old kept.new }
-    ensures looks { steps.new ≤ steps.old + result * length (uses_at system.now.slots flow) }
-    ensures few { result ≤ 2 }
+    ensures { SettlesUser system.now resource was flow kept.old kept.new result
+        steps.old steps.new }
 {
     let level = kept.level(flow);
     match hold_below(level, kept.hold(resource)) {

@@ -1,5 +1,5 @@
 -- What contracts see of `Lives`.
-use Rattle.std.specs.Prelude.{◌≡◌, ◌≢◌, ℕ, ◌+◌, ◌<◌, ◌≤◌, Bool, Option, None, Some, is_some, List, All, AllPairs, length, count_by, slice_index_or}
+use Rattle.std.specs.Prelude.{◌≡◌, ◌≢◌, ℕ, ◌+◌, ◌<◌, ◌≤◌, Bool, Option, None, Some, is_some, List, All, AllPairs, length, count_by, slice_index_or, slice_set}
 use Rattle.sg_lives.specs.declared.kinds.PhaseKind.{PhaseKind}
 use Rattle.sg_lives.specs.declared.kinds.PhaseKind.TheVariants as phase
 use Rattle.sg_lives.specs.declared.lives.Live.{Live}
@@ -36,6 +36,11 @@ IsMissing slots serial = (k : ℕ) (live : Live) → slot_at slots k ≡ Some li
 pub record IsFound (slots : List (Option Live)) (serial key : ℕ) (live : Live) : Type 0 where
   pub at : slot_at slots key ≡ Some live
   pub is : live.serial ≡ serial
+
+-- under the key is this activity now, or none, and there is as much room
+pub record IsSet (old new : Pool) (key : ℕ) (slot : Option Live) : Type 0 where
+  pub slots : new.slots ≡ slice_set old.slots key slot
+  pub room : new.room ≡ old.room
 
 -- The free keys are different keys without an activity, and all of these; there is room for each key among them.
 pub record IsPool (slots : List (Option Live)) (free : List ℕ) (capacity : ℕ) : Type 0 where

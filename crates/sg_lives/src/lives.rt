@@ -4,7 +4,7 @@ ghost use Rattle.std.specs.Prelude.{◌≡◌, ◌<◌, ◌≤◌, ◌+◌, ◌-
 ghost use Rattle.sg_lives.specs.Slots.{passes};
 ghost use Rattle.sg_lives.specs.Kinds.{goes_by, is_exec as is_exec_spec, is_held as is_held_spec, takes_share as takes_share_spec};
 ghost use Rattle.sg_lives.specs.Cells.{HasEnds};
-ghost use Rattle.sg_lives.specs.Pool.{IsFound, IsMissing, SameSlots, goes_on, slot_at, uses_ahead as uses_ahead_spec};
+ghost use Rattle.sg_lives.specs.Pool.{IsFound, IsMissing, IsSet, SameSlots, goes_on, slot_at, uses_ahead as uses_ahead_spec};
 ghost use Rattle.sg_lives.specs.Kinds.{flows_ahead as flows_ahead_spec};
 
 use crate::cells::{Cell, cell_with, free_cell, live_in};
@@ -213,8 +213,7 @@ impl Lives {
         requires same { IfSome (slot_at self.old.slots key) (λ old. old.serial ≡ live.serial) }
         requires host { IfSome (slot_at self.old.slots key) (λ old. old.host ≡ live.host) }
         requires peer { IfSome (slot_at self.old.slots key) (λ old. old.peer ≡ live.peer) }
-        ensures slots { self.new.slots ≡ slice_set self.old.slots key (Some live) }
-        ensures room { self.new.room ≡ self.old.room }
+        ensures { IsSet self.old self.new key (Some live) }
     {
         let Some(old) = live_in(self.slots[key]) else {
             unreachable!()
@@ -226,8 +225,7 @@ impl Lives {
     /// Takes away the activity under a key, which is then free.
     pub fn remove(&mut self, key: usize)
         requires { IsSome (slot_at self.old.slots key) }
-        ensures slots { self.new.slots ≡ slice_set self.old.slots key None }
-        ensures room { self.new.room ≡ self.old.room }
+        ensures { IsSet self.old self.new key None }
     {
         let Some(old) = live_in(self.slots[key]) else {
             unreachable!()

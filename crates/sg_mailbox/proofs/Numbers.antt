@@ -34,9 +34,13 @@ numbered_added f empty queues old =
     (record { within = omega (arith, long); none = get_or_push queues [] [] (length queues) refl; nobodys = λ m is. omega (arith, old.within m (length queues) is) })
     (λ k d below same. omega (arith, (old.free k d below).within, same))
 
+-- the last of the free queues is free
+pub last_free : (f : BoxId → Option ℕ) (rest : List ℕ) (queues : List (List (ℕ × Post))) (queue : ℕ) → All (IsFree f queues) (rest ++ queue ∷ []) → IsFree f queues queue
+last_free f rest queues queue free = (All-pop (IsFree f queues) (rest ++ queue ∷ []) rest (Some queue) refl free).1
+
 -- ---- the queue of one mailbox changes
 module _ (f g : BoxId → Option ℕ) (mailbox : BoxId) (queues : List (List (ℕ × Post))) where
-  changed : (o : Option ℕ) → ((m : BoxId) → g m ≡ cond (box_eq mailbox m) o (f m)) → (m : BoxId) → ((m ≡ mailbox) × (g m ≡ o)) ⊎ ((m ≢ mailbox) × (g m ≡ f m))
+  pub changed : (o : Option ℕ) → ((m : BoxId) → g m ≡ cond (box_eq mailbox m) o (f m)) → (m : BoxId) → ((m ≡ mailbox) × (g m ≡ o)) ⊎ ((m ≢ mailbox) × (g m ≡ f m))
   changed o is m = elim (cases_Bool (box_eq mailbox m)) [
     | inl here ↦ inl (sym (box_found mailbox m here), is m ∙ ap (λ b. cond b o (f m)) here)
     | inr apart ↦ inr (λ same. true≢false (sym (box_same mailbox) ∙ ap (box_eq mailbox) (sym same) ∙ apart), is m ∙ ap (λ b. cond b o (f m)) apart)

@@ -1,5 +1,5 @@
 -- Who waits in the mailboxes, as a side comes and as one leaves.
-use Rattle.std.proofs.Common.{◌≡◌, ◌≢◌, ℕ, ◌<◌, ◌≤◌, Bool, cond, Option, None, Some, List, [], ◌∷◌, ◌++◌, length, get_or, refl, sym, ap, subst, ◌∙◌, arith}
+use Rattle.std.proofs.Common.{◌≡◌, ◌≢◌, ℕ, ◌<◌, ◌≤◌, Bool, cond, Option, None, Some, List, [], ◌∷◌, ◌++◌, inl, inr, length, get_or, refl, sym, ap, subst, ◌∙◌, arith}
 use Rattle.std.specs.Prelude.{All, map, vec_capacity, IfSome}
 use Rattle.std.specs.HashMap.{spare, hash_map_len}
 use Rattle.std.specs.Map.{lookup}
@@ -19,9 +19,10 @@ use Rattle.sg_mailbox.specs.declared.kept.Kept.{Kept}
 use Rattle.sg_mailbox.specs.declared.sides.Post.{Post}
 use Rattle.sg_mailbox.specs.declared.sides.Place.{Place}
 use Rattle.sg_mailbox.specs.Posts.{box_eq, posts_in, waiters, partner, partner_side, posts_without, AreBelow, AreRising}
+use Rattle.sg_mailbox.specs.kept.Acts.{Stays}
 use Rattle.sg_mailbox.specs.kept.Queues.{number, place, posts_of, is_at, IsPlace, AreNumbered, AreOrdered, AreKept, IsKept}
 use Rattle.sg_mailbox.proofs.Lists.{first_met}
-use Rattle.sg_mailbox.proofs.Numbers.{numbered_as}
+use Rattle.sg_mailbox.proofs.Numbers.{changed, last_free, numbered_as}
 use Rattle.sg_mailbox.proofs.Places.{placed_like, side_at, one_queue}
 
 -- what holds of the posts of each queue holds of those in a mailbox
@@ -50,29 +51,33 @@ unknown more may kept serial was above = go (place kept serial.0) refl (was.plac
         let one = side_at (number kept) (place kept) kept.queues.queues serial.0 p was.placed is held (λ (e : ℕ × Post). e.1.serial.0 < serial.0) (λ k d less. subst (λ (post : Post). post.serial.0 < serial.0) (get_or-map value queue k d d.1 less) (below k d.1 (omega (arith, less, length-map queue value)))) in
         absurd (omega (arith, one.2, one.3))
 
--- the same sides wait, in maps and queues with room for those that come
+-- the same sides wait, in maps and queues with room for those that come, and as much room is told
 pub alike : (old new : Kept) → IsKept old → ((m : BoxId) → number new m ≡ number old m) → hash_map_len new.numbers ≡ hash_map_len old.numbers → old.room ≤ spare new.numbers → ((s : ℕ) → place new s ≡ place old s) → old.room ≤ serials.room new.places
-    → new.queues.queues ≡ old.queues.queues → old.queues.room ≤ new.queues.room → new.empty ≡ old.empty → new.room ≡ old.room → IsKept new
+    → new.queues.queues ≡ old.queues.queues → old.queues.room ≤ new.queues.room → new.empty ≡ old.empty → new.room ≡ old.room → Stays old new
 alike old new was numbers count numbers_fit places places_fit queues queues_fit empty room =
     let items : new.empty.items ≡ old.empty.items = ap (λ v. v.items) empty in
     record {
-      roomy = record {
-        numbers = omega (arith, numbers_fit, room);
-        empty = omega (arith, was.roomy.empty, ap length items, room);
-        places = omega (arith, places_fit, room);
-        queues = omega (arith, was.roomy.queues, queues_fit, room);
-        stack = omega (arith, was.roomy.stack, count, ap length items, ap (λ v. vec_capacity v) empty);
+      same = λ m. ap (λ l. posts_in (values_of l) (number new m)) queues ∙ ap (posts_in (values_of old.queues.queues)) (numbers m);
+      room = room;
+      kept = record {
+        roomy = record {
+          numbers = omega (arith, numbers_fit, room);
+          empty = omega (arith, was.roomy.empty, ap length items, room);
+          places = omega (arith, places_fit, room);
+          queues = omega (arith, was.roomy.queues, queues_fit, room);
+          stack = omega (arith, was.roomy.stack, count, ap length items, ap (λ v. vec_capacity v) empty);
+        };
+        numbered = subst (λ l. AreNumbered (number new) l new.queues.queues) (sym items) (rw queues (numbered_as (number old) (number new) old.empty.items old.queues.queues old.queues.queues (λ m q is. sym (numbers m) ∙ is) (omega arith) (λ q free. free.none) was.numbered));
+        placed = placed_like (number old) (number new) (place old) (place new) old.queues.queues new.queues.queues (λ q. ap (λ l. queue_at l q) queues) places (λ m q slot is there. numbers m ∙ is) was.placed;
+        slots = rw queues was.slots;
+        ordered = rw queues was.ordered;
+        filled = rw queues (λ m q is none. was.filled m q (sym (numbers m) ∙ is) none);
       };
-      numbered = subst (λ l. AreNumbered (number new) l new.queues.queues) (sym items) (rw queues (numbered_as (number old) (number new) old.empty.items old.queues.queues old.queues.queues (λ m q is. sym (numbers m) ∙ is) (omega arith) (λ q free. free.none) was.numbered));
-      placed = placed_like (number old) (number new) (place old) (place new) old.queues.queues new.queues.queues (λ q. ap (λ l. queue_at l q) queues) places (λ m q slot is there. numbers m ∙ is) was.placed;
-      slots = rw queues was.slots;
-      ordered = rw queues was.ordered;
-      filled = rw queues (λ m q is none. was.filled m q (sym (numbers m) ∙ is) none);
     }
 
 -- there is more room
 pub grown : (old new : Kept) → IsKept old → ((m : BoxId) → number new m ≡ number old m) → hash_map_len new.numbers ≡ hash_map_len old.numbers → spare old.numbers ≤ spare new.numbers → ((s : ℕ) → place new s ≡ place old s) → serials.room old.places ≤ serials.room new.places
-    → new.queues.queues ≡ old.queues.queues → old.queues.room ≤ new.queues.room → new.empty ≡ old.empty → new.room ≡ old.room → IsKept new
+    → new.queues.queues ≡ old.queues.queues → old.queues.room ≤ new.queues.room → new.empty ≡ old.empty → new.room ≡ old.room → Stays old new
 grown old new was numbers count numbers_fit places places_fit queues queues_fit empty room =
     alike old new was numbers count (omega (arith, was.roomy.numbers, numbers_fit)) places (omega (arith, was.roomy.places, places_fit)) queues queues_fit empty room
 
@@ -93,6 +98,23 @@ module _ (queues : List (List (ℕ × Post))) (queue slot : ℕ) (post : Post) w
   pub put_elsewhere : (o : Option ℕ) → o ≢ Some queue → posts_in (values_of (queued queues queue (slot, post))) o ≡ posts_in (values_of queues) o
   put_elsewhere None apart = refl
   put_elsewhere (Some q) apart = ap (λ l. queue_at l q) (queued_values queues queue slot post) ∙ get_or-set_other (values_of queues) queue q (queue_at (values_of queues) queue ++ post ∷ []) [] (λ e. apart (ap (λ n. Some n) e))
+
+-- ---- a mailbox gets an empty queue, or leaves it
+module _ (f g : BoxId → Option ℕ) (mailbox : BoxId) (queues : List (List (ℕ × Post))) (queue : ℕ) where
+  empty_there : queue_at queues queue ≡ [] → posts_in (values_of queues) (Some queue) ≡ []
+  empty_there none = values_at queues queue ∙ ap (map value) none
+
+  pub opened_waiters : (rest : List ℕ) → f mailbox ≡ None → ((m : BoxId) → g m ≡ cond (box_eq mailbox m) (Some queue) (f m)) → AreNumbered f (rest ++ queue ∷ []) queues → (m : BoxId) → posts_in (values_of queues) (g m) ≡ posts_in (values_of queues) (f m)
+  opened_waiters rest nobody is numbered m = elim (changed f g mailbox queues (Some queue) is m) [
+    | inl here ↦ ap (posts_in (values_of queues)) here.1 ∙ empty_there (last_free f rest queues queue numbered.free).none ∙ ap (posts_in (values_of queues)) (sym (ap f here.0 ∙ nobody))
+    | inr apart ↦ ap (posts_in (values_of queues)) apart.1
+  ]
+
+  pub closed_waiters : f mailbox ≡ Some queue → queue_at queues queue ≡ [] → ((m : BoxId) → g m ≡ cond (box_eq mailbox m) None (f m)) → (m : BoxId) → posts_in (values_of queues) (g m) ≡ posts_in (values_of queues) (f m)
+  closed_waiters has none is m = elim (changed f g mailbox queues None is m) [
+    | inl here ↦ ap (posts_in (values_of queues)) here.1 ∙ sym (ap (posts_in (values_of queues)) (ap f here.0 ∙ has) ∙ empty_there none)
+    | inr apart ↦ ap (posts_in (values_of queues)) apart.1
+  ]
 
 -- ---- a side leaves
 pub taken_in : (queues : List (List (ℕ × Post))) (slot : ℕ) (serial : Serial) → ((q : ℕ) → map value (without_slot slot (queue_at queues q)) ≡ posts_without serial (map value (queue_at queues q)))

@@ -1,5 +1,5 @@
 -- Communications of which one side is there, mailbox by mailbox.
-use Rattle.std.specs.Prelude.{◌≡◌, ◌≢◌, ℕ, ◌<◌, Bool, true, false, not, ◌==◌, Option, None, Some, option_map, List, [], ◌∷◌, ◌++◌, All, filter, slice_index_or, if◌then◌else◌}
+use Rattle.std.specs.Prelude.{◌≡◌, ◌≢◌, ℕ, ◌-◌, ◌<◌, Bool, true, false, not, ◌==◌, Option, None, Some, option_map, List, [], ◌∷◌, ◌++◌, All, filter, slice_index_or, if◌then◌else◌}
 use Rattle.std.specs.List.{find, AllPairs}
 use Rattle.std.specs.Map.{lookup}
 use Rattle.sg_base.specs.declared.ids.BoxId.{BoxId}
@@ -86,3 +86,15 @@ OthersStay mailbox old new = (other : BoxId) → other ≢ mailbox → waiters n
 -- serials rise in the order of arrival
 abbrev pub AreRising : List Post → Type 0
 AreRising posts = AllPairs (λ (first later : Post). first.serial.0 < later.serial.0) posts
+
+-- there is room for a side that comes, and its serial is above those that wait
+pub record CanCome (serial : ℕ) (posts : Posts) : Type 0 where
+  pub room : 0 < posts.room
+  pub above : AreBelow serial posts
+
+-- a side came to a mailbox, met whom it meets there or waits, and took its room
+pub record Comes (mailbox : BoxId) (sends : Bool) (side : Side) (serial : Serial) (old new : Posts) (met : Meeting) : Type 0 where
+  pub meeting : met ≡ meeting (partner sends (waiters old mailbox)) serial
+  pub there : waiters new mailbox ≡ posts_after sends side serial (waiters old mailbox)
+  pub elsewhere : OthersStay mailbox old new
+  pub room : new.room ≡ old.room - 1

@@ -1,7 +1,7 @@
 //! The mailboxes.
-ghost use Rattle.std.specs.Prelude.{◌≡◌, ◌-◌, ◌<◌, ◌≤◌, [], true, false, IfOk, OnOk};
+ghost use Rattle.std.specs.Prelude.{◌≡◌, ◌<◌, ◌≤◌, [], true, false, IfOk, OnOk};
 ghost use Rattle.sg_base.specs.declared.ids.BoxId.{BoxId};
-ghost use Rattle.sg_mailbox.specs.Posts.{waiters, partner, posts_after, meeting, partner_side, posts_without, AllStay, AreBelow, AreRising, IsFound, OthersStay};
+ghost use Rattle.sg_mailbox.specs.Posts.{waiters, partner, partner_side, posts_without, AllStay, AreBelow, AreRising, CanCome, Comes, IsFound};
 
 use crate::kept::{Kept, enter, first, look, reserve, withdraw};
 use crate::sides::{Found, Meeting, Side};
@@ -76,11 +76,7 @@ impl Boxes {
         requires room { 0 < self.old.room }
         requires found { IsFound self.old mailbox sends found }
         requires above { AreBelow serial.0 self.old }
-        ensures meeting { result ≡ meeting (partner sends (waiters self.old mailbox)) serial }
-        ensures there { waiters self.new mailbox
-            ≡ posts_after sends side serial (waiters self.old mailbox) }
-        ensures elsewhere { OthersStay mailbox self.old self.new }
-        ensures room { self.new.room ≡ self.old.room - 1 }
+        ensures { Comes mailbox sends side serial self.old self.new result }
     {
         enter(&mut self.kept, mailbox, sends, found, side, serial)
     }
@@ -97,13 +93,8 @@ impl Boxes {
 
     /// A side comes that sends.
     pub fn send(&mut self, mailbox: BoxId, side: Side, serial: Serial) -> Meeting
-        requires room { 0 < self.old.room }
-        requires above { AreBelow serial.0 self.old }
-        ensures meeting { result ≡ meeting (partner true (waiters self.old mailbox)) serial }
-        ensures there { waiters self.new mailbox
-            ≡ posts_after true side serial (waiters self.old mailbox) }
-        ensures elsewhere { OthersStay mailbox self.old self.new }
-        ensures room { self.new.room ≡ self.old.room - 1 }
+        requires { CanCome serial.0 self.old }
+        ensures { Comes mailbox true side serial self.old self.new result }
     {
         let found = self.look(mailbox, true);
         self.enter(mailbox, true, found, side, serial)
@@ -111,13 +102,8 @@ impl Boxes {
 
     /// A side comes that receives.
     pub fn recv(&mut self, mailbox: BoxId, side: Side, serial: Serial) -> Meeting
-        requires room { 0 < self.old.room }
-        requires above { AreBelow serial.0 self.old }
-        ensures meeting { result ≡ meeting (partner false (waiters self.old mailbox)) serial }
-        ensures there { waiters self.new mailbox
-            ≡ posts_after false side serial (waiters self.old mailbox) }
-        ensures elsewhere { OthersStay mailbox self.old self.new }
-        ensures room { self.new.room ≡ self.old.room - 1 }
+        requires { CanCome serial.0 self.old }
+        ensures { Comes mailbox false side serial self.old self.new result }
     {
         let found = self.look(mailbox, false);
         self.enter(mailbox, false, found, side, serial)

@@ -6,6 +6,7 @@ ghost use Rattle.sg_serials.specs.Serials as serials;
 ghost use Rattle.sg_mailbox.specs.declared.sides.Post.{Post as PostSpec};
 ghost use Rattle.sg_mailbox.specs.Posts.{box_eq, partner, posts_after, meeting, waiters, posts_without, AllStay, AreBelow, AreRising, IsFound, OthersStay};
 ghost use Rattle.sg_mailbox.specs.kept.Queues.{number, posts_of, IsKept, IsKeptBut};
+ghost use Rattle.sg_mailbox.specs.kept.Acts.{CanGrow, CanTake, Keeps, Opens, Stays, Waits};
 
 use crate::sides::{Found, Meeting, Place, Post, Side};
 use sg_base::{ActorId, BoxId, Memory, Msg, Serial};
@@ -67,15 +68,13 @@ fn push(items: &mut Vec<usize>, item: usize)
     }
 }
 
-// Room for so many more sides, but for the queues of so many mailboxes.
+// Room for so many sides, but for the queues of so many mailboxes.
 fn grow(kept: &mut Kept, n: usize) -> Result<(), Memory>
-    requires kept { IsKept kept.old }
+    requires { CanGrow n kept.old }
     ensures numbers { OnOk result (n ≤ spare kept.new.numbers) }
     ensures places { OnOk result (n ≤ serials.room kept.new.places) }
     ensures queues { OnOk result (n ≤ kept.new.queues.room) }
-    ensures same { AllStay (posts_of kept.old) (posts_of kept.new) }
-    ensures room { kept.new.room ≡ kept.old.room }
-    ensures kept { IsKept kept.new }
+    ensures stays { Stays kept.old kept.new }
 {
     kept.numbers.reserve(n)?;
     kept.places.reserve(n)?;
@@ -116,11 +115,8 @@ fn trim(numbers: &mut HashMap<BoxId, usize>, room: usize)
 
 // The maps let memory go that isn't needed for so much room.
 fn shrink(kept: &mut Kept, room: usize)
-    requires kept { IsKept kept.old }
-    requires more { kept.old.room ≤ room }
-    ensures same { AllStay (posts_of kept.old) (posts_of kept.new) }
-    ensures room { kept.new.room ≡ kept.old.room }
-    ensures kept { IsKept kept.new }
+    requires { CanGrow room kept.old }
+    ensures { Stays kept.old kept.new }
 {
     trim(&mut kept.numbers, room);
     kept.places.trim(room);
@@ -128,12 +124,9 @@ fn shrink(kept: &mut Kept, room: usize)
 
 // Room for so many sides that come, and not less than there was.
 fn make_room(kept: &mut Kept, room: usize) -> Result<(), Memory>
-    requires kept { IsKept kept.old }
-    requires more { kept.old.room ≤ room }
+    requires { CanGrow room kept.old }
     ensures room { OnOk result (kept.new.room ≡ room) }
-    ensures grows { kept.old.room ≤ kept.new.room }
-    ensures same { AllStay (posts_of kept.old) (posts_of kept.new) }
-    ensures kept { IsKept kept.new }
+    ensures keeps { Keeps kept.old kept.new }
 {
     grow(kept, room)?;
     while kept.empty.len() < room {
@@ -152,13 +145,10 @@ fn is_wide(kept: &Kept, room: usize) -> bool
 
 // Takes memory anew for so many sides that come, where nobody waits, and lets the old go.
 fn renew(kept: &mut Kept, room: usize) -> Result<(), Memory>
-    requires kept { IsKept kept.old }
-    requires more { kept.old.room ≤ room }
+    requires grows { CanGrow room kept.old }
     requires nobody { hash_map_len kept.old.numbers ≡ 0 }
     ensures room { OnOk result (kept.new.room ≡ room) }
-    ensures grows { kept.old.room ≤ kept.new.room }
-    ensures same { AllStay (posts_of kept.old) (posts_of kept.new) }
-    ensures kept { IsKept kept.new }
+    ensures keeps { Keeps kept.old kept.new }
 {
     let mut other = first(*kept.empty.allocator())?;
     make_room(&mut other, room)?;
@@ -171,9 +161,7 @@ fn renew(kept: &mut Kept, room: usize) -> Result<(), Memory>
 pub(crate) fn reserve(kept: &mut Kept, n: usize) -> Result<(), Memory>
     requires kept { IsKept kept.old }
     ensures room { OnOk result (n ≤ kept.new.room) }
-    ensures grows { kept.old.room ≤ kept.new.room }
-    ensures same { AllStay (posts_of kept.old) (posts_of kept.new) }
-    ensures kept { IsKept kept.new }
+    ensures keeps { Keeps kept.old kept.new }
 {
     let room = n.max(kept.room);
     if is_wide(kept, room) {
@@ -207,13 +195,9 @@ pub(crate) fn look(kept: &Kept, mailbox: BoxId, sends: bool) -> Found
 
 // A mailbox gets a queue.
 fn open(kept: &mut Kept, mailbox: BoxId) -> usize
-    requires kept { IsKept kept.old }
-    requires room { 0 < kept.old.room }
+    requires able { CanTake kept.old }
     requires nobody { number kept.old mailbox ≡ None }
-    ensures queue { number kept.new mailbox ≡ Some result }
-    ensures same { AllStay (posts_of kept.old) (posts_of kept.new) }
-    ensures room { kept.new.room ≡ kept.old.room }
-    ensures kept { IsKeptBut mailbox (kept.new.room - 1) kept.new }
+    ensures { Opens mailbox result kept.old kept.new }
 {
     let Some(queue) = kept.empty.pop() else {
         unreachable!()
@@ -227,13 +211,9 @@ fn open(kept: &mut Kept, mailbox: BoxId) -> usize
 
 // The queue of a mailbox, also where it had none.
 fn queue_for(kept: &mut Kept, mailbox: BoxId, queue: Option<usize>) -> usize
-    requires kept { IsKept kept.old }
-    requires room { 0 < kept.old.room }
+    requires able { CanTake kept.old }
     requires queue { queue ≡ number kept.old mailbox }
-    ensures queue { number kept.new mailbox ≡ Some result }
-    ensures same { AllStay (posts_of kept.old) (posts_of kept.new) }
-    ensures room { kept.new.room ≡ kept.old.room }
-    ensures kept { IsKeptBut mailbox (kept.new.room - 1) kept.new }
+    ensures { Opens mailbox result kept.old kept.new }
 {
     match queue {
         Some(queue) => queue,
@@ -249,11 +229,7 @@ fn put(kept: &mut Kept, mailbox: BoxId, queue: usize, post: Post)
     requires above { AreBelow post.serial.0 (posts_of kept.old) }
     requires alike { All (λ (first : PostSpec). first.sends ≡ post.sends)
         (waiters (posts_of kept.old) mailbox) }
-    ensures there { waiters (posts_of kept.new) mailbox
-        ≡ waiters (posts_of kept.old) mailbox ++ post ∷ [] }
-    ensures elsewhere { OthersStay mailbox (posts_of kept.old) (posts_of kept.new) }
-    ensures room { kept.new.room ≡ kept.old.room - 1 }
-    ensures kept { IsKept kept.new }
+    ensures { Waits mailbox post kept.old kept.new }
 {
     let slot = kept.queues.push_back(queue, post);
     let place = Place {
@@ -269,9 +245,7 @@ fn put(kept: &mut Kept, mailbox: BoxId, queue: usize, post: Post)
 fn close(kept: &mut Kept, mailbox: BoxId, queue: usize)
     requires kept { IsKeptBut mailbox kept.old.room kept.old }
     requires queue { number kept.old mailbox ≡ Some queue }
-    ensures same { AllStay (posts_of kept.old) (posts_of kept.new) }
-    ensures room { kept.new.room ≡ kept.old.room }
-    ensures kept { IsKept kept.new }
+    ensures { Stays kept.old kept.new }
 {
     if kept.queues.front(queue).is_none() {
         kept.numbers.remove(&mailbox);
@@ -302,8 +276,7 @@ pub(crate) fn enter(
     side: Side,
     serial: Serial,
 ) -> Meeting
-    requires kept { IsKept kept.old }
-    requires room { 0 < kept.old.room }
+    requires able { CanTake kept.old }
     requires found { IsFound (posts_of kept.old) mailbox sends found }
     requires above { AreBelow serial.0 (posts_of kept.old) }
     ensures meeting { result

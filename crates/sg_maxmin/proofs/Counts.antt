@@ -10,7 +10,7 @@ use Rattle.sg_chains.specs.Chain.{resources, IsChain}
 use Rattle.sg_maxmin.specs.kept.Uses.{flow_of, AreRows, IsOneChain}
 use Rattle.sg_maxmin.specs.Sharing.{IsFlow}
 use Rattle.sg_chains.specs.Chained.{times}
-use Rattle.sg_maxmin.specs.kept.Counting.{row_share, IsLeast, least_with, with_level, without_share, SameRows, RowSteps, IsStepped}
+use Rattle.sg_maxmin.specs.kept.Counting.{HasRowPlaces, row_share, IsLeast, least_with, with_level, without_share, SameRows, RowSteps, IsStepped}
 
 pub eq_cases : (a b : ℕ) → (a ≡ b) ⊎ (a ≢ b)
 eq_cases a b = grind arith
@@ -142,6 +142,9 @@ row_facts caps rows uses id row are e =
       weighs = flow.limit.weighs;
       light = flow.light;
     }
+
+pub row_places : (caps : List ℕ) (rows : List (Option FlowRow)) (uses : List (Option Use)) (id : ℕ) (row : FlowRow) (list : List ℕ) → AreRows caps rows uses → get_or rows id None ≡ Some row → length list ≡ length caps → HasRowPlaces uses row list
+row_places caps rows uses id row list are e len = let facts = row_facts caps rows uses id row are e in record { chain = facts.chain; exist = rw len facts.exist }
 
 pub waits_once : (on : Bool) (level : Option ℕ) (weight : ℕ) → level ≡ None → cond on 1 0 * weight ≡ cond (on && is_none level) weight 0
 waits_once true level weight e = rw e (omega arith)

@@ -2,14 +2,14 @@
 //! fixed flows leave and the weights of the unfixed ones that wait for it; the second finds the lowest limit; the
 //! third fixes each flow that is at it.
 
-ghost use Rattle.std.specs.Prelude.{◌≡◌, ◌≢◌, ◌↔◌, IsTrue, IsSomeAnd, option_map, ◌≤◌, ◌<◌, ◌+◌, ◌-◌, ◌*◌, ◌^◌, ◌/◌, min, ℕ, List, ◌++◌, length, All, Some, None, slice_index};
+ghost use Rattle.std.specs.Prelude.{◌≡◌, ◌≢◌, ◌↔◌, IsTrue, IsSomeAnd, option_map, ◌≤◌, ◌<◌, ◌+◌, ◌-◌, ◌*◌, ◌^◌, ◌/◌, min, ℕ, List, ◌++◌, length, Some, None, slice_index};
 ghost use Rattle.sg_chains.specs.Chained.{times};
-ghost use Rattle.sg_maxmin.specs.kept.Uses.{IsOneChain, AreRows, flows_of, row_uses};
+ghost use Rattle.sg_maxmin.specs.kept.Uses.{AreRows, flows_of, row_uses};
 ghost use Rattle.sg_maxmin.specs.Laws.{HaveLimits};
 ghost use Rattle.sg_maxmin.specs.Sharing.{held};
 ghost use Rattle.sg_maxmin.specs.Fill.{bounded, bound_level};
-ghost use Rattle.sg_maxmin.specs.kept.Numbers.{row_at};
-ghost use Rattle.sg_maxmin.specs.kept.Counting.{HavePlaces, IsLeast, row_limits, least_with, AreCounted, row_taken, row_waiting, row_count, count_of, unfixed_limits, all_limits, with_level, with_share, RowSteps, SameRows, AreRowLevels};
+ghost use Rattle.sg_maxmin.specs.kept.Numbers.{ChangesRow, ChangesRows, row_at};
+ghost use Rattle.sg_maxmin.specs.kept.Counting.{HasRowPlaces, HavePlaces, IsLeast, LooksUpTo, row_limits, least_with, AreCounted, row_taken, row_waiting, row_count, count_of, unfixed_limits, all_limits, with_level, with_share, RowSteps, SameRows, AreRowLevels};
 
 use crate::flow_row::FlowRow;
 use crate::numbers::Rows;
@@ -50,8 +50,7 @@ fn share_at(row: FlowRow, level: u64) -> u64
 
 // Counts the weight of an unfixed flow at each of its resources.
 fn put_waiting<L: Ledger>(uses: &Chains, row: FlowRow, waiting: &mut [u64], steps: &mut Steps<L>)
-    requires chain { IsOneChain row.count uses.now.uses row.first }
-    requires exist { All (λ resource. resource < length waiting.old) (row_uses uses.now.uses row) }
+    requires places { HasRowPlaces uses.now.uses row waiting.old }
     requires fits { (resource : ℕ) →
         slice_index waiting.old resource
         + times resource (row_uses uses.now.uses row) * row.weight < 2 ^ 64 }
@@ -76,8 +75,7 @@ fn take_off<L: Ledger>(
     left: &mut [u64],
     steps: &mut Steps<L>,
 )
-    requires chain { IsOneChain row.count uses.now.uses row.first }
-    requires exist { All (λ resource. resource < length left.old) (row_uses uses.now.uses row) }
+    requires { HasRowPlaces uses.now.uses row left.old }
     ensures counts { (resource : ℕ) → slice_index left.new resource
         ≡ slice_index left.old resource
         - times resource (row_uses uses.now.uses row) * bounded row.bound (row.weight * level) }
@@ -100,12 +98,9 @@ fn least_limit<L: Ledger>(
     counts: Counts<'_>,
     steps: &mut Steps<L>,
 ) -> Option<u64>
-    requires chain { IsOneChain row.count uses.now.uses row.first }
     requires weighs { 0 < row.weight }
-    requires left { All (λ resource. resource < length counts.left.now)
-        (row_uses uses.now.uses row) }
-    requires waiting { All (λ resource. resource < length counts.waiting.now)
-        (row_uses uses.now.uses row) }
+    requires left { HasRowPlaces uses.now.uses row counts.left.now }
+    requires waiting { HasRowPlaces uses.now.uses row counts.waiting.now }
     ensures least { IsLeast result
         (row_limits counts.entry.left.now counts.entry.waiting.now uses.now.uses row) }
     ensures looks { steps.new ≡ steps.old + row.count }
@@ -211,8 +206,7 @@ fn lowest_with<L: Ledger>(
         (list ++ unfixed_limits
         (row_limits counts.entry.left.now counts.entry.waiting.now uses.now.uses)
         (row_at flows.now id)) }
-    ensures most { steps.new ≤ steps.old + row_count (row_at flows.now id) }
-    ensures looks { steps.old ≤ steps.new }
+    ensures looks { LooksUpTo (row_count (row_at flows.now id)) steps.old steps.new }
 {
     let Some(row) = flows.get(id) else {
         return least;
@@ -236,8 +230,7 @@ fn lowest<L: Ledger>(
     requires rows { HavePlaces flows.now uses.now.uses counts.left.now counts.waiting.now }
     ensures least { IsLeast result
         (all_limits counts.entry.left.now counts.entry.waiting.now uses.now.uses flows.now) }
-    ensures most { steps.new ≤ steps.old + count_of flows.now }
-    ensures looks { steps.old ≤ steps.new }
+    ensures looks { LooksUpTo (count_of flows.now) steps.old steps.new }
 {
     let mut least = None;
     for id in 0..flows.numbers() {
@@ -248,9 +241,7 @@ fn lowest<L: Ledger>(
 
 // Fixes the flow under one number at a level, or makes it unfixed.
 fn set_level(flows: &mut Rows, id: usize, level: Option<u64>)
-    ensures changed { row_at flows.new id ≡ option_map (with_level level) (row_at flows.old id) }
-    ensures others { (other : ℕ) → other ≢ id → row_at flows.new other ≡ row_at flows.old other }
-    ensures len { length flows.new ≡ length flows.old }
+    ensures { ChangesRow id (with_level level) flows.old flows.new }
 {
     if let Some(row) = flows.get(id) {
         flows.replace(id, FlowRow { level, ..row });
@@ -259,9 +250,7 @@ fn set_level(flows: &mut Rows, id: usize, level: Option<u64>)
 
 // Makes all flows unfixed.
 fn unfix_all(flows: &mut Rows)
-    ensures all { (key : ℕ) →
-        row_at flows.new key ≡ option_map (with_level None) (row_at flows.old key) }
-    ensures len { length flows.new ≡ length flows.old }
+    ensures { ChangesRows (with_level None) flows.old flows.new }
 {
     for id in 0..flows.numbers() {
         set_level(flows, id, None);
@@ -282,8 +271,7 @@ fn is_at<L: Ledger>(
         (row.level ≡ None)
         × IsLeast (Some low)
         (row_limits counts.entry.left.now counts.entry.waiting.now uses.now.uses row))) }
-    ensures most { steps.new ≤ steps.old + row_count (row_at flows.now id) }
-    ensures looks { steps.old ≤ steps.new }
+    ensures looks { LooksUpTo (row_count (row_at flows.now id)) steps.old steps.new }
 {
     let Some(row) = flows.get(id) else {
         return false;
@@ -312,8 +300,7 @@ fn fix_row<L: Ledger>(
         (row_at flows.old id) (row_at flows.new id) }
     ensures others { (other : ℕ) → other ≢ id → row_at flows.new other ≡ row_at flows.old other }
     ensures len { length flows.new ≡ length flows.old }
-    ensures most { steps.new ≤ steps.old + row_count (row_at flows.old id) }
-    ensures looks { steps.old ≤ steps.new }
+    ensures looks { LooksUpTo (row_count (row_at flows.old id)) steps.old steps.new }
 {
     if is_at(flows, uses, id, counts, low, steps) {
         set_level(flows, id, Some(low));
@@ -334,8 +321,7 @@ fn fix_all<L: Ledger>(
         (row_at flows.old key) (row_at flows.new key) }
     ensures same { SameRows flows.old flows.new }
     ensures len { length flows.new ≡ length flows.old }
-    ensures most { steps.new ≤ steps.old + count_of flows.old }
-    ensures looks { steps.old ≤ steps.new }
+    ensures looks { LooksUpTo (count_of flows.old) steps.old steps.new }
 {
     for id in 0..flows.numbers() {
         fix_row(flows, uses, id, counts, low, steps);
@@ -377,9 +363,7 @@ pub(crate) fn fill<L: Ledger>(
 
 // Gives the flow under one number the share of its level.
 fn put_share(flows: &mut Rows, id: usize)
-    ensures changed { row_at flows.new id ≡ option_map with_share (row_at flows.old id) }
-    ensures others { (other : ℕ) → other ≢ id → row_at flows.new other ≡ row_at flows.old other }
-    ensures len { length flows.new ≡ length flows.old }
+    ensures { ChangesRow id with_share flows.old flows.new }
 {
     if let Some(row) = flows.get(id) {
         let share = share_at(row, row.level.unwrap_or(0));
@@ -389,9 +373,7 @@ fn put_share(flows: &mut Rows, id: usize)
 
 // Gives each flow the share of the level at which `fill` fixed it.
 pub(crate) fn put_shares(flows: &mut Rows)
-    ensures all { (key : ℕ) →
-        row_at flows.new key ≡ option_map with_share (row_at flows.old key) }
-    ensures len { length flows.new ≡ length flows.old }
+    ensures { ChangesRows with_share flows.old flows.new }
 {
     for id in 0..flows.numbers() {
         put_share(flows, id);

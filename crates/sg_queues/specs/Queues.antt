@@ -1,7 +1,8 @@
 -- First-in-first-out queues of values, each in a slot.
-use Rattle.std.specs.Prelude.{◌≡◌, ◌≢◌, ℕ, ◌==◌, Bool, true, not, List, [], ◌∷◌, ◌++◌, map, filter, slice_set, AllPairs, refl}
+use Rattle.std.specs.Prelude.{◌≡◌, ◌≢◌, ℕ, ◌<◌, ◌≤◌, ◌==◌, Bool, true, not, List, [], ◌∷◌, ◌++◌, length, map, filter, slice_set, AllPairs, Result, OnOk, refl}
 use Rattle.std.specs.List.{list_any}
 use Rattle.std.specs.Coded.{Coded, code_by, coded×, coded_ℕ, coded_list}
+use Rattle.sg_base.specs.declared.memory.Memory.{Memory}
 use Rattle.sg_queues.specs.Rings.{queue_at, behind}
 
 -- the values of each queue, in order, each with its slot; and room for so many more
@@ -49,3 +50,14 @@ module _ {T : Type 0} where
   pub record AreSlots (queues : List (List (ℕ × T))) : Type 0 where
     pub once : (queue : ℕ) → AllPairs (λ (a b : ℕ × T). a.0 ≢ b.0) (queue_at queues queue)
     pub apart : (p q slot : ℕ) → holds slot (queue_at queues p) ≡ true → holds slot (queue_at queues q) ≡ true → p ≡ q
+
+  -- there is such a queue, and room for a value
+  pub record CanPush (at : ℕ) (old : Queues T) : Type 0 where
+    pub queue : at < length old.queues
+    pub room : 0 < old.room
+
+  -- the queues stay, and there is room for so many values, or no less than before
+  pub record MakesRoom (n : ℕ) (old new : Queues T) (result : Result Unit Memory) : Type 0 where
+    pub room : OnOk result (n ≤ new.room)
+    pub grows : old.room ≤ new.room
+    pub kept : new ≡ record old { room = new.room }

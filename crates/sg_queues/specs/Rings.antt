@@ -59,3 +59,9 @@ rows_of rings = rings.idle ∷ rings.queues
 
 abbrev pub IsApart : Rings → Type 0
 IsApart rings = AreApart rings.nodes rings.heads (rows_of rings)
+
+-- the slot is alone, and there is such a queue for it
+pub record CanJoin (node at : ℕ) (rings : Rings) : Type 0 where
+  pub slot : IsSlot rings.nodes rings.heads node
+  pub alone : IsAlone node (rows_of rings)
+  pub queue : at < length rings.queues

@@ -1,7 +1,7 @@
 //! First-in-first-out queues of values.
 ghost use Rattle.std.specs.Prelude.{◌≡◌, ◌<◌, ◌≤◌, ◌+◌, ◌-◌, ◌++◌, ◌∷◌, [], ℕ, false, length, option_map, IfOk, OnOk, OnErr};
 ghost use Rattle.sg_queues.specs.Rings.{front, queue_at};
-ghost use Rattle.sg_queues.specs.Queues.{holds, let_go, queued, shortened, AreSlots, IsHeld};
+ghost use Rattle.sg_queues.specs.Queues.{holds, let_go, queued, shortened, AreSlots, CanPush, IsHeld, MakesRoom};
 
 use crate::links::push;
 use crate::rings::Rings;
@@ -99,9 +99,7 @@ impl<T: Copy + Drop> Queues<T> {
 
     /// Makes room for so many more values.
     pub fn reserve(&mut self, n: usize) -> Result<(), Memory>
-        ensures room { OnOk result (n ≤ self.new.room) }
-        ensures grows { self.old.room ≤ self.new.room }
-        ensures kept { self.new ≡ record self.old { room = self.new.room } }
+        ensures { MakesRoom n self.old self.new result }
     {
         while self.room < n {
             self.add_slot()?;
@@ -111,8 +109,7 @@ impl<T: Copy + Drop> Queues<T> {
 
     /// A value comes to the end of a queue, in the slot that is answered.
     pub fn push_back(&mut self, queue: usize, value: T) -> usize
-        requires queue { queue < length self.old.queues }
-        requires room { 0 < self.old.room }
+        requires { CanPush queue self.old }
         ensures queues { self.new.queues ≡ queued self.old.queues queue (result, value) }
         ensures room { self.new.room ≡ self.old.room - 1 }
         ensures fresh { (q : ℕ) → holds result (queue_at self.old.queues q) ≡ false }

@@ -1,6 +1,6 @@
 //! Slots that move from queue to queue.
 ghost use Rattle.std.specs.Prelude.{◌≡◌, ◌<◌, ◌+◌, ◌++◌, ◌∷◌, [], suc, length, IfOk, OnOk, OnErr};
-ghost use Rattle.sg_queues.specs.Rings.{front, joined, left, queue_at, rows_of, without, IsAlone, IsApart, IsSlot};
+ghost use Rattle.sg_queues.specs.Rings.{front, joined, left, queue_at, rows_of, without, CanJoin, IsAlone, IsApart, IsSlot};
 ghost use Rattle.sg_queues.specs.kept.Links.{head_at};
 
 use crate::links::{Links, push};
@@ -132,9 +132,7 @@ impl Rings {
 
     /// A slot that is alone comes to the end of a queue.
     pub fn join(&mut self, slot: usize, queue: usize)
-        requires slot { IsSlot self.old.nodes self.old.heads slot }
-        requires alone { IsAlone slot (rows_of self.old) }
-        requires queue { queue < length self.old.queues }
+        requires { CanJoin slot queue self.old }
         ensures joined { self.new ≡ record self.old {
           queues = joined slot queue self.old.queues;
         } }

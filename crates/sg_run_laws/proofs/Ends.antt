@@ -8,7 +8,7 @@ use Rattle.sg_profile.proofs.Ahead.{ahead_at_first}
 use Rattle.sg_profile.proofs.Promises.{platforms_promise}
 use Rattle.sg_rows.specs.Platform.{IsPlatform, counts_of}
 use Rattle.sg_kernel.specs.Passes.{pass_of}
-use Rattle.sg_kernel.specs.World.{Core}
+use Rattle.sg_calls.specs.World.{Core}
 use Rattle.sg_engine.specs.World.{World}
 use Rattle.sg_engine.specs.declared.ended.Ended.{Ended}
 use Rattle.sg_engine.specs.declared.ended.Ended.TheVariants as ended

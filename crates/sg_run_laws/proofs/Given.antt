@@ -9,8 +9,8 @@ use Rattle.sg_base.specs.declared.trace_record.Record.{Record}
 use Rattle.sg_rows.specs.Deployment.{started_number, starts}
 use Rattle.sg_states.specs.Actors.{is_ended}
 use Rattle.sg_states.specs.Records.{record_of}
-use Rattle.sg_kernel.specs.Lives.{created}
-use Rattle.sg_kernel.specs.World.{Core, state_of}
+use Rattle.sg_calls.specs.Lives.{created}
+use Rattle.sg_calls.specs.World.{Core, state_of}
 use Rattle.sg_engine.specs.World.{World}
 use Rattle.sg_engine.specs.declared.ended.Ended.{Ended}
 use Rattle.sg_engine.specs.declared.ended.Ended.TheVariants as ended

@@ -9,7 +9,7 @@ use Rattle.sg_rows.specs.Deployment.{starts}
 use Rattle.sg_rows.specs.declared.rows.ActorRow.{ActorRow}
 use Rattle.sg_states.specs.Actors.{first_actor, is_unstarted}
 use Rattle.sg_kernel.specs.Passes.{pass_of}
-use Rattle.sg_kernel.specs.World.{Core}
+use Rattle.sg_calls.specs.World.{Core}
 use Rattle.sg_engine.specs.World.{World}
 use Rattle.sg_engine.specs.declared.ended.Ended.{Ended}
 use Rattle.sg_engine.specs.declared.ended.Ended.TheVariants as ended

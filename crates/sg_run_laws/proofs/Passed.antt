@@ -17,15 +17,16 @@ use Rattle.sg_profile.proofs.Cases.{earlier_of}
 use Rattle.sg_profile.proofs.Ahead.{ahead_moves, ahead_steps, next_is_near, rows_are_left}
 use Rattle.sg_rows.specs.declared.network.Network.{Network}
 use Rattle.sg_states.specs.declared.state.Actor.{Actor}
-use Rattle.sg_kernel.specs.declared.owners.How.{How}
-use Rattle.sg_kernel.specs.declared.owners.How.TheVariants as how
-use Rattle.sg_kernel.specs.declared.stop.Stop.{Stop}
-use Rattle.sg_kernel.specs.declared.stop.Stop.TheVariants as stop
-use Rattle.sg_kernel.specs.Answers.{finishes}
+use Rattle.sg_owners.specs.declared.owners.How.{How}
+use Rattle.sg_owners.specs.declared.owners.How.TheVariants as how
+use Rattle.sg_calls.specs.declared.stop.Stop.{Stop}
+use Rattle.sg_calls.specs.declared.stop.Stop.TheVariants as stop
+use Rattle.sg_calls.specs.Answers.{finishes}
 use Rattle.sg_kernel.specs.Passes.{all_fail, applied_if, changes, core_later, ends, ends_by, ends_in, ends_one, enters, enters_one, entry_stretches, fails, fails_one, next_span, pass_at, pass_of, settled, span_to, stretches}
-use Rattle.sg_kernel.specs.Steps.{Step, goes_on, stops, counted, follows, and_then, each, all_of}
-use Rattle.sg_kernel.specs.World.{Setup, Core}
-use Rattle.sg_kernel.proofs.Ends.{finishes_goes}
+use Rattle.sg_calls.specs.Steps.{Step, goes_on, stops, counted, follows, and_then, each, all_of}
+use Rattle.sg_setup.specs.Setup.{Setup}
+use Rattle.sg_calls.specs.World.{Core}
+use Rattle.sg_calls.proofs.Finishes.{finishes_goes}
 use Rattle.sg_actor_laws.proofs.Kept.{finishes_kept, still}
 use Rattle.sg_run_laws.proofs.Called.{Keeping, Keeps, Leaves, TellsNone, closed}
 

@@ -9,7 +9,7 @@ use Rattle.sg_states.specs.declared.state.Actor.{Actor}
 use Rattle.sg_states.specs.declared.state.State.{State}
 use Rattle.sg_states.specs.declared.state.State.TheVariants as state
 use Rattle.sg_states.specs.Actors.{answer_in, inbox_of, is_answered, is_ended, is_ready, is_unstarted}
-use Rattle.sg_kernel.specs.World.{Core, state_of}
+use Rattle.sg_calls.specs.World.{Core, state_of}
 use Rattle.sg_engine.specs.World.{World}
 use Rattle.sg_engine.specs.declared.ended.Ended.{Ended}
 use Rattle.sg_engine.specs.Run.{Scene, Answering, Progress, and_then_by, anyone_ready, call_after, calls_from, if_call, inboxes, mind_after, round, zip_with}

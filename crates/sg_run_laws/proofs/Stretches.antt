@@ -15,12 +15,12 @@ use Rattle.sg_base.specs.Mind.{Mind}
 use Rattle.sg_states.specs.declared.state.Actor.{Actor}
 use Rattle.sg_states.specs.declared.state.State.TheVariants.{Ready}
 use Rattle.sg_states.specs.Actors.{actor_at, is_ended, is_unstarted, put_state}
-use Rattle.sg_kernel.specs.declared.stop.Stop.{Stop}
-use Rattle.sg_kernel.specs.declared.stop.Stop.TheVariants as stop
-use Rattle.sg_kernel.specs.Calls.{answer_of_ask, answered, answered_call, told}
-use Rattle.sg_kernel.specs.Lives.{created}
-use Rattle.sg_kernel.specs.Steps.{Step, goes_on, stops, counted, readied}
-use Rattle.sg_kernel.specs.World.{Core, state_of}
+use Rattle.sg_calls.specs.declared.stop.Stop.{Stop}
+use Rattle.sg_calls.specs.declared.stop.Stop.TheVariants as stop
+use Rattle.sg_calls.specs.Calls.{answer_of_ask, answered, answered_call, told}
+use Rattle.sg_calls.specs.Lives.{created}
+use Rattle.sg_calls.specs.Steps.{Step, goes_on, stops, counted, readied}
+use Rattle.sg_calls.specs.World.{Core, state_of}
 use Rattle.sg_script.specs.Stands.{one_more}
 use Rattle.sg_script.specs.declared.fault.ScriptFault.{ScriptFault}
 use Rattle.sg_script.specs.declared.fault.ScriptFault.TheVariants as fault

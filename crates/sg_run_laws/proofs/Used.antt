@@ -6,13 +6,13 @@ use Rattle.sg_base.specs.declared.call.Call.{Call}
 use Rattle.sg_base.specs.declared.ids.ActorId.{ActorId}
 use Rattle.sg_activity.specs.Underway.{work_of}
 use Rattle.sg_states.specs.Actors.{is_ended}
-use Rattle.sg_kernel.specs.declared.stop.Stop.TheVariants as stop
-use Rattle.sg_kernel.specs.Calls.{answered, answered_call}
-use Rattle.sg_kernel.specs.Lives.{created}
+use Rattle.sg_calls.specs.declared.stop.Stop.TheVariants as stop
+use Rattle.sg_calls.specs.Calls.{answered, answered_call}
+use Rattle.sg_calls.specs.Lives.{created}
 use Rattle.sg_kernel.specs.Passes.{next_span, pass_of, settled}
-use Rattle.sg_kernel.specs.Steps.{Step, stops}
-use Rattle.sg_kernel.specs.World.{state_of}
-use Rattle.sg_kernel.proofs.Each.{eq_yes}
+use Rattle.sg_calls.specs.Steps.{Step, stops}
+use Rattle.sg_calls.specs.World.{state_of}
+use Rattle.sg_calls.proofs.Each.{eq_yes}
 use Rattle.sg_kernel.proofs.Passed.{pass_used}
 use Rattle.sg_script.specs.Stands.{one_more}
 use Rattle.sg_engine.specs.World.{World}

@@ -9,7 +9,7 @@ use Rattle.sg_base.specs.declared.trace_record.Record.{Record}
 use Rattle.sg_rows.specs.Deployment.{Deployed, started_number, starts}
 use Rattle.sg_states.specs.Actors.{is_ended, is_unstarted}
 use Rattle.sg_states.specs.Records.{record_of}
-use Rattle.sg_kernel.specs.World.{state_of}
+use Rattle.sg_calls.specs.World.{state_of}
 use Rattle.sg_engine.specs.Run.{Progress, created_by}
 use Rattle.sg_actor_laws.specs.Creates.{answer_of_create}
 use Rattle.sg_await_laws.specs.Runs.{Run, calls_in, parts_in, run_to, whole}

@@ -5,7 +5,8 @@ use Rattle.sg_engine.specs.declared.ended.Ended.TheVariants as ended
 use Rattle.sg_engine.specs.Run.{Scene, Answering, Progress, anyone_ready, are_completed, at_world, round_or_pass, run_from, with_front}
 use Rattle.sg_engine.specs.World.{World}
 use Rattle.sg_kernel.specs.Passes.{next_span, settled}
-use Rattle.sg_kernel.specs.World.{Core, Setup}
+use Rattle.sg_calls.specs.World.{Core}
+use Rattle.sg_setup.specs.Setup.{Setup}
 use Rattle.sg_await_laws.specs.Runs.{IsCoreOf, Run, first_in, parts_in, scene_in, whole}
 
 -- A run goes on with rounds and passes until it ends: here all have ended that began, or the next round or pass ends it, or it goes on behind that.

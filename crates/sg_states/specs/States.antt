@@ -1,5 +1,5 @@
 -- What contracts see of `States`, and how it changes.
-use Rattle.std.specs.Prelude.{◌≡◌, ℕ, ◌-◌, ◌<◌, Bool, false, IsTrue, List, [], ◌∷◌, ◌++◌}
+use Rattle.std.specs.Prelude.{◌≡◌, ℕ, ◌-◌, ◌<◌, ◌≤◌, Bool, false, IsTrue, List, [], ◌∷◌, ◌++◌}
 use Rattle.sg_base.specs.declared.call.Answer.{Answer}
 use Rattle.sg_base.specs.declared.call.Call.{Call}
 use Rattle.sg_base.specs.declared.trace_record.Record.{Record}
@@ -22,6 +22,11 @@ pub record ActorStates : Type 0 where
 pub record CanCall (states : ActorStates) (actor : ℕ) : Type 0 where
   pub caller : MayCall states.actors actor
   pub room : 0 < states.room
+  pub round : states.passing ≡ false
+
+-- a round may begin with room for so many calls: there is no more than that, and no pass goes on
+pub record CanReserve (n : ℕ) (states : ActorStates) : Type 0 where
+  pub more : states.room ≤ n
   pub round : states.passing ≡ false
 
 -- another may kill, suspend or resume the actor: it is alive, and no pass goes on

@@ -4,7 +4,7 @@ ghost use Rattle.std.specs.List.{list_all, list_any};
 ghost use Rattle.sg_states.specs.declared.state.State.TheVariants.{Blocked, Ready};
 ghost use Rattle.sg_states.specs.Actors.{actor_at, first_actor, is_answered, is_blocked, is_over, is_ready, joined_in, joiners, put_state, put_suspended, state_at, IsActor, IsJoiner};
 ghost use Rattle.sg_states.specs.Queue.{is_ready_in, IsQueue};
-ghost use Rattle.sg_states.specs.kept.Standing.{CanAnswer};
+ghost use Rattle.sg_states.specs.kept.Standing.{CanAnswer, CanPut};
 ghost use Rattle.sg_states.specs.kept.Waiting.{is_joining};
 
 use crate::joiners::{self, Joiner};
@@ -215,8 +215,7 @@ impl Crowd {
 
     /// An actor is suspended from now on, or isn't any more.
     pub(crate) fn put_suspended(&mut self, actor: ActorId, on: bool)
-        requires actor { IsActor self.old.actors actor.0 }
-        requires round { self.old.passing ≡ false }
+        requires { CanPut self.old actor.0 }
         ensures { self.new
             ≡ record self.old { actors = put_suspended self.old.actors actor.0 on } }
     {

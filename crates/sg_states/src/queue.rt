@@ -5,7 +5,7 @@ ghost use Rattle.sg_base.specs.declared.ids.ActorId.{ActorId};
 ghost use Rattle.sg_states.specs.declared.state.Actor.{Actor};
 ghost use Rattle.sg_states.specs.Queue.{is_ready_in as is_ready_in_spec, IsIdOf, IsQueue};
 ghost use Rattle.sg_states.specs.Actors.{put_actor};
-ghost use Rattle.sg_states.specs.kept.Standing.{CanFollow, HasFollowed, IsQueued};
+ghost use Rattle.sg_states.specs.kept.Standing.{CanFollow, HasBecome, HasFollowed};
 ghost use Rattle.sg_states.specs.kept.Places.{IsPlace};
 
 use crate::state::Actor;
@@ -109,8 +109,7 @@ pub(crate) fn follow(
 )
     requires follows { CanFollow passing actors.now queue.old actor }
     requires turn { passing ≡ true → is_ready_in_spec actors.now actor.0 ≡ false }
-    ensures queued { IsQueued passing (put_actor actors.now actor.0 next) queue.new.items }
-    ensures capacity { vec_capacity queue.new ≡ vec_capacity queue.old }
+    ensures { HasBecome passing actors.now actor next queue.old queue.new }
 {
     if next.is_ready() && !is_ready_in(actors, actor) {
         join(queue, actors, passing, actor);

@@ -7,7 +7,7 @@ ghost use Rattle.sg_states.specs.declared.state.State.TheVariants.{Unstarted, Re
 ghost use Rattle.sg_states.specs.Actors.{actor_at, blocked_of, first_actor, inbox_of, is_blocked, is_over, is_ready, is_unstarted, joiners, state_at, IsActor, IsJoiner};
 ghost use Rattle.sg_states.specs.Queue.{IsQueue};
 ghost use Rattle.sg_states.specs.Records.{AreRecords, IsTellable};
-ghost use Rattle.sg_states.specs.States.{by_call, with_reply, with_state, with_suspended, CanCall, IsAlive, KeepsLimits};
+ghost use Rattle.sg_states.specs.States.{by_call, with_reply, with_state, with_suspended, CanCall, CanReserve, IsAlive, KeepsLimits};
 
 use crate::crowd::Crowd;
 use crate::records::record_of;
@@ -96,8 +96,7 @@ impl States {
     /// A round begins: makes room for so many calls and for what the passes after them answer, and lets those go from
     /// the run queue that aren't ready. Nothing else changes, also where there is no memory.
     pub fn reserve_round(&mut self, n: usize) -> Result<(), Memory>
-        requires more { self.old.room ≤ n }
-        requires round { self.old.passing ≡ false }
+        requires { CanReserve n self.old }
         ensures room { OnOk result (self.new.room ≡ n) }
         ensures most { self.new.room ≤ n }
         ensures kept { self.new ≡ record self.old { room = self.new.room } }

@@ -5,7 +5,7 @@ use Rattle.std.specs.Str.Parse.{ParsesUnsigned, digits_value, without_leading_pl
 use Rattle.clap.specs.ValueTests.{is_numeral, is_unsigned_in}
 use Rattle.clap.specs.declared.builder.value_parser.ValueParser.TheVariants as vp
 use Rattle.clap.proofs.ValueTestLemmas.{accepts-Accepts, Accepts-accepts}
-use Rattle.sg_words.specs.CommandLine.{number_in}
+use Rattle.sg_words.specs.kept.Ranged.{number_in}
 use Rattle.sg_words.proofs.Accepted.{both}
 
 -- a number that `parse` reads, where it is in range

@@ -4,7 +4,7 @@ use Rattle.std.specs.Option.{option_map_or}
 use Rattle.std.specs.Str.{bytes_eq}
 use Rattle.std.specs.Str.Parse.{digits_value, without_leading_plus}
 use Rattle.clap.specs.Words.{App, Kinds, Row, Rule, Text, fault_of, first_of, new_app, new_rule, subcommand_of, with_rule, with_subcommand}
-use Rattle.clap.specs.ValueTests.{is_unsigned_in}
+use Rattle.clap.specs.Takes.{value_passes}
 use Rattle.clap.specs.declared.builder.action.ArgAction.TheVariants.{SetTrue}
 use Rattle.clap.specs.declared.builder.value_parser.ValueParser.{ValueParser}
 use Rattle.clap.specs.declared.builder.value_parser.ValueParser.TheVariants as vp
@@ -31,12 +31,8 @@ steps_rule = parsed_rule (codes "steps") (vp.Unsigned 0 1000000)
 
 -- an option with a number from least to most, and its default
 abbrev pub number_rule : Text → ℕ → ℕ → Text → Rule
-number_rule id least most default = record (new_rule id) {
-  long = Some id;
-  parser = Some (vp.Unsigned least most);
-  defaults = default ∷ [];
-  value_names = 1;
-}
+number_rule id least most default =
+    record (new_rule id) { long = Some id; parser = Some (vp.Unsigned least most); defaults = default ∷ []; value_names = 1 }
 
 abbrev pub threads_rule : Rule
 threads_rule = number_rule (codes "nthreads") 1 64 (codes "1")
@@ -44,16 +40,13 @@ threads_rule = number_rule (codes "nthreads") 1 64 (codes "1")
 abbrev pub budget_rule : Rule
 budget_rule = number_rule (codes "budget") 1 1000000000 (codes "1000000")
 
-abbrev pub quiet_rule : Rule
-quiet_rule = record (new_rule (codes "quiet")) { long = Some (codes "quiet"); action = Some SetTrue }
-
 -- the options of every command
 abbrev pub with_common_options : App → App
 with_common_options a = with_rule (with_rule a threads_rule) budget_rule
 
 -- the options of a command that prints a line for each action
 abbrev pub with_options : App → App
-with_options a = with_rule (with_common_options a) quiet_rule
+with_options a = with_rule (with_common_options a) (record (new_rule (codes "quiet")) { long = Some (codes "quiet"); action = Some SetTrue })
 
 abbrev pub with_parts : App → App
 with_parts a = with_rule (with_rule a (name_rule (codes "platform"))) (name_rule (codes "deployment"))
@@ -96,51 +89,42 @@ pub record Asked : Type 0 where
   pub budget : ℕ
   pub quiet : Bool
 
--- the number that a text writes, from least to most
-abbrev pub number_in : ℕ → ℕ → Text → Option ℕ
-number_in least most text = if is_unsigned_in least most text then Some (digits_value 10 (without_leading_plus text)) else None
+-- a function of one more value, where both are there
+abbrev pub with_value : {X Y : Type 0} → Option (X → Y) → Option X → Option Y
+with_value make value = option_and_then (λ f. option_map f value) make
 
-abbrev pub number_at : ℕ → ℕ → Text → List Row → Option ℕ
-number_at least most id rows = option_and_then (number_in least most) (first_of id rows)
+-- the number that an argument has, where its rule takes it
+abbrev pub number_at : Rule → List Row → Option ℕ
+number_at rule rows =
+    option_and_then (λ text. if value_passes rule text then Some (digits_value 10 (without_leading_plus text)) else None) (first_of rule.id rows)
 
-abbrev pub replay_at : List Row → Option Request
-replay_at rows = option_and_then (λ platform. option_and_then (λ deployment. option_map (λ script. replay platform deployment script)
-    (first_of (codes "script") rows)) (first_of (codes "deployment") rows)) (first_of (codes "platform") rows)
-
-abbrev pub run_at : List Row → Option Request
-run_at rows = option_and_then (λ platform. option_map (λ deployment. run platform deployment)
-    (first_of (codes "deployment") rows)) (first_of (codes "platform") rows)
+-- what is made of the names of a platform and a deployment
+abbrev pub parts_at : {X : Type 0} → (Text → Text → X) → List Row → Option X
+parts_at make rows = with_value (option_map make (first_of (codes "platform") rows)) (first_of (codes "deployment") rows)
 
 abbrev pub churn_at : List Row → Option Request
-churn_at rows = option_and_then (λ seed. option_and_then (λ actors. option_map (λ steps. churn seed actors steps)
-    (number_at 0 1000000 (codes "steps") rows)) (number_at 2 4096 (codes "actors") rows)) (number_at 0 9223372036854775807 (codes "seed") rows)
+churn_at rows = with_value (with_value (option_map
+    (λ seed actors steps. churn seed actors steps) (number_at seed_rule rows)) (number_at actors_rule rows)) (number_at steps_rule rows)
 
 abbrev pub request_at : Text → List Row → Option Request
 request_at name rows =
-    if bytes_eq name (codes "replay") then replay_at rows
-    else if bytes_eq name (codes "run") then run_at rows
+    if bytes_eq name (codes "replay") then with_value (parts_at (λ p d s. replay p d s) rows) (first_of (codes "script") rows)
+    else if bytes_eq name (codes "run") then parts_at run rows
     else if bytes_eq name (codes "churn") then churn_at rows
     else None
 
 abbrev pub is_quiet : List Row → Bool
 is_quiet rows = option_map_or (λ text. bytes_eq text (codes "true")) (first_of (codes "quiet") rows) false
 
--- what the command of that name is asked to do, by the values that were found for its arguments
-abbrev pub asked_at : Text → List Row → Option Asked
-asked_at name rows = option_and_then (λ request. option_and_then (λ threads. option_map (λ budget. record {
-  request = request;
-  threads = threads;
-  budget = budget;
-  quiet = is_quiet rows;
-}) (number_at 1 1000000000 (codes "budget") rows)) (number_at 1 64 (codes "nthreads") rows))
-    (request_at name rows)
-
-abbrev pub asked_by : Option (Text × List Row) → Option Asked
-asked_by = option_and_then (λ command. asked_at command.0 command.1)
+-- what the command of a name is asked to do, by the values that were found for its arguments
+abbrev pub asked_at : Text × List Row → Option Asked
+asked_at command = with_value (with_value (option_map
+    (λ request threads budget. record { request = request; threads = threads; budget = budget; quiet = is_quiet command.1 })
+    (request_at command.0 command.1)) (number_at threads_rule command.1)) (number_at budget_rule command.1)
 
 -- what the words ask for, where the definition accepts them
 abbrev pub asked_of : List Text → Option Asked
-asked_of words = asked_by (subcommand_of program_app (in_digits words))
+asked_of words = option_and_then asked_at (subcommand_of program_app (in_digits words))
 
 -- words that aren't refused ask for a job
 abbrev pub AcceptedWordsHaveJobs : Type 0

@@ -1,8 +1,9 @@
 //! The definition of the command line, in the words of `clap`.
-ghost use Rattle.std.specs.Prelude.{◌≡◌, IfOk, false};
-ghost use Rattle.clap.specs.Words.{app_of, rule_of, with_rule, with_subcommand};
+ghost use Rattle.std.specs.Prelude.{◌≡◌, IfOk, Some, codes, false};
+ghost use Rattle.clap.specs.Words.{app_of, new_rule, rule_of, with_rule, with_subcommand};
+ghost use Rattle.clap.specs.declared.builder.action.ArgAction.TheVariants.{SetTrue};
 ghost use Rattle.sg_words.specs.kept.Building.{IsArg, IsLocal, Builds};
-ghost use Rattle.sg_words.specs.CommandLine.{name_rule, parsed_rule, seed_rule, actors_rule, steps_rule, threads_rule, budget_rule, quiet_rule, with_common_options, with_options, with_parts, replay_app, run_app, churn_app, bare_app, program_app};
+ghost use Rattle.sg_words.specs.CommandLine.{name_rule, parsed_rule, seed_rule, actors_rule, steps_rule, threads_rule, budget_rule, with_common_options, with_options, with_parts, replay_app, run_app, churn_app, bare_app, program_app};
 
 use crate::help;
 use clap::builder::ValueParser;
@@ -75,7 +76,8 @@ fn budget_arg<'a>(alloc: Global) -> Arg<'a>
 }
 
 fn quiet_arg<'a>(alloc: Global) -> Arg<'a>
-    ensures { IsArg quiet_rule result }
+    ensures { IsArg (record (new_rule (codes "quiet"))
+        { long = Some (codes "quiet"); action = Some SetTrue }) result }
 {
     Arg::new(alloc, "quiet")
         .long("quiet")

@@ -1,9 +1,10 @@
 //! The job, read off the values that were found for the arguments.
-ghost use Rattle.std.specs.Prelude.{◌≡◌, ◌≤◌, ◌&&◌, Some, None, option_map, IfOk, IfSome, nat_le, if◌then◌else◌};
-ghost use Rattle.clap.specs.Words.{found_of, rows_of, first_of, subcommand_rows_of};
-ghost use Rattle.sg_words.specs.CommandLine.{number_in, number_at, replay_at, run_at, churn_at, request_at, is_quiet, asked_at, asked_by};
+ghost use Rattle.std.specs.Prelude.{◌≡◌, ◌≤◌, ◌&&◌, Some, None, codes, option_and_then, option_map, IfOk, IfSome, nat_le, if◌then◌else◌};
+ghost use Rattle.clap.specs.Words.{first_of, subcommand_rows_of};
+ghost use Rattle.sg_words.specs.CommandLine.{with_value, parts_at, replay, run, churn_at, request_at, is_quiet, asked_at};
 ghost use Rattle.sg_words.specs.Ranges.{IsInRange};
 ghost use Rattle.sg_words.specs.Views.{request_view, asked_view, command_view, job_view};
+ghost use Rattle.sg_words.specs.kept.Ranged.{number_in, number_between, rows_in};
 
 use crate::job::{Asked, ChurnNumbers, Command, Job, Request};
 use clap::ArgMatches;
@@ -32,20 +33,22 @@ fn number_of(text: &str, least: u64, most: u64) -> Option<u64>
 }
 
 fn text_at<'a>(matches: &ArgMatches<'a>, id: &str) -> Option<&'a str>
-    ensures { option_map (λ s. s.now) result ≡ first_of id.now (rows_of (found_of matches.now)) }
+    ensures { option_map (λ s. s.now) result ≡ first_of id.now (rows_in matches.now) }
 {
     matches.get_str(id)
 }
 
 fn number_at(matches: &ArgMatches<'_>, id: &str, least: u64, most: u64) -> Option<u64>
-    ensures value { result ≡ number_at least most id.now (rows_of (found_of matches.now)) }
+    ensures value { result ≡ number_between least most id.now (rows_in matches.now) }
     ensures within { IfSome result (λ n. (least ≤ n) × (n ≤ most)) }
 {
     number_of(text_at(matches, id)?, least, most)
 }
 
 fn replay_at<'a>(matches: &ArgMatches<'a>) -> Option<Request<'a>>
-    ensures { option_map request_view result ≡ replay_at (rows_of (found_of matches.now)) }
+    ensures { option_map request_view result
+        ≡ with_value (parts_at (λ p d s. replay p d s) (rows_in matches.now))
+        (first_of (codes "script") (rows_in matches.now)) }
 {
     let platform = text_at(matches, "platform")?;
     let deployment = text_at(matches, "deployment")?;
@@ -54,7 +57,7 @@ fn replay_at<'a>(matches: &ArgMatches<'a>) -> Option<Request<'a>>
 }
 
 fn run_at<'a>(matches: &ArgMatches<'a>) -> Option<Request<'a>>
-    ensures { option_map request_view result ≡ run_at (rows_of (found_of matches.now)) }
+    ensures { option_map request_view result ≡ parts_at run (rows_in matches.now) }
 {
     let platform = text_at(matches, "platform")?;
     let deployment = text_at(matches, "deployment")?;
@@ -62,7 +65,7 @@ fn run_at<'a>(matches: &ArgMatches<'a>) -> Option<Request<'a>>
 }
 
 fn churn_at<'a>(matches: &ArgMatches<'a>) -> Option<Request<'a>>
-    ensures { option_map request_view result ≡ churn_at (rows_of (found_of matches.now)) }
+    ensures { option_map request_view result ≡ churn_at (rows_in matches.now) }
 {
     let seed = number_at(matches, "seed", 0, 9_223_372_036_854_775_807)?;
     let actors = number_at(matches, "actors", 2, 4096)? as u32;
@@ -75,8 +78,7 @@ fn churn_at<'a>(matches: &ArgMatches<'a>) -> Option<Request<'a>>
 }
 
 fn request_at<'a>(name: &str, matches: &ArgMatches<'a>) -> Option<Request<'a>>
-    ensures { option_map request_view result
-        ≡ request_at name.now (rows_of (found_of matches.now)) }
+    ensures { option_map request_view result ≡ request_at name.now (rows_in matches.now) }
 {
     if name == "replay" {
         replay_at(matches)
@@ -90,7 +92,7 @@ fn request_at<'a>(name: &str, matches: &ArgMatches<'a>) -> Option<Request<'a>>
 }
 
 fn is_quiet(matches: &ArgMatches<'_>) -> bool
-    ensures { result ≡ is_quiet (rows_of (found_of matches.now)) }
+    ensures { result ≡ is_quiet (rows_in matches.now) }
 {
     match text_at(matches, "quiet") {
         Some(text) => text == "true",
@@ -99,7 +101,7 @@ fn is_quiet(matches: &ArgMatches<'_>) -> bool
 }
 
 fn asked_at<'a>(name: &str, matches: &ArgMatches<'a>) -> Option<Asked<'a>>
-    ensures { option_map asked_view result ≡ asked_at name.now (rows_of (found_of matches.now)) }
+    ensures { option_map asked_view result ≡ asked_at (name.now, rows_in matches.now) }
 {
     let request = request_at(name, matches)?;
     let threads = number_at(matches, "nthreads", 1, 64)? as u32;
@@ -115,7 +117,8 @@ fn asked_at<'a>(name: &str, matches: &ArgMatches<'a>) -> Option<Asked<'a>>
 
 /// What the command that was given is asked to do.
 pub(crate) fn asked_in<'a>(matches: &ArgMatches<'a>) -> Option<Asked<'a>>
-    ensures { option_map asked_view result ≡ asked_by (subcommand_rows_of matches.now) }
+    ensures { option_map asked_view result
+        ≡ option_and_then asked_at (subcommand_rows_of matches.now) }
 {
     let (name, rows) = matches.subcommand()?;
     asked_at(name, rows)

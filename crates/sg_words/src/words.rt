@@ -1,7 +1,7 @@
 //! The job that the words of a command line ask for.
-ghost use Rattle.std.specs.Prelude.{◌≡◌, IfOk, map, string_bytes};
+ghost use Rattle.std.specs.Prelude.{◌≡◌, IfOk, map, option_and_then, string_bytes};
 ghost use Rattle.clap.specs.Words.{FailsBy, fault_of, kind_of, subcommand_of, subcommand_rows_of};
-ghost use Rattle.sg_words.specs.CommandLine.{asked_by, asked_of, program_app, refusals};
+ghost use Rattle.sg_words.specs.CommandLine.{asked_at, asked_of, program_app, refusals};
 ghost use Rattle.sg_words.specs.Views.{Answers, IsFaultOf};
 
 use crate::budgets::in_digits;
@@ -52,7 +52,8 @@ fn fault_from(alloc: Global, error: Error) -> Result<WordsFault, Memory>
 // The job that words ask for whose budgets are in digits.
 fn read_plain(alloc: Global, words: &[String]) -> Result<Job, WordsFault>
     ensures { Answers (fault_of program_app (map string_bytes words.now))
-        (asked_by (subcommand_of program_app (map string_bytes words.now))) result }
+        (option_and_then asked_at (subcommand_of program_app (map string_bytes words.now)))
+        result }
 {
     let matches = match parsed(alloc, words) {
         Ok(matches) => matches,

@@ -52,10 +52,14 @@ pub record AreRestamped (old new : Pool) (marks more : MarkSet) (lazy : Lazily) 
   pub fresh : (key : ℕ) → is_in key more.members ≡ (is_in key marks.members || is_renewed lazy.changed (slot_at old.slots key))
   pub fresh_room : more.room ≡ marks.room
 
--- all amounts and stamps are small
-pub record AreSmall (slots : List (Option Live)) : Type 0 where
-  pub amounts : (key : ℕ) (live : Live) → slot_at slots key ≡ Some live → live.kept ≤ 10 ^ 24
-  pub stamps : (key : ℕ) (live : Live) → slot_at slots key ≡ Some live → live.stamp < 10 ^ 34
+-- an amount and a stamp are small
+pub record IsSmall (live : Live) : Type 0 where
+  pub amount : live.kept ≤ 10 ^ 24
+  pub stamp : live.stamp < 10 ^ 34
+
+-- all of them are
+abbrev pub AreSmall : List (Option Live) → Type 0
+AreSmall slots = (key : ℕ) (live : Live) → slot_at slots key ≡ Some live → IsSmall live
 
 -- the date of the activity under a key, if there is one, and it is ever due
 abbrev pub date_in : Option Live → Option Key

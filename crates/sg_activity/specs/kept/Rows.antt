@@ -1,5 +1,5 @@
 -- What is used under each key.
-use Rattle.std.specs.Prelude.{◌≡◌, ◌≢◌, ℕ, ◌-◌, ◌<◌, ◌≤◌, ◌^◌, Option, None, List, [], All, drop, length, map, slice_index_or}
+use Rattle.std.specs.Prelude.{◌≡◌, ◌≢◌, ℕ, ◌+◌, ◌-◌, ◌<◌, ◌≤◌, ◌^◌, Option, None, List, [], All, drop, length, map, slice_index_or}
 use Rattle.sg_base.specs.declared.ids.LinkId.{LinkId}
 use Rattle.sg_chains.specs.declared.uses.Use.{Use}
 use Rattle.sg_chains.specs.Chain.{IsChain, resources}
@@ -22,6 +22,12 @@ pub record IsRow (old new : List (List ℕ)) (key : ℕ) (things : List ℕ) : T
   pub here : row_at new key ≡ things
   pub others : (other : ℕ) → other ≢ key → row_at new other ≡ row_at old other
   pub long : length new ≡ length old
+
+-- And as many uses as these are taken from the room, and as many as those given back.
+pub record IsEntered (old new : Indexed) (key : ℕ) (things : List ℕ) : Type 0 where
+  pub row : IsRow old.rows new.rows key things
+  pub users : length new.users ≡ length old.users
+  pub room : new.room + length things ≡ old.room + length (row_at old.rows key)
 
 -- nothing but the room changes, and that doesn't shrink
 pub record IsWider (old new : Indexed) : Type 0 where

@@ -1,6 +1,6 @@
 -- The uses on a resource, linked both ways.
 use Rattle.std.specs.Prelude.{◌≡◌, ◌≢◌, ℕ, zero, suc, ◌+◌, ◌==◌, if◌then◌else◌, ◌⊎◌, ◌<◌, ◌≤◌, length, map, Option, None, Some, option_map, List, [], ◌∷◌, slice_index_or}
-use Rattle.slab.specs.Slab.{Slab, slab_len}
+use Rattle.slab.specs.Slab.{Slab, HasRoomFor, slab_len}
 use Rattle.sg_chains.specs.declared.uses.Use.{Use}
 use Rattle.sg_chains.specs.declared.slots.Slot.{Slot}
 use Rattle.sg_chains.specs.Chained.{times}
@@ -62,6 +62,22 @@ pub record IsList (slots : List (Option Slot)) (on : List (Option ℕ)) (resourc
 pub record AreLists (slots : List (Option Slot)) (on : List (Option ℕ)) : Type 0 where
   pub lists : (resource : ℕ) → resource < length on → IsList slots on resource
   pub in_range : (i : ℕ) (slot : Slot) → slice_index_or slots i None ≡ Some slot → slot.resource < length on
+
+-- and there is room for so many slots more, whose resources have a code
+pub record CanHold (n : ℕ) (slots : Slab Slot) (on : List (Option ℕ)) : Type 0 where
+  pub lists : AreLists slots.slots on
+  pub few : length on ≤ nothing
+  pub room : HasRoomFor slots n
+
+-- as many slots, and no other room
+pub record KeepsRoom (old new : Slab Slot) : Type 0 where
+  pub len : slab_len new ≡ slab_len old
+  pub capacity : new.capacity ≡ old.capacity
+
+-- so many slots more, and no other room
+pub record HoldsMore (n : ℕ) (fewer more : Slab Slot) : Type 0 where
+  pub len : slab_len more ≡ slab_len fewer + n
+  pub capacity : more.capacity ≡ fewer.capacity
 
 -- what is shown of a slot
 abbrev pub use_of : Slot → Use

@@ -22,9 +22,9 @@ use Rattle.sg_engine.specs.declared.ended.Ended.{Ended}
 use Rattle.sg_engine.specs.declared.ended.Ended.TheVariants as ended
 use Rattle.sg_engine.specs.declared.plan.Plan.{Plan}
 use Rattle.sg_engine.specs.declared.simulation.Simulation.{Simulation}
-use Rattle.sg_kernel.specs.Known.{Known}
-use Rattle.sg_kernel.specs.Start.{setup_of}
-use Rattle.sg_kernel.specs.World.{Core, MayCall, extent, state_of}
+use Rattle.sg_calls.specs.Known.{Known}
+use Rattle.sg_setup.specs.Setup.{setup_of}
+use Rattle.sg_calls.specs.World.{Core, MayCall, extent, state_of}
 use Rattle.sg_states.specs.Actors.{is_unstarted}
 use Rattle.sg_states.specs.declared.state.Actor.{Actor}
 use Rattle.sg_engine.specs.World.{World}
@@ -35,7 +35,7 @@ use Rattle.sg_engine.specs.Run.{Answering, Progress, are_completed, work_behind}
 use Rattle.sg_engine.specs.kept.Stretches.{Trace, trace_in, Advances, CutsOff}
 use Rattle.sg_engine.specs.kept.Writing.{Pending, pending}
 use Rattle.sg_route.specs.Roads.{Roads, roads_of}
-use Rattle.sg_kernel.specs.Roads.{AreOver}
+use Rattle.sg_calls.specs.Roads.{AreOver}
 
 -- what the seats of a simulation show, where this tells the minds of actors, and what the actors there have in mind
 abbrev pub places_in : {A : Type 0} → (A → Option Mind) → Simulation A → List SeatView

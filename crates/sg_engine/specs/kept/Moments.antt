@@ -10,8 +10,8 @@ use Rattle.sg_edge.specs.declared.files.Part.TheVariants.{Script}
 use Rattle.sg_edge.specs.Sources.{Source}
 use Rattle.sg_edge.specs.declared.files.Stage.{Stage}
 use Rattle.sg_edge.specs.declared.files.Stage.TheVariants.{Fresh, Begun, Broken}
-use Rattle.sg_kernel.specs.Known.{Known}
-use Rattle.sg_kernel.specs.World.{Core, IsActor, extent, state_of}
+use Rattle.sg_calls.specs.Known.{Known}
+use Rattle.sg_calls.specs.World.{Core, IsActor, extent, state_of}
 use Rattle.sg_states.specs.Actors.{is_answered, is_ended}
 use Rattle.sg_engine.specs.World.{World}
 use Rattle.sg_rows.specs.Deployment.{Deployed, extent_of}

@@ -1,8 +1,8 @@
 -- Entries in a binary heap, and for each slot the place of its entry.
-use Rattle.std.specs.Prelude.{◌≡◌, ◌≢◌, ℕ, ◌-◌, ◌/◌, ◌<◌, ◌≤◌, nat_lt, if◌then◌else◌, Option, None, Some, List, length, map, slice_index, slice_index_or, slice_set}
+use Rattle.std.specs.Prelude.{◌≡◌, ◌≢◌, ℕ, ◌+◌, ◌-◌, ◌*◌, ◌/◌, ◌<◌, ◌≤◌, nat_lt, if◌then◌else◌, Option, None, Some, List, length, map, slice_index, slice_index_or, slice_set}
 use Rattle.sg_base.specs.declared.ids.Serial.{Serial}
 use Rattle.sg_heap.specs.declared.entry.Entry.{Entry}
-use Rattle.sg_heap.specs.Agenda.{Key, IsNoLater, key, key_count, with_slots}
+use Rattle.sg_heap.specs.Agenda.{Key, IsNoLater, digits, key, key_count, with_slots}
 
 abbrev pub no_serial : Serial
 no_serial = record { 0 = 0 }
@@ -73,6 +73,17 @@ pub record IsSifted (count : ℕ) (heap : List Entry) (place : List ℕ)
   pub order : IsHeap heap' count
   pub placed : ArePlaced heap' place'
   pub keys : keys_of heap' place' count ≡ keys_of heap place count
+
+-- An entry in hand, with which there is a heap, but that it may come before its parent there, or after its children.
+pub record IsLooseInHand (heap : List Entry) (place : List ℕ) (count from : ℕ) (entry : Entry) : Type 0 where
+  pub hand : IsInHand heap place count from entry
+  pub loose : MayMove (slice_set heap from entry) count from
+
+-- It has its place, above that one, there or below, by two comparisons for each digit of the count and one at most.
+pub record Sifts (count from : ℕ) (entry : Entry) (heap : List Entry) (place : List ℕ)
+    (heap' : List Entry) (place' : List ℕ) (before after : ℕ) : Type 0 where
+  pub sifted : IsSifted count (slice_set heap from entry) (slice_set place entry.slot from) heap' place'
+  pub most : after ≤ before + (2 * digits count + 1)
 
 -- All slots have their places, those with a key come first, and these are a heap.
 pub record IsAgenda (heap : List Entry) (place : List ℕ) (count : ℕ) : Type 0 where

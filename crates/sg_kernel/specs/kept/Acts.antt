@@ -1,73 +1,17 @@
--- What the functions of the kernel ask for, and what they do.
-use Rattle.std.specs.Prelude.{◌≡◌, ◌≢◌, ℕ, ◌+◌, ◌-◌, ◌<◌, ◌≤◌, true, is_ok, None, Some, Result, drop, length}
-use Rattle.sg_base.specs.declared.call.Call.{Call}
-use Rattle.sg_base.specs.declared.ids.Serial.{Serial}
-use Rattle.sg_base.specs.Limits.{IsCall}
+-- What the functions of a pass ask for, and what they do.
+use Rattle.std.specs.Prelude.{◌≡◌, ◌≢◌, ◌+◌, Result, drop}
 use Rattle.sg_lives.specs.declared.kinds.Phase.{Phase}
 use Rattle.sg_activity.specs.Doing.{IsDue}
-use Rattle.sg_mailbox.specs.declared.sides.Found.{Found}
-use Rattle.sg_mailbox.specs.declared.sides.Side.{Side}
-use Rattle.sg_mailbox.specs.Posts.{IsFound}
 use Rattle.sg_profile.specs.declared.entry.Entry.{Entry}
-use Rattle.sg_states.specs.Actors.{joined_by}
-use Rattle.sg_states.specs.Records.{IsTellable}
-use Rattle.sg_states.specs.States.{CanCall}
-use Rattle.sg_kernel.specs.declared.fields.Fields.{Fields}
-use Rattle.sg_kernel.specs.declared.meetings.Comer.{Comer}
-use Rattle.sg_kernel.specs.declared.stop.Stop.{Stop}
-use Rattle.sg_kernel.specs.Known.{after_call}
-use Rattle.sg_kernel.specs.Steps.{Step, result_of}
-use Rattle.sg_kernel.specs.World.{Core, extent, IsActor}
+use Rattle.sg_calls.specs.declared.fields.Fields.{Fields}
+use Rattle.sg_calls.specs.declared.stop.Stop.{Stop}
+use Rattle.sg_calls.specs.Steps.{Step, result_of}
+use Rattle.sg_calls.specs.World.{Core}
 use Rattle.sg_kernel.specs.kept.Coming.{IsDueEntry, LeavesDue}
-use Rattle.sg_kernel.specs.kept.Sound.{core_of, known_of, setup_in, CallsBy, CountsBy, IsComer, StepsBy}
-use Rattle.sg_kernel.specs.kept.Waking.{LeavesCallers}
-use Rattle.sg_kernel.specs.kept.Whole.{CanStep, IsPassing, IsSteady, IsWhole, IsWholeFor}
+use Rattle.sg_calls.specs.kept.Sound.{core_of, StepsBy}
+use Rattle.sg_calls.specs.kept.Whole.{IsPassing}
 
 -- ---- what is asked for
--- a call of the actor can be answered, and this one keeps to the limits
-pub record CanMake (fields : Fields) (actor : ℕ) (what : Call) : Type 0 where
-  pub able : CanStep fields actor
-  pub call : IsCall (extent (setup_in fields)) what
-
--- and this one names an actor
-pub record CanName (fields : Fields) (actor other : ℕ) : Type 0 where
-  pub able : CanStep fields actor
-  pub target : IsActor (core_of fields) other
-
--- a side can come by its call
-pub record CanCome (fields : Fields) (one : Comer) : Type 0 where
-  pub able : CanStep fields one.side.actor.0
-  pub comer : IsComer (extent (setup_in fields)) one
-
--- and meets another one
-pub record CanMeet (fields : Fields) (one : Comer) (look : Found) (post : Serial × Side) : Type 0 where
-  pub able : CanStep fields one.side.actor.0
-  pub comer : IsComer (extent (setup_in fields)) one
-  pub found : IsFound fields.boxes one.mailbox one.sends look
-  pub met : look.met ≡ Some post
-
--- the call of a side is counted, and it can take part in the communication of this serial
-pub record CanTakePart (fields : Fields) (one : Comer) (serial : ℕ) : Type 0 where
-  pub able : CanCall fields.states one.side.actor.0
-  pub comer : IsComer (extent (setup_in fields)) one
-  pub made : (0 < serial) × (serial ≤ length fields.whose.whose)
-  pub room : fields.states.room ≤ fields.requests.room
-  pub few : fields.requests.asked < fields.events
-  pub whole : IsWholeFor (fields.states.room - 1) fields
-
--- the call of an actor on an object is counted, and can be answered
-pub record CanServe (fields : Fields) (actor : ℕ) (call : Call) : Type 0 where
-  pub able : CanCall fields.states actor
-  pub what : IsTellable (extent (setup_in fields)) call
-  pub object : joined_by call ≡ None
-  pub steady : IsSteady fields
-
--- between calls, an activity of this serial was made
-pub record CanGiveUp (fields : Fields) (serial : ℕ) : Type 0 where
-  pub from : 0 < serial
-  pub to : serial ≤ length fields.whose.whose
-  pub whole : IsWhole fields
-
 -- in a pass whose budget isn't used up, this entry comes next
 pub record CanEnter (fields : Fields) (entry : Entry) : Type 0 where
   pub due : IsDueEntry fields entry
@@ -81,46 +25,7 @@ pub record CanEnd (fields : Fields) (phase : Phase) : Type 0 where
   pub budget : fields.events ≢ fields.budget
 
 -- ---- what is done: what is known changes so, and what is kept is whole again
--- by a call that is counted here
-pub record Answers (step : Core → Step) (old new : Fields) : Type 0 where
-  pub known : CallsBy step old new
-  pub whole : IsWhole new
-
--- by one that makes no record
-pub record Counts (change : Core → Core) (old new : Fields) : Type 0 where
-  pub known : CountsBy change old new
-  pub whole : IsWhole new
-
--- by one that was counted
-pub record Completes (step : Core → Step) (old new : Fields) : Type 0 where
-  pub known : known_of new ≡ after_call true (step (core_of old)) (known_of old)
-  pub whole : IsWhole new
-
--- by one that may stop the run
-pub record Replies (step : Step) (old new : Fields) (reply : Result Unit Stop) : Type 0 where
-  pub known : known_of new ≡ after_call (is_ok reply) step (known_of old)
-  pub result : reply ≡ result_of step.stop
-  pub whole : IsWhole new
-
--- by a part of a call
-pub record Steps (step : Core → Step) (old new : Fields) : Type 0 where
-  pub known : StepsBy step old new
-  pub whole : IsWhole new
-
--- by the failure of an activity
-pub record GivesUp (step : Core → Step) (old new : Fields) : Type 0 where
-  pub known : StepsBy step old new
-  pub requests : new.requests ≡ old.requests
-  pub many : length new.whose.whose ≡ length old.whose.whose
-  pub whole : IsWhole new
-
--- as actors that waited go on
-pub record Wakes (step : Core → Step) (old new : Fields) : Type 0 where
-  pub known : StepsBy step old new
-  pub frees : LeavesCallers old.states new.states
-  pub whole : IsWhole new
-
--- in a pass, by one event of an entry
+-- by one event of an entry
 pub record Enters (step : Core → Step) (old new : Fields) : Type 0 where
   pub known : StepsBy step old new
   pub passing : IsPassing new

@@ -3,13 +3,21 @@ use Rattle.std.specs.Prelude.{◌≡◌, ◌≢◌, ℕ, ◌+◌, ◌-◌, ◌<�
 use Rattle.sg_activity.specs.Doing.{Doing}
 use Rattle.sg_activity.specs.Task.{task_at}
 use Rattle.sg_profile.specs.declared.entry.Entry.{Entry}
-use Rattle.sg_profile.specs.Profiles.{IsEntry, IsNextEntry}
+use Rattle.sg_profile.specs.Profiles.{IsEntry, IsNextEntry, next_row, rows_due}
 use Rattle.sg_rows.specs.declared.network.Network.{Network}
-use Rattle.sg_kernel.specs.declared.fields.Fields.{Fields}
-use Rattle.sg_kernel.specs.World.{Core}
+use Rattle.sg_calls.specs.declared.fields.Fields.{Fields}
+use Rattle.sg_calls.specs.World.{Core}
 use Rattle.sg_kernel.specs.Passes.{applied, changes, ends, next_span}
-use Rattle.sg_kernel.specs.Steps.{Step, each}
-use Rattle.sg_kernel.specs.kept.Sound.{core_of, latest, rows_now, setup_in}
+use Rattle.sg_calls.specs.Steps.{Step, each}
+use Rattle.sg_calls.specs.kept.Sound.{core_of, latest, setup_in}
+
+-- the rows whose next entry is of the date
+abbrev pub rows_now : Fields → List ℕ
+rows_now fields = rows_due fields.doing.under.date fields.profiles.profiles fields.profiles.turns
+
+-- the row of the next entry
+abbrev pub row_next : Fields → ℕ
+row_next fields = next_row fields.profiles.profiles fields.profiles.turns
 
 -- a pass goes to this date next, which is no later than a date may be after one more event
 pub record IsNextDate (fields : Fields) (date : ℕ) : Type 0 where

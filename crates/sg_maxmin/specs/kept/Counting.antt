@@ -1,11 +1,11 @@
 -- What one pass over the rows counts.
-use Rattle.std.specs.Prelude.{◌≡◌, ℕ, ◌-◌, ◌*◌, ◌/◌, ◌<◌, ◌≤◌, ◌&&◌, ◌⊎◌, Option, None, Some, is_none, if◌then◌else◌, List, [], ◌++◌, map, filter, filter_map, flat_map, length, slice_index, slice_index_or, sum_by, option_to_list, option_map, Contains, min}
+use Rattle.std.specs.Prelude.{◌≡◌, ℕ, ◌+◌, ◌-◌, ◌*◌, ◌/◌, ◌<◌, ◌≤◌, ◌&&◌, ◌⊎◌, Option, None, Some, is_none, if◌then◌else◌, List, [], ◌++◌, All, map, filter, filter_map, flat_map, length, slice_index, slice_index_or, sum_by, option_to_list, option_map, Contains, min}
 use Rattle.sg_maxmin.specs.declared.flow_row.FlowRow.{FlowRow}
 use Rattle.sg_chains.specs.declared.uses.Use.{Use}
 use Rattle.sg_chains.specs.Chain.{resources}
 use Rattle.sg_maxmin.specs.Fill.{Fixed, is_on, bounded, bound_level, level_of}
 use Rattle.sg_maxmin.specs.Sharing.{held}
-use Rattle.sg_maxmin.specs.kept.Uses.{AreRows, flow_of, flows_of, share_by_level}
+use Rattle.sg_maxmin.specs.kept.Uses.{AreRows, IsOneChain, flow_of, flows_of, row_uses, share_by_level}
 
 -- the rows that are there
 abbrev pub rows_held : List (Option FlowRow) → List FlowRow
@@ -30,6 +30,11 @@ pub record AreCounted (capacities : List ℕ) (rows : List (Option FlowRow)) (us
   pub waiting_len : length waiting ≡ length capacities
   pub left_is : (resource : ℕ) → resource < length capacities → slice_index left resource ≡ slice_index capacities resource - taken_on rows uses resource
   pub waiting_is : (resource : ℕ) → resource < length capacities → slice_index waiting resource ≡ waiting_on rows uses resource
+
+-- the uses of a row are a chain, and each of its resources has a place in the list
+pub record HasRowPlaces (uses : List (Option Use)) (row : FlowRow) (list : List ℕ) : Type 0 where
+  pub chain : IsOneChain row.count uses row.first
+  pub exist : All (λ resource. resource < length list) (row_uses uses row)
 
 -- the limits of a row
 abbrev pub row_limits : List ℕ → List ℕ → List (Option Use) → FlowRow → List ℕ
@@ -63,6 +68,11 @@ row_count (Some row) = row.count
 -- how many uses the rows have
 abbrev pub count_of : List (Option FlowRow) → ℕ
 count_of rows = sum_by (λ row. row.count) (rows_held rows)
+
+-- no more looks than so many
+pub record LooksUpTo (looks before after : ℕ) : Type 0 where
+  pub most : after ≤ before + looks
+  pub least : before ≤ after
 
 -- an unfixed flow that is at this level gets it, and else all stays
 abbrev pub IsStepped : ℕ → Type 0 → Option ℕ → Option ℕ → Type 0

@@ -30,10 +30,20 @@ pub record HasFollowed (passing : Bool) (actors : List Actor) (actor : ActorId) 
   pub queued : (next : Actor) → is_ready next ≡ ready → IsQueued passing (put_actor actors actor.0 next) new.items
   pub capacity : vec_capacity new ≡ vec_capacity old
 
+-- the actor is the next one, and the queue is one of those actors
+pub record HasBecome (passing : Bool) (actors : List Actor) (actor : ActorId) (next : Actor) (old new : Vec ActorId) : Type 0 where
+  pub queued : IsQueued passing (put_actor actors actor.0 next) new.items
+  pub capacity : vec_capacity new ≡ vec_capacity old
+
 -- what the actors do, and whether a pass goes on
 pub record Standing : Type 0 where
   pub actors : List Actor
   pub passing : Bool
+
+-- between passes, there is such an actor
+pub record CanPut (standing : Standing) (one : ℕ) : Type 0 where
+  pub actor : IsActor standing.actors one
+  pub round : standing.passing ≡ false
 
 -- between passes, an actor has an answer
 pub record CanAnswer (standing : Standing) (one : ℕ) : Type 0 where

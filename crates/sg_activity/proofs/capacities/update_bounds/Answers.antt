@@ -21,7 +21,7 @@ there : (old new : Kept) (keys : List ℕ) (i : ℕ) (one : Use) → Rebounds ol
 there old new keys i one by is = ap (λ (x : Indexed). get_or x.uses i None) (sym (index_same old new keys by)) ∙ is
 
 pub look-one-requires : goal.look-one-requires
-look-one-requires g c =
+look-one-requires c =
     let i = c.args.kept.now.index in
     let inv = c.loop-at.invariant in
     let keys = take inv.0 (users_on i.users c.args.thing) in
@@ -29,7 +29,7 @@ look-one-requires g c =
     (can_look next_on user_of i.uses (users_on i.users c.args.thing) inv.0 c.loop-at.at inv.1.walk c.in-Some.i c.in-Some.is)
 
 pub update_bound-requires-clause-key : goal.update_bound-requires-clause-key
-update_bound-requires-clause-key g c =
+update_bound-requires-clause-key c =
     let i = c.args.kept.now.index in
     let inv = c.loop-at.invariant in
     let r = looked next_on user_of i.uses (users_on i.users c.args.thing) inv.0 c.loop-at.at inv.1.walk c.in-Some.i c.look-one.result c.in-Some.is (there c.args.kept.now c.loop-at.kept (take inv.0 (users_on i.users c.args.thing)) c.in-Some.i c.look-one.result inv.1.rebounds c.look-one.ensures) in
@@ -37,18 +37,18 @@ update_bound-requires-clause-key g c =
     omega (arith, below, r.is, ap (λ (k : Kept). length k.lives.slots) inv.1.rebounds.rest)
 
 pub update_bound-requires-clause-flows : goal.update_bound-requires-clause-flows
-update_bound-requires-clause-flows g c =
+update_bound-requires-clause-flows c =
     let inv = c.loop-at.invariant in
     flows_still c.args.kept.now c.loop-at.kept (take inv.0 (users_on c.args.kept.now.index.users c.args.thing)) c.requires.flows inv.1.rebounds
 
 pub loop-at-smaller : goal.loop-at-smaller
-loop-at-smaller g c =
+loop-at-smaller c =
     let i = c.args.kept.now.index in
     let inv = c.loop-at.invariant in
     nearer next_on user_of i.uses (users_on i.users c.args.thing) inv.0 c.loop-at.at inv.1.walk c.in-Some.i c.look-one.result c.in-Some.is (there c.args.kept.now c.loop-at.kept (take inv.0 (users_on i.users c.args.thing)) c.in-Some.i c.look-one.result inv.1.rebounds c.look-one.ensures)
 
 pub loop-at-preserved : goal.loop-at-preserved
-loop-at-preserved g c =
+loop-at-preserved c =
     let i = c.args.kept.now.index in
     let row = users_on i.users c.args.thing in
     let inv = c.loop-at.invariant in
@@ -63,7 +63,7 @@ loop-at-preserved g c =
     )
 
 pub returns : goal.returns
-returns g c =
+returns c =
     let i = c.args.kept.now.index in
     let row = users_on i.users c.args.thing in
     let inv = c.loop-at.invariant in

@@ -78,17 +78,26 @@ leave-requires c =
       | else-takes_share w ↦ omega (arith, within, ap (λ (k : Kept). length k.index.rows) w.kept-is)
     ]
 
-pub returns-clause-used : goal.returns-clause-used
-returns-clause-used c =
+pub returns-clause-known : goal.returns-clause-known
+returns-clause-known c =
     let kept = c.args.kept.now in
     let key = c.args.key in
     let row = c.leave.ensures in
-    let from : (mid : Kept) (lazy : Lazily) → mid ≡ record kept { lazy = lazy } → c.remove.new.self.slots ≡ set mid.lives.slots key None → IsRow mid.index.rows c.leave.new.self.rows key [] → length c.leave.new.self.users ≡ length mid.index.users → mid.index.room ≤ c.leave.new.self.room →
+    let used : (mid : Kept) (lazy : Lazily) → mid ≡ record kept { lazy = lazy } → c.remove.new.self.slots ≡ set mid.lives.slots key None → IsRow mid.index.rows c.leave.new.self.rows key [] → length c.leave.new.self.users ≡ length mid.index.users → mid.index.room ≤ c.leave.new.self.room →
     IsIndexed (state_of mid).capacities c.remove.new.self.slots (ways_of (record mid { index = c.leave.new.self })) mid.room c.leave.new.self =
     λ mid lazy e slots here users room. used_gone kept mid lazy c.remove.new.self.slots c.leave.new.self key c.args.live c.requires.there.used c.requires.there.at e slots here users room in
+    let hit : (mid : Kept) (lazy : Lazily) → mid ≡ record kept { lazy = lazy } → c.remove.new.self.slots ≡ set mid.lives.slots key None → IsRow mid.index.rows c.leave.new.self.rows key [] →
+    AreHits (state_of mid).on c.remove.new.self.slots (ways_of (record mid { index = c.leave.new.self })) c.clear.new.self =
+    λ mid lazy e slots here. subst (AreHits (state_of mid).on c.remove.new.self.slots (ways_of (record mid { index = c.leave.new.self }))) (sym c.clear.ensures) (hits_left kept mid lazy c.leave.new.self c.remove.new.self.slots c.args.hits.now key c.args.live c.requires.hit c.requires.there.at e slots here) in
     elim c.if-takes_share.branch [
-      | then-takes_share w ↦ from c.if-takes_share.kept w.end.new.self w.kept-is c.remove.ensures.slots row.row row.users (omega (arith, row.room))
-      | else-takes_share w ↦ from c.if-takes_share.kept kept.lazy w.kept-is c.remove.ensures.slots row.row row.users (omega (arith, row.room))
+      | then-takes_share w ↦ record {
+        used = used c.if-takes_share.kept w.end.new.self w.kept-is c.remove.ensures.slots row.row row.users (omega (arith, row.room));
+        hit = hit c.if-takes_share.kept w.end.new.self w.kept-is c.remove.ensures.slots row.row;
+      }
+      | else-takes_share w ↦ record {
+        used = used c.if-takes_share.kept kept.lazy w.kept-is c.remove.ensures.slots row.row row.users (omega (arith, row.room));
+        hit = hit c.if-takes_share.kept kept.lazy w.kept-is c.remove.ensures.slots row.row;
+      }
     ]
 
 pub clear-requires : goal.clear-requires
@@ -101,17 +110,6 @@ overflow_sub-kept c =
     elim c.if-takes_share.branch [
       | then-takes_share w ↦ omega (arith, c.flows_ahead.ensures, counted, ap (λ (k : Kept). k.flows) w.kept-is)
       | else-takes_share w ↦ omega (arith, c.flows_ahead.ensures, counted, ap (λ (k : Kept). k.flows) w.kept-is)
-    ]
-
-pub returns-clause-hit : goal.returns-clause-hit
-returns-clause-hit c =
-    let kept = c.args.kept.now in
-    let from : (mid : Kept) (lazy : Lazily) → mid ≡ record kept { lazy = lazy } → c.remove.new.self.slots ≡ set mid.lives.slots c.args.key None → IsRow mid.index.rows c.leave.new.self.rows c.args.key [] →
-    AreHits (state_of mid).on c.remove.new.self.slots (ways_of (record mid { index = c.leave.new.self })) c.clear.new.self =
-    λ mid lazy e slots row. subst (AreHits (state_of mid).on c.remove.new.self.slots (ways_of (record mid { index = c.leave.new.self }))) (sym c.clear.ensures) (hits_left kept mid lazy c.leave.new.self c.remove.new.self.slots c.args.hits.now c.args.key c.args.live c.requires.hit c.requires.there.at e slots row) in
-    elim c.if-takes_share.branch [
-      | then-takes_share w ↦ from c.if-takes_share.kept w.end.new.self w.kept-is c.remove.ensures.slots c.leave.ensures.row
-      | else-takes_share w ↦ from c.if-takes_share.kept kept.lazy w.kept-is c.remove.ensures.slots c.leave.ensures.row
     ]
 
 pub overflow_sub-kept-2 : goal.overflow_sub-kept-2

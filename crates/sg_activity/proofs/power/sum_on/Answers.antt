@@ -11,13 +11,13 @@ use Rattle.sg_activity.proofs.Loaded.{sum_within, total_on}
 use Rattle.sg_activity.proofs.power.sum_on.Goals as goal
 
 pub look-one-requires : goal.look-one-requires
-look-one-requires g c =
+look-one-requires c =
     let i = c.args.kept.now.index in
     let inv = c.loop-at.invariant in
     can_look next_on user_of i.uses (users_on i.users c.args.thing) inv.0 c.loop-at.at inv.1.walk c.in-Some.i c.in-Some.is
 
 pub with_rate-sum-requires-clause-key : goal.with_rate-sum-requires-clause-key
-with_rate-sum-requires-clause-key g c =
+with_rate-sum-requires-clause-key c =
     let i = c.args.kept.now.index in
     let inv = c.loop-at.invariant in
     let r = looked next_on user_of i.uses (users_on i.users c.args.thing) inv.0 c.loop-at.at inv.1.walk c.in-Some.i c.look-one.result c.in-Some.is c.look-one.ensures in
@@ -25,7 +25,7 @@ with_rate-sum-requires-clause-key g c =
     omega (arith, below, r.is)
 
 pub with_rate-sum-requires-clause-fits : goal.with_rate-sum-requires-clause-fits
-with_rate-sum-requires-clause-fits g c =
+with_rate-sum-requires-clause-fits c =
     let i = c.args.kept.now.index in
     let slots = c.args.kept.now.lives.slots in
     let row = users_on i.users c.args.thing in
@@ -36,13 +36,13 @@ with_rate-sum-requires-clause-fits g c =
     omega (arith, sum, rate, sum_within slots row inv.0 r.less, c.requires.fits)
 
 pub loop-at-smaller : goal.loop-at-smaller
-loop-at-smaller g c =
+loop-at-smaller c =
     let i = c.args.kept.now.index in
     let inv = c.loop-at.invariant in
     nearer next_on user_of i.uses (users_on i.users c.args.thing) inv.0 c.loop-at.at inv.1.walk c.in-Some.i c.look-one.result c.in-Some.is c.look-one.ensures
 
 pub loop-at-preserved : goal.loop-at-preserved
-loop-at-preserved g c =
+loop-at-preserved c =
     let i = c.args.kept.now.index in
     let slots = c.args.kept.now.lives.slots in
     let row = users_on i.users c.args.thing in
@@ -62,7 +62,7 @@ loop-at-preserved g c =
     )
 
 pub returns : goal.returns
-returns g c =
+returns c =
     let i = c.args.kept.now.index in
     let row = users_on i.users c.args.thing in
     let inv = c.loop-at.invariant in

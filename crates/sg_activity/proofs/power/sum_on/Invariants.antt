@@ -6,10 +6,10 @@ use Rattle.sg_activity.specs.kept.Metered.{rates_of, total}
 use Rattle.sg_activity.proofs.power.sum_on.Given as goal
 
 abbrev pub invariant-loop-at : goal.invariant-loop-at
-invariant-loop-at g l = (k : ℕ) × record {
+invariant-loop-at l = (k : ℕ) × record {
   walk : IsWalk next_on user_of l.kept.index.uses (users_on l.kept.index.users l.thing) k l.at;
   sum : l.sum ≡ total (rates_of l.kept.lives.slots (take k (users_on l.kept.index.users l.thing)));
 }
 
 abbrev pub decreases-loop-at : goal.decreases-loop-at
-decreases-loop-at g l = left_from (length l.kept.index.uses) next_on l.kept.index.uses l.at
+decreases-loop-at l = left_from (length l.kept.index.uses) next_on l.kept.index.uses l.at

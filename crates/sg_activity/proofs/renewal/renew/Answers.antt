@@ -8,6 +8,9 @@ use Rattle.sg_activity.proofs.Renewed.{dated_next}
 use Rattle.sg_activity.proofs.renewal.renew.Goals as goal
 use Rattle.sg_activity.proofs.renewal.renew.Goals.{in-Some, in-None}
 
+pub date_anew-requires-clause-small : goal.date_anew-requires-clause-small
+date_anew-requires-clause-small c = c.requires.small (get_or c.args.keys.now c.loop-key.key-index 0) c.in-Some.live (sym c.get.ensures ∙ c.in-Some.is)
+
 pub loop-key-preserved : goal.loop-key-preserved
 loop-key-preserved c =
     let inv = c.loop-key.invariant in

@@ -9,4 +9,4 @@ way_of-way-requires-clause-way c =
     let kept = c.args.kept.now in
     let live = c.args.live.now in
     subst (λ n. IsWayRow n (row_at kept.index.rows c.args.key)) (sym (c.len.ensures ∙ kept.hosts.ok.0))
-    (over_row (state_of kept).capacities (row_at kept.index.rows c.args.key) live.kind live.host live.peer (links_at (ways_of kept) c.args.key) c.in-Latency.is c.requires.place c.requires.row)
+    (over_row (state_of kept).capacities (row_at kept.index.rows c.args.key) live.kind live.host live.peer (links_at (ways_of kept) c.args.key) c.in-Latency.is c.requires.at.place c.requires.at.row)

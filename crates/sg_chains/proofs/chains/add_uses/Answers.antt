@@ -16,7 +16,7 @@ loop-left-init c =
       is = none.0;
       over = none.1 ∙ sym done;
       kept = λ other n at away h. record { chain = h; over = refl };
-      lists = c.requires.lists;
+      lists = c.requires.can.lists;
       users = gained_none slots c.args.on.now c.args.flow (drop (length uses) uses) done;
       len = refl;
       capacity = refl;
@@ -48,11 +48,23 @@ loop-left-preserved c =
       lists = out.gains.lists;
       users = subst (λ l. AreGained c.args.slots.now.slots new c.args.on.now c.link.new.on flow l) (sym back)
           (gained_more c.args.slots.now.slots old new c.args.on.now c.loop-left.on c.link.new.on flow r (drop at uses) inv.users out.gains);
-      len = omega (arith, inv.len, out.len, c.loop-left-test.true);
-      capacity = out.capacity ∙ inv.capacity;
+      len = omega (arith, inv.len, out.more.len, c.loop-left-test.true);
+      capacity = out.more.capacity ∙ inv.capacity;
       on_len = c.link.auto.on ∙ inv.on_len;
       small = out.small;
     }
 
 pub link-requires-clause-next : goal.link-requires-clause-next
 link-requires-clause-next c = c.loop-left.invariant.small
+
+pub link-requires-clause-can : goal.link-requires-clause-can
+link-requires-clause-can c =
+    let inv = c.loop-left.invariant in
+    record {
+      lists = inv.lists;
+      few = omega (arith, inv.on_len, c.requires.can.few);
+      room = omega (arith, inv.len, inv.capacity, c.requires.can.room, c.loop-left-test.true);
+    }
+
+pub returns-clause-more : goal.returns-clause-more
+returns-clause-more c = record { len = omega (arith, c.loop-left.invariant.len, c.loop-left-test.false); capacity = c.loop-left.invariant.capacity }

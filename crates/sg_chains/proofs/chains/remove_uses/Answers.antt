@@ -48,8 +48,8 @@ loop-done-preserved c =
       users = subst (λ k. AreLosing c.args.slots.now.slots new c.args.on.now c.unlink-slot.new.on flow (resources k (uses_of new) slot.next_of_flow) (resources c.args.count (uses_of c.args.slots.now.slots) c.args.first)) (sym e)
           (losing_more c.args.slots.now.slots old new c.args.on.now c.loop-done.on c.unlink-slot.new.on flow slot.resource (resources (n - 1) (uses_of new) slot.next_of_flow) (resources n (uses_of old) c.loop-done.at)
           (resources c.args.count (uses_of c.args.slots.now.slots) c.args.first) over inv.users (subst (λ f. LosesOne old new c.loop-done.on c.unlink-slot.new.on slot.resource f) mine out.loses));
-      len = omega (arith, out.len, inv.len);
-      capacity = out.capacity ∙ inv.capacity;
+      len = omega (arith, out.less.len, inv.len);
+      capacity = sym out.less.capacity ∙ inv.capacity;
       on_len = c.unlink-slot.auto.on ∙ inv.on_len;
     }
   where
@@ -62,3 +62,6 @@ returns-clause-users c =
     let rest = resources (c.args.count - c.loop-done.done) (uses_of slots) c.loop-done.at in
     lost_all c.args.slots.now.slots slots c.args.on.now c.loop-done.on c.args.flow rest (resources c.args.count (uses_of c.args.slots.now.slots) c.args.first)
     (resources_none (c.args.count - c.loop-done.done) (uses_of slots) c.loop-done.at (omega arith)) c.loop-done.invariant.users
+
+pub returns-clause-less : goal.returns-clause-less
+returns-clause-less c = record { len = omega (arith, c.loop-done.invariant.len); capacity = sym c.loop-done.invariant.capacity }

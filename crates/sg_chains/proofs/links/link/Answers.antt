@@ -1,13 +1,13 @@
-use Rattle.std.proofs.Common.{None, Some, get_or, refl, arith}
+use Rattle.std.proofs.Common.{None, Some, get_or, refl, ◌∙◌, arith}
 use Rattle.sg_chains.specs.declared.slots.Slot.{Slot}
 use Rattle.sg_chains.proofs.LinkLemmas.{head_small, lists_with, link_same, link_made}
 use Rattle.sg_chains.proofs.links.link.Goals as goal
 
 pub insert-i-requires-clause-small : goal.insert-i-requires-clause-small
 insert-i-requires-clause-small c = record {
-  resource = omega (arith, c.requires.in_range, c.requires.few);
+  resource = omega (arith, c.requires.in_range, c.requires.can.few);
   next_of_flow = c.requires.next;
-  next_on = head_small c.args.slots.now.slots c.args.on.now c.args.resource c.requires.lists c.requires.in_range (omega (arith, c.numbers-numbers.ensures.is, c.numbers-numbers.ensures.small));
+  next_on = head_small c.args.slots.now.slots c.args.on.now c.args.resource c.requires.can.lists c.requires.in_range (omega (arith, c.numbers-numbers.ensures.is, c.numbers-numbers.ensures.small));
   prev_on = tt;
 }
 
@@ -20,8 +20,14 @@ returns-clause-gains c =
     let old = c.args.slots.now.slots in
     let one = c.insert-i.new.self.slots in
     let new = c.point_prev.new.slots.slots in
-    lists_with i c.args.resource old one new c.args.on.now slot c.requires.lists c.requires.in_range ins.free refl refl refl
+    lists_with i c.args.resource old one new c.args.on.now slot c.requires.can.lists c.requires.in_range ins.free refl refl refl
     ins.updates.changed ins.updates.others out.changed out.others (link_same i old one new slot.next_on (Some i) ins.updates.others out.changed out.others)
+
+pub returns-clause-more : goal.returns-clause-more
+returns-clause-more c =
+    let ins = c.insert-i.ensures in
+    let kept = c.point_prev.ensures.kept in
+    record { len = kept.len ∙ ins.len; capacity = kept.capacity ∙ ins.capacity }
 
 pub returns-clause-made : goal.returns-clause-made
 returns-clause-made c =

@@ -1,3 +1,4 @@
+use Rattle.std.proofs.Common.{sym, ◌∙◌, arith}
 use Rattle.sg_chains.proofs.LinkLemmas.{Unlinks, unlink_same, unlink_loses}
 use Rattle.sg_chains.proofs.links.unlink.Goals as goal
 
@@ -21,3 +22,9 @@ returns-clause-loses c =
 
 pub returns-clause-others : goal.returns-clause-others
 returns-clause-others c = unlink_same c.args.i c.args.slots.now.slots c.remove-slot.new.self.slots c.point_next.new.slots.slots c.point_prev.new.slots.slots c.remove-slot.result (steps c)
+
+pub returns-clause-less : goal.returns-clause-less
+returns-clause-less c =
+    let one = c.point_next.ensures.kept in
+    let two = c.point_prev.ensures.kept in
+    record { len = omega (arith, c.remove-slot.ensures.len, one.len, two.len); capacity = sym (two.capacity ∙ one.capacity ∙ c.remove-slot.ensures.capacity) }

@@ -1,5 +1,5 @@
 use Rattle.std.proofs.Common.{◌≡◌, ◌∙◌, ap, false, None, sym, true}
-use Rattle.sg_kernel.specs.World.{Core, state_of}
+use Rattle.sg_calls.specs.World.{Core, state_of}
 use Rattle.sg_script.proofs.Chains.{reads_none}
 use Rattle.sg_states.specs.Actors.{is_ended}
 use Rattle.sg_engine.specs.Run.{at_world}

@@ -1,5 +1,5 @@
 use Rattle.std.proofs.Common.{◌∙◌, refl, sym}
-use Rattle.sg_kernel.specs.Calls.{answered}
+use Rattle.sg_calls.specs.Calls.{answered}
 use Rattle.sg_engine.specs.Roles.{firsts_of}
 use Rattle.sg_engine.specs.Run.{is_ask}
 use Rattle.sg_engine.proofs.Calls.{broken_scripted, fits_scripted, is_scripted, not_unscripted, script_answers, scripted_fits, stepped}

@@ -1,5 +1,5 @@
 use Rattle.std.proofs.Common.{◌∙◌, sym, subst, length}
-use Rattle.sg_kernel.specs.Roads.{AreOver}
+use Rattle.sg_calls.specs.Roads.{AreOver}
 use Rattle.sg_rows.specs.Ends.{link_ends}
 use Rattle.sg_route.specs.Roads.{Roads}
 use Rattle.sg_engine.proofs.Crews.{first_taken}

@@ -14,10 +14,11 @@ use Rattle.sg_filling.proofs.by_part.fill_from.Goals as goal
 pub reach-requires-clause-open : goal.reach-requires-clause-open
 reach-requires-clause-open g c =
     let a : Component = c.args.component.now in
-    let ready = c.requires.filled.ready in
+    let ready = c.requires.at.filled.ready in
     let marked : c.insert.new.self.members ≡ with_mark c.args.resource a.reached.members = ap (λ (m : MarkSet). m.members) c.insert.ensures in
     let more : Grows a.reached.members c.insert.new.self.members = subst (Grows a.reached.members) (sym marked) (grows_mark c.args.resource a.reached.members) in
     record {
+      sound = ready.sound;
       touched_room = ready.touched_room;
       reached_room = ap (λ (m : MarkSet). m.room) c.insert.ensures ∙ ready.reached_room;
       covers = λ id h. all_stay (uses_at c.args.system.now.slots id) a.reached.members c.insert.new.self.members more (ready.covers id h);
@@ -30,7 +31,7 @@ reach-requires-clause-visited g c =
     let b : Component = record { touched = a.touched; reached = c.insert.new.self } in
     let marked : b.reached.members ≡ with_mark c.args.resource a.reached.members = ap (λ (m : MarkSet). m.members) c.insert.ensures in
     let more : Grows a.reached.members b.reached.members = subst (Grows a.reached.members) (sym marked) (grows_mark c.args.resource a.reached.members) in
-    subst (λ n. AreVisited s n b) (sym (ap length c.members-reached.ensures.members)) (visited_on s a b c.requires.filled.closed (grows_same a.touched.members) more)
+    subst (λ n. AreVisited s n b) (sym (ap length c.members-reached.ensures.members)) (visited_on s a b c.requires.at.filled.closed (grows_same a.touched.members) more)
 
 pub fill-requires-clause-joined : goal.fill-requires-clause-joined
 fill-requires-clause-joined g c =
@@ -45,22 +46,22 @@ fill-requires-clause-joined g c =
     let more : Grows a.reached.members b.reached.members = subst (Grows a.reached.members) (sym marked) (grows_mark c.args.resource a.reached.members) in
     let gr = grows_on a.reached.members b.reached.members z.reached.members more two.reached in
     let leads : Leads s (λ p q. q c.args.resource ≡ true) a z = λ p q along start t r. c.reach.ensures.least p q along t (marked_pass q c.args.resource a.reached.members b.reached.members marked start r) in
-    let live = part_live s c.requires.filled.places.sound (λ p q. q c.args.resource ≡ true) a z leads refl c.requires.filled.held in
-    let used = part_used s c.requires.filled.places.sound (λ p q. q c.args.resource ≡ true) a z leads (start_used s a c.args.resource c.requires.used) in
+    let live = part_live s c.requires.at.filled.places.sound (λ p q. q c.args.resource ≡ true) a z leads refl c.requires.at.filled.held in
+    let used = part_used s c.requires.at.filled.places.sound (λ p q. q c.args.resource ≡ true) a z leads (start_used s a c.args.resource c.requires.used) in
     let once = subst (AllPairs (λ a b. a ≢ b)) c.members.ensures.members c.members.ensures.once in
     let distinct = subst (AllPairs (λ a b. a ≢ b)) c.members-2.ensures.members c.members-2.ensures.once in
-    let room : z.reached.room ≡ length s.capacities = two.reached_room ∙ ap (λ (m : MarkSet). m.room) here ∙ c.requires.filled.ready.reached_room in
+    let room : z.reached.room ≡ length s.capacities = two.reached_room ∙ ap (λ (m : MarkSet). m.room) here ∙ c.requires.at.filled.ready.reached_room in
     let exist = subst (λ xs. All (λ x. x < length s.capacities) xs) c.members-2.ensures.members (subst (λ (n : ℕ). All (λ x. x < n) c.members-2.result.now) room c.members-2.ensures.in_range) in
     let part : take (length c.members.result.now - length c.members-touched.result.now) (drop (length c.members-touched.result.now) c.members.result.now) ≡ drop (length a.touched.members) z.touched.members =
     rest_is (length c.members-touched.result.now) c.members.result.now ∙ ap (λ (xs : List ℕ). drop (length xs) c.members.result.now) c.members-touched.ensures.members ∙ ap (drop (length a.touched.members)) c.members.ensures.members in
     let resources : take (length c.members-2.result.now - length c.members-reached.result.now) (drop (length c.members-reached.result.now) c.members-2.result.now) ≡ drop (length a.reached.members) z.reached.members =
     rest_is (length c.members-reached.result.now) c.members-2.result.now ∙ ap (λ (xs : List ℕ). drop (length xs) c.members-2.result.now) c.members-reached.ensures.members ∙ ap (drop (length a.reached.members)) c.members-2.ensures.members in
-    let joined = part_joined s c.requires.filled.places.sound a z c.args.filling.now c.requires.filled gt gr c.reach.ensures.closed live once distinct exist used in
+    let joined = part_joined s c.requires.at.filled.places.sound a z c.args.filling.now c.requires.at.filled gt gr c.reach.ensures.closed live once distinct exist used in
     subst (λ xs. AreJoined s xs (take (length c.members-2.result.now - length c.members-reached.result.now) (drop (length c.members-reached.result.now) c.members-2.result.now))) (sym part)
     (subst (λ xs. AreJoined s (drop (length a.touched.members) z.touched.members) xs) (sym resources) joined)
 
-pub returns-clause-on : goal.returns-clause-on
-returns-clause-on g c =
+pub returns : goal.returns
+returns g c =
     let s = c.args.system.now in
     let a : Component = c.args.component.now in
     let b : Component = record { touched = a.touched; reached = c.insert.new.self } in
@@ -72,11 +73,11 @@ returns-clause-on g c =
     let more : Grows a.reached.members b.reached.members = subst (Grows a.reached.members) (sym marked) (grows_mark c.args.resource a.reached.members) in
     let gr = grows_on a.reached.members b.reached.members z.reached.members more two.reached in
     let leads : Leads s (λ p q. q c.args.resource ≡ true) a z = λ p q along start t r. c.reach.ensures.least p q along t (marked_pass q c.args.resource a.reached.members b.reached.members marked start r) in
-    let live = part_live s c.requires.filled.places.sound (λ p q. q c.args.resource ≡ true) a z leads refl c.requires.filled.held in
-    let used = part_used s c.requires.filled.places.sound (λ p q. q c.args.resource ≡ true) a z leads (start_used s a c.args.resource c.requires.used) in
+    let live = part_live s c.requires.at.filled.places.sound (λ p q. q c.args.resource ≡ true) a z leads refl c.requires.at.filled.held in
+    let used = part_used s c.requires.at.filled.places.sound (λ p q. q c.args.resource ≡ true) a z leads (start_used s a c.args.resource c.requires.used) in
     let once = subst (AllPairs (λ a b. a ≢ b)) c.members.ensures.members c.members.ensures.once in
     let distinct = subst (AllPairs (λ a b. a ≢ b)) c.members-2.ensures.members c.members-2.ensures.once in
-    let room : z.reached.room ≡ length s.capacities = two.reached_room ∙ ap (λ (m : MarkSet). m.room) here ∙ c.requires.filled.ready.reached_room in
+    let room : z.reached.room ≡ length s.capacities = two.reached_room ∙ ap (λ (m : MarkSet). m.room) here ∙ c.requires.at.filled.ready.reached_room in
     let exist = subst (λ xs. All (λ x. x < length s.capacities) xs) c.members-2.ensures.members (subst (λ (n : ℕ). All (λ x. x < n) c.members-2.result.now) room c.members-2.ensures.in_range) in
     let part : take (length c.members.result.now - length c.members-touched.result.now) (drop (length c.members-touched.result.now) c.members.result.now) ≡ drop (length a.touched.members) z.touched.members =
     rest_is (length c.members-touched.result.now) c.members.result.now ∙ ap (λ (xs : List ℕ). drop (length xs) c.members.result.now) c.members-touched.ensures.members ∙ ap (drop (length a.touched.members)) c.members.ensures.members in
@@ -85,7 +86,7 @@ returns-clause-on g c =
     let uses = uses_at s.slots in
     let users = users_on s.users in
     let t' = drop (length a.touched.members) z.touched.members in
-    let twice = part_twice s c.requires.filled.places.sound a z c.args.filling.now c.requires.filled gt gr c.reach.ensures.closed live once distinct in
+    let twice = part_twice s c.requires.at.filled.places.sound a z c.args.filling.now c.requires.at.filled gt gr c.reach.ensures.closed live once distinct in
     let came = lengths_came uses a.touched.members z.touched.members gt in
     let reached = lengths_came users a.reached.members z.reached.members gr in
     let before : lengths users (take (length c.members-reached.result.now) b.reached.members) ≡ lengths users a.reached.members =
@@ -94,25 +95,19 @@ returns-clause-on g c =
     let f = c.args.filling.now in
     let f' = c.fill.new.filling in
     let ready : IsOpen s z = record {
-      touched_room = omega (arith, c.requires.filled.ready.touched_room, two.touched_room);
+      sound = c.requires.at.filled.places.sound;
+      touched_room = omega (arith, c.requires.at.filled.ready.touched_room, two.touched_room);
       reached_room = room;
       covers = two.covers;
     } in
     let ended = subst (λ xs. IsEnded s xs (drop (length a.reached.members) z.reached.members) f f') part (subst (λ xs. IsEnded s (take (length c.members.result.now - length c.members-touched.result.now) (drop (length c.members-touched.result.now) c.members.result.now)) xs f f') resources c.fill.ensures.ended) in
     record {
-      filled = filled_on s c.requires.filled.places.sound a z f c.requires.filled gt gr c.reach.ensures.closed live once distinct f' ready exist used ended;
-      touched = gt;
-      reached = gr;
-      looks = omega (arith, c.reach.ensures.looks, twice, came, reached, before, fill);
+      on = record {
+        filled = filled_on s c.requires.at.filled.places.sound a z f c.requires.at.filled gt gr c.reach.ensures.closed live once distinct f' ready exist used ended;
+        touched = gt;
+        reached = gr;
+        looks = omega (arith, c.reach.ensures.looks, twice, came, reached, before, fill);
+      };
+      there = stays c.args.resource b.reached.members z.reached.members two.reached (ap (λ (m : MarkSet). is_in c.args.resource m.members) here ∙ mark_there c.args.resource a.reached.members);
+      least = leads;
     }
-
-pub returns-clause-there : goal.returns-clause-there
-returns-clause-there g c =
-    let a : Component = c.args.component.now in
-    stays c.args.resource c.insert.new.self.members c.reach.new.component.reached.members c.reach.ensures.spreads.reached
-    (ap (λ (m : MarkSet). is_in c.args.resource m.members) c.insert.ensures ∙ mark_there c.args.resource a.reached.members)
-
-pub returns-clause-least : goal.returns-clause-least
-returns-clause-least g c = λ p q along start t r.
-    let a : Component = c.args.component.now in
-    c.reach.ensures.least p q along t (marked_pass q c.args.resource a.reached.members c.insert.new.self.members (ap (λ (m : MarkSet). m.members) c.insert.ensures) start r)

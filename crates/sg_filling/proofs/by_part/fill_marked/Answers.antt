@@ -38,9 +38,12 @@ loop-flow-preserved g c =
           out.least p q along (λ off. marked flow (in_at flow items k c.loop-flow-test.true refl) off) b.0 b.1;
     }
 
-pub returns-clause-there : goal.returns-clause-there
-returns-clause-there g c = λ id e off.
-    let items = c.args.marked.now in
-    let at = at_in id items e in
-    subst (λ n. is_in n c.loop-flow.component.touched.members ≡ true) at.2
-    (c.loop-flow.invariant.done at.0 (omega (arith, at.1, c.loop-flow-test.false)) (ap (λ n. is_in n c.args.ended.now.members) at.2 ∙ off))
+pub returns : goal.returns
+returns g c = record {
+  on = c.loop-flow.invariant.on;
+  there = λ id e off.
+      let at = at_in id c.args.marked.now e in
+      subst (λ n. is_in n c.loop-flow.component.touched.members ≡ true) at.2
+      (c.loop-flow.invariant.done at.0 (omega (arith, at.1, c.loop-flow-test.false)) (ap (λ n. is_in n c.args.ended.now.members) at.2 ∙ off));
+  least = c.loop-flow.invariant.least;
+}

@@ -12,8 +12,11 @@ loop-c-init g c = record {
   least = λ p q along those t r. (t, r);
 }
 
-pub fill_on-requires-clause-resource : goal.fill_on-requires-clause-resource
-fill_on-requires-clause-resource g c = All-get_or (λ x. x < length c.args.system.now.capacities) c.args.resources.now c.loop-c.c-index 0 c.loop-c-test.true c.requires.resources
+pub fill_on-requires : goal.fill_on-requires
+fill_on-requires g c = record {
+  filled = c.loop-c.invariant.on.filled;
+  exists = All-get_or (λ x. x < length c.args.system.now.capacities) c.args.resources.now c.loop-c.c-index 0 c.loop-c-test.true c.requires.resources;
+}
 
 pub loop-c-preserved : goal.loop-c-preserved
 loop-c-preserved g c =
@@ -34,8 +37,11 @@ loop-c-preserved g c =
           out.least p q along (those n (in_at n items k c.loop-c-test.true refl)) b.0 b.1;
     }
 
-pub returns-clause-there : goal.returns-clause-there
-returns-clause-there g c = λ x e.
-    let items = c.args.resources.now in
-    let at = at_in x items e in
-    subst (λ n. is_in n c.loop-c.component.reached.members ≡ true) at.2 (c.loop-c.invariant.done at.0 (omega (arith, at.1, c.loop-c-test.false)))
+pub returns : goal.returns
+returns g c = record {
+  on = c.loop-c.invariant.on;
+  there = λ x e.
+      let at = at_in x c.args.resources.now e in
+      subst (λ n. is_in n c.loop-c.component.reached.members ≡ true) at.2 (c.loop-c.invariant.done at.0 (omega (arith, at.1, c.loop-c-test.false)));
+  least = c.loop-c.invariant.least;
+}

@@ -46,8 +46,8 @@ fill-requires-clause-joined g c =
     subst (λ xs. AreJoined s xs (take (length c.members-2.result.now - length c.members-reached.result.now) (drop (length c.members-reached.result.now) c.members-2.result.now))) (sym part)
     (subst (λ xs. AreJoined s (drop (length a.touched.members) z.touched.members) xs) (sym resources) joined)
 
-pub returns-clause-on : goal.returns-clause-on
-returns-clause-on g c =
+pub returns : goal.returns
+returns g c =
     let s = c.args.system.now in
     let a : Component = c.args.component.now in
     let b : Component = c.touch.new.component in
@@ -79,20 +79,19 @@ returns-clause-on g c =
     let f = c.args.filling.now in
     let f' = c.fill.new.filling in
     let ready : IsOpen s z = record {
+      sound = c.requires.filled.places.sound;
       touched_room = omega (arith, c.requires.filled.ready.touched_room, one.touched_room, two.touched_room);
       reached_room = room;
       covers = two.covers;
     } in
     let ended = subst (λ xs. IsEnded s xs (drop (length a.reached.members) z.reached.members) f f') part (subst (λ xs. IsEnded s (take (length c.members.result.now - length c.members-touched.result.now) (drop (length c.members-touched.result.now) c.members.result.now)) xs f f') resources c.fill.ensures.ended) in
     record {
-      filled = filled_on s c.requires.filled.places.sound a z f c.requires.filled gt gr c.reach.ensures.closed live once distinct f' ready exist used ended;
-      touched = gt;
-      reached = gr;
-      looks = omega (arith, c.touch.ensures.looks, c.reach.ensures.looks, twice, came, reached, before, fill);
+      on = record {
+        filled = filled_on s c.requires.filled.places.sound a z f c.requires.filled gt gr c.reach.ensures.closed live once distinct f' ready exist used ended;
+        touched = gt;
+        reached = gr;
+        looks = omega (arith, c.touch.ensures.looks, c.reach.ensures.looks, twice, came, reached, before, fill);
+      };
+      there = stays c.args.flow b.touched.members z.touched.members two.touched c.touch.ensures.there;
+      least = leads;
     }
-
-pub returns-clause-there : goal.returns-clause-there
-returns-clause-there g c = stays c.args.flow c.touch.new.component.touched.members c.reach.new.component.touched.members c.reach.ensures.spreads.touched c.touch.ensures.there
-
-pub returns-clause-least : goal.returns-clause-least
-returns-clause-least g c = λ p q along its t r. let b = c.touch.ensures.least p q along.uses its t r in c.reach.ensures.least p q along b.0 b.1

@@ -5,9 +5,9 @@ use Rattle.sg_filling.proofs.by_part.reach_free.Goals as goal
 pub returns-clause-filled : goal.returns-clause-filled
 returns-clause-filled c =
     let f = c.args.filling.now in
-    let old = c.requires.filled in
+    let old = c.requires.at.filled in
     let p = old.places in
-    reached_more c.args.system.now c.args.component.now f _ c.args.resource c.insert.new.self old c.requires.resource c.requires.free c.insert.ensures
+    reached_more c.args.system.now c.args.component.now f _ c.args.resource c.insert.new.self old c.requires.at.exists c.requires.free c.insert.ensures
     (record {
       sound = p.sound;
       fixed_len = p.fixed_len;

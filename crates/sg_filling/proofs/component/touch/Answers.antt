@@ -9,7 +9,7 @@ use Rattle.sg_filling.proofs.component.touch.Goals as goal
 pub mark_uses-requires : goal.mark_uses-requires
 mark_uses-requires g c =
     let s = c.args.system.now in
-    subst (λ n. All (λ c. c < n) (uses_at s.slots c.args.flow)) (sym c.requires.open.reached_room) (rows_exist s c.requires.sound c.args.flow)
+    subst (λ n. All (λ c. c < n) (uses_at s.slots c.args.flow)) (sym c.requires.open.reached_room) (rows_exist s c.requires.open.sound c.args.flow)
 
 pub returns-clause-spreads : goal.returns-clause-spreads
 returns-clause-spreads g c =

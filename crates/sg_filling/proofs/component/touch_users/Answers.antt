@@ -19,7 +19,7 @@ touch-requires-clause-flow g c =
     let s = c.args.system.now in
     let inv = c.loop-at.invariant in
     let r = looked next_on user_of s.uses (users_on s.users c.args.resource) inv.0 c.loop-at.at inv.1.walk c.in-Some.i c.look-one.result c.in-Some.is c.look-one.ensures.there in
-    omega (arith, on_below s c.requires.sound c.args.resource inv.0 r.less, r.is, c.requires.open.touched_room, inv.1.spreads.touched_room)
+    omega (arith, on_below s c.requires.open.sound c.args.resource inv.0 r.less, r.is, c.requires.open.touched_room, inv.1.spreads.touched_room)
 
 pub loop-at-smaller : goal.loop-at-smaller
 loop-at-smaller g c =

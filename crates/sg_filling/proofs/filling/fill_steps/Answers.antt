@@ -9,15 +9,18 @@ use Rattle.sg_maxmin.proofs.Members.{In, In-map, In-flat_map, In-from_contains}
 use Rattle.sg_maxmin.proofs.Leveled.{all_fixed}
 use Rattle.sg_maxmin.proofs.Proved.{level_fixed, limited_from, steps-next}
 use Rattle.sg_filling.specs.Component.{Covers, lengths}
-use Rattle.sg_filling.specs.Dates.{key_where}
+use Rattle.sg_heap.specs.Agenda.{Key}
+use Rattle.sg_filling.specs.Dates.{AreDated, key_where}
 use Rattle.sg_levels.specs.Numbered.{flow_in}
 use Rattle.sg_filling.specs.declared.filling.Filling.{Filling}
-use Rattle.sg_filling.specs.Filling.{AreJoined, IsLeast, IsStepped, fixed_at, flows_at, limits_at, unfixed_limits, unfixed_uses}
-use Rattle.sg_filling.specs.Holds.{NotesHolds, untaken}
+use Rattle.sg_filling.specs.declared.filling.Low.{Low}
+use Rattle.sg_filling.specs.Filling.{AreCounted, AreJoined, AreLevels, AreTaken, HasPlaces, IsLeast, IsLow, IsStepped, fixed_at, flows_at, limits_at, unfixed_bounds, unfixed_limits, unfixed_uses}
+use Rattle.sg_filling.specs.Holds.{AreNoted, AreUnder, IsAtLevel, NotesHolds, untaken}
 use Rattle.sg_filling.proofs.Floors.{floor_fewer, floor_zero}
 use Rattle.sg_filling.proofs.Growing.{at_in}
 use Rattle.sg_filling.proofs.Joined.{user_there}
 use Rattle.sg_filling.proofs.Keyed.{dated_late, idle_then}
+use Rattle.sg_filling.proofs.Last.{rest_steps}
 use Rattle.sg_filling.proofs.Noted.{above_least, fresh_at, noted_next, under_next}
 use Rattle.sg_filling.proofs.Notes.{untaken_few}
 use Rattle.sg_filling.proofs.Rows.{in_is, into, none_some, rows_once}
@@ -97,20 +100,13 @@ loop-n-init g c =
       looks = omega arith;
     }
 
-pub step-requires-clause-at : goal.step-requires-clause-at
-step-requires-clause-at g c =
-    let s = c.args.system.now in
-    let touched = c.args.touched.now in
-    let reached = c.args.reached.now in
-    let joined = c.requires.joined in
-    let flows = flows_at s.slots touched in
-    let f = c.loop-n.filling in
-    let inv = c.loop-n.invariant in
-    let low = c.in-Some.low.level in
-    let state = steps_from c.loop-n.n s.capacities flows unfixed in
-    let are = of_each (λ id. state (flow_in s.slots id) ≡ fixed_at f.fixed.items id) touched inv.fixed_are in
-    let p = inv.places in
-    let out = c.date_all.ensures in
+-- with its keys dated, a filling is at the level of its next step
+at_low : (s : Sharing) (touched reached : List ℕ) → AreJoined s touched reached → (f : Filling) (keys : List (Option Key)) (n : ℕ) (low : Low) → HasPlaces s f → length keys ≡ length f.agenda →
+    ((i : ℕ) → i < length touched → steps_from n s.capacities (flows_at s.slots touched) unfixed (flow_in s.slots (get_or touched i 0)) ≡ fixed_at f.fixed.items (get_or touched i 0)) → AreCounted s f.fixed.items touched f.left.items f.waiting.items (λ c. is_in c reached) → AreLevels reached f →
+    AreDated reached (record f { agenda = keys }) → AreUnder s touched f → AreNoted s reached f → IsLow (Some low) (unfixed_limits s.slots f.fixed.items f.levels.items touched) (unfixed_bounds s.slots f.fixed.items touched) → AreTaken reached low (record f { agenda = keys }) → IsAtLevel s touched reached low (record f { agenda = keys })
+at_low s touched reached joined f keys n low p same fixed_are counted levels dated under noted least taken =
+    let state = steps_from n s.capacities (flows_at s.slots touched) unfixed in
+    let are = of_each (λ id. state (flow_in s.slots id) ≡ fixed_at f.fixed.items id) touched fixed_are in
     record {
       joined = joined;
       places = record {
@@ -121,16 +117,37 @@ step-requires-clause-at g c =
         waiting_len = p.waiting_len;
         levels_len = p.levels_len;
         stale_room = p.stale_room;
-        slots = out.slots ∙ p.slots;
+        slots = same ∙ p.slots;
       };
-      above = λ id i none x k. above_least s f.fixed.items f.levels.items touched low c.in-Some.ensures.low.0 id i none x (In-from_contains (limits_at s.slots f.levels.items id) x k);
-      floor = c.in-Some.ensures.low.1;
-      taken = record { order = c.in-Some.ensures.at.order; few = c.in-Some.ensures.at.few; among = c.in-Some.ensures.at.among };
-      counted = record { left_is = inv.counted.left_is; waiting_is = inv.counted.waiting_is };
-      dated = dated_late reached f c.date_all.new.agenda c.is_late.result inv.dated
-          (λ e x r. out.listed e x r ∙ ap₂ (λ (ws ls : List ℕ). key_where (get_or ws x 0) (get_or ls x 0)) c.deref.ensures.value c.deref-in-loop-n.ensures.value) out.others out.none;
-      fresh = fresh_at s touched reached joined f low state are inv.counted inv.levels c.in-Some.ensures.low.0 inv.under inv.noted;
+      above = λ id i none x k. above_least s f.fixed.items f.levels.items touched low.level least.0 id i none x (In-from_contains (limits_at s.slots f.levels.items id) x k);
+      floor = least.1;
+      taken = taken;
+      counted = counted;
+      dated = dated;
+      fresh = fresh_at s touched reached joined f low.level state are counted levels least.0 under noted;
     }
+
+pub is_last-requires : goal.is_last-requires
+is_last-requires g c =
+    let reached = c.args.reached.now in
+    let f = c.loop-n.filling in
+    let inv = c.loop-n.invariant in
+    let out = c.date_all.ensures in
+    at_low c.args.system.now c.args.touched.now reached c.requires.joined f c.date_all.new.agenda c.loop-n.n c.in-Some.low inv.places out.slots inv.fixed_are inv.counted inv.levels
+    (dated_late reached f c.date_all.new.agenda c.is_late.result inv.dated
+    (λ e x r. out.listed e x r ∙ ap₂ (λ (ws ls : List ℕ). key_where (get_or ws x 0) (get_or ls x 0)) c.deref.ensures.value c.deref-in-loop-n.ensures.value) out.others out.none)
+    inv.under inv.noted c.in-Some.ensures.low c.in-Some.ensures.at
+
+pub step-requires-clause-at : goal.step-requires-clause-at
+step-requires-clause-at g c =
+    let reached = c.args.reached.now in
+    let f = c.loop-n.filling in
+    let inv = c.loop-n.invariant in
+    let out = c.date_all.ensures in
+    at_low c.args.system.now c.args.touched.now reached c.requires.joined f c.date_all.new.agenda c.loop-n.n c.in-Some.low inv.places out.slots inv.fixed_are inv.counted inv.levels
+    (dated_late reached f c.date_all.new.agenda c.is_late.result inv.dated
+    (λ e x r. out.listed e x r ∙ ap₂ (λ (ws ls : List ℕ). key_where (get_or ws x 0) (get_or ls x 0)) c.deref.ensures.value c.deref-in-loop-n.ensures.value) out.others out.none)
+    inv.under inv.noted c.in-Some.ensures.low c.in-Some.ensures.at
 
 pub loop-n-preserved : goal.loop-n-preserved
 loop-n-preserved g c =
@@ -203,11 +220,28 @@ returns-clause-fixed g c = λ i h.
     all_fixed (length flows) s.capacities flows unfixed (limited_from s.capacities flows (part_limits s touched c.requires.joined.part)) (count_by-le-length (λ f. true) flows) (flow_in s.slots id) (In-map (flow_in s.slots) touched id (in_index touched i h))
     (ap (λ k. steps_from k s.capacities flows unfixed (flow_in s.slots id)) (sym all) ∙ c.loop-n.invariant.fixed_are i h ∙ none))
 
-pub lowest-requires-clause-dated : goal.lowest-requires-clause-dated
-lowest-requires-clause-dated g c =
+pub lowest-requires : goal.lowest-requires
+lowest-requires g c =
+    let inv = c.loop-n.invariant in
+    let p = inv.places in
     let out = c.date_all.ensures in
-    dated_late c.args.reached.now c.loop-n.filling c.date_all.new.agenda c.is_late.result c.loop-n.invariant.dated
-    (λ e x r. out.listed e x r ∙ ap₂ (λ (ws ls : List ℕ). key_where (get_or ws x 0) (get_or ls x 0)) c.deref.ensures.value c.deref-in-loop-n.ensures.value) out.others out.none
+    record {
+      joined = c.requires.joined;
+      places = record {
+        sound = p.sound;
+        fixed_len = p.fixed_len;
+        holds_len = p.holds_len;
+        left_len = p.left_len;
+        waiting_len = p.waiting_len;
+        levels_len = p.levels_len;
+        stale_room = p.stale_room;
+        slots = out.slots ∙ p.slots;
+      };
+      counted = record { left_is = inv.counted.left_is; waiting_is = inv.counted.waiting_is };
+      dated = dated_late c.args.reached.now c.loop-n.filling c.date_all.new.agenda c.is_late.result inv.dated
+          (λ e x r. out.listed e x r ∙ ap₂ (λ (ws ls : List ℕ). key_where (get_or ws x 0) (get_or ls x 0)) c.deref.ensures.value c.deref-in-loop-n.ensures.value) out.others out.none;
+      floor_is = inv.floor;
+    }
 
 pub returns-in-None-clause-idle : goal.returns-in-None-clause-idle
 returns-in-None-clause-idle g c =
@@ -234,3 +268,45 @@ returns-in-None-clause-looks g c = all_looks c.args.system.now c.args.touched.no
 
 pub returns-clause-looks : goal.returns-clause-looks
 returns-clause-looks g c = all_looks c.args.system.now c.args.touched.now c.args.reached.now c.requires.joined c.args.filling.now c.args.steps.now c.loop-n.steps (omega (arith, c.loop-n.invariant.looks))
+
+-- ---- the last step is the next one, and leaves no flow unfixed
+pub returns-then-is_last-clause-fixed : goal.returns-then-is_last-clause-fixed
+returns-then-is_last-clause-fixed g c = λ i h.
+    let s = c.args.system.now in
+    let touched = c.args.touched.now in
+    let reached = c.args.reached.now in
+    let joined = c.requires.joined in
+    let flows = flows_at s.slots touched in
+    let f = c.loop-n.filling in
+    let new = c.fix_rest.new.filling in
+    let inv = c.loop-n.invariant in
+    let low = c.in-Some.low.level in
+    let state = steps_from c.loop-n.n s.capacities flows unfixed in
+    let stepped = rest_steps s touched reached low (record f { agenda = c.date_all.new.agenda }) new (c.is_last.ensures c.if-is_last.true) c.fix_rest.ensures in
+    let next = next_fixed s f.fixed.items touched state (λ f i. rows_once s joined.part.sound f)
+    (of_each (λ f. state (flow_in s.slots f) ≡ fixed_at c.loop-n.filling.fixed.items f) touched inv.fixed_are) f.left.items f.waiting.items f.levels.items (λ x. is_in x reached) inv.counted
+    inv.levels (covers_in (uses_at s.slots) touched reached joined.closed.covers) new.fixed.items low c.in-Some.ensures.low.0 (λ id i. stepped id (in_is id touched i)) in
+    let id = get_or touched i 0 in
+    level_at s new.fixed.items touched (c.loop-n.n + 1) id (omega (arith, c.loop-n-test.true))
+    (ap (λ (k : Fixed). k (flow_in s.slots id)) (steps-next c.loop-n.n s.capacities flows unfixed) ∙ next id (in_index touched i h))
+    (λ none. none_some (sym none ∙ c.fix_rest.ensures.fixed id (in_is id touched (in_index touched i h))))
+
+pub returns-then-is_last-clause-noted : goal.returns-then-is_last-clause-noted
+returns-then-is_last-clause-noted g c =
+    let s = c.args.system.now in
+    let touched = c.args.touched.now in
+    let reached = c.args.reached.now in
+    let joined = c.requires.joined in
+    let f = c.loop-n.filling in
+    let new = c.fix_rest.new.filling in
+    let inv = c.loop-n.invariant in
+    let low = c.in-Some.low.level in
+    let state = steps_from c.loop-n.n s.capacities (flows_at s.slots touched) unfixed in
+    let are = of_each (λ f. state (flow_in s.slots f) ≡ fixed_at c.loop-n.filling.fixed.items f) touched inv.fixed_are in
+    let stepped = rest_steps s touched reached low (record f { agenda = c.date_all.new.agenda }) new (c.is_last.ensures c.if-is_last.true) c.fix_rest.ensures in
+    let told = c.fix_rest.ensures.noted in
+    let notes : NotesHolds reached low f new = record { others = told.others; may = told.may; taken = told.taken } in
+    noted_next s touched reached joined f low state are inv.counted inv.levels c.in-Some.ensures.low.0 inv.under new (λ id i. stepped id (in_is id touched i)) inv.noted notes
+
+pub returns-then-is_last-clause-looks : goal.returns-then-is_last-clause-looks
+returns-then-is_last-clause-looks g c = all_looks c.args.system.now c.args.touched.now c.args.reached.now c.requires.joined c.args.filling.now c.args.steps.now c.loop-n.steps (omega (arith, c.loop-n.invariant.looks))

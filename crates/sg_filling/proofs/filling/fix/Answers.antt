@@ -1,11 +1,11 @@
-use Rattle.std.proofs.Common.{◌≡◌, ◌-◌, ◌*◌, ◌<◌, suc, true, Some, length, length-set, get_or, take, below_more, refl, sym, ap, subst, ◌∙◌, arith}
+use Rattle.std.proofs.Common.{◌≡◌, ◌-◌, ◌*◌, ◌^◌, ◌<◌, suc, true, min, Some, length, length-set, get_or, take, below_more, refl, sym, ap, subst, ◌∙◌, arith}
 use Rattle.std.proofs.lemmas.List.Elements.{All-get_or}
 use Rattle.sg_base.specs.MarkSet.{MarkSet, is_in, with_mark}
 use Rattle.sg_chains.specs.Chained.{times}
 use Rattle.sg_chains.specs.Walk.{next_of_flow, resource_of}
 use Rattle.sg_maxmin.specs.Fill.{bounded, share_at}
 use Rattle.sg_maxmin.specs.Sharing.{uses_at}
-use Rattle.sg_levels.specs.Numbered.{weight_at}
+use Rattle.sg_levels.specs.Numbered.{flow_in, weight_at}
 use Rattle.sg_filling.specs.Component.{AllPass, Grows}
 use Rattle.sg_filling.proofs.Growing.{grows_on, grows_mark, grows_same, stays, mark_there, few_mark, pass_mark}
 use Rattle.sg_filling.proofs.Rows.{bound_is, rows_exist, take_all, weight_is}
@@ -36,7 +36,7 @@ loop-at-init g c =
         holds = refl;
         levels = refl;
         agenda = refl;
-        left = λ x. let none : times x (take 0 row) ≡ 0 = refl in omega (arith, ap (λ n. n * bounded c.bound-bound.result (c.weight-weight.result * c.args.low)) none);
+        left = λ x. let none : times x (take 0 row) ≡ 0 = refl in omega (arith, ap (λ n. n * share_at (flow_in s.slots c.args.flow) c.args.low) none);
         waiting = λ x. let none : times x (take 0 row) ≡ 0 = refl in omega (arith, ap (λ n. n * c.weight-weight.result) none);
         grows = grows_same f.stale.members;
         room = refl;
@@ -87,6 +87,7 @@ take_use-requires-clause-stale g c =
     omega (arith, below, r.is, inv.1.places.stale_room)
 
 pub loop-at-preserved : goal.loop-at-preserved
+unfolding share_at
 loop-at-preserved g c =
     let s = c.args.system.now in
     let row = uses_at s.slots c.args.flow in
@@ -97,8 +98,11 @@ loop-at-preserved g c =
     let first = c.args.filling.now in
     let f = c.loop-at.filling in
     let out = c.take_use.ensures in
-    let share = bounded c.bound-bound.result (c.weight-weight.result * c.args.low) in
     let weight = c.weight-weight.result in
+    let share = share_at (flow_in s.slots c.args.flow) c.args.low in
+    let told : bounded c.bound-bound.result (weight * c.args.low) ≡ share = ap (λ n. bounded c.bound-bound.result (n * c.args.low)) (weight_is s.slots c.args.flow weight c.requires.held c.weight-weight.ensures)
+    ∙ ap (λ b. bounded b (weight_at s.slots c.args.flow * c.args.low)) (bound_is s.slots c.args.flow c.bound-bound.result c.requires.held c.bound-bound.ensures) in
+    let left = out.left share (c.capped_share-share.ensures ∙ ap (λ n. min n (2 ^ 64 - 1)) told) in
     let r = looked next_of_flow resource_of s.uses row k c.loop-at.at inv.1.walk c.in-Some.i c.look-one.result c.in-Some.is c.look-one.ensures.there in
     let below : get_or row k 0 < length s.capacities = All-get_or (λ n. n < length s.capacities) row k 0 r.less (rows_exist s c.requires.places.sound c.args.flow) in
     let in_left : one < length f.left.items = omega (arith, below, r.is, p.left_len) in
@@ -114,7 +118,7 @@ loop-at-preserved g c =
           sound = p.sound;
           fixed_len = omega (arith, p.fixed_len, ap length out.kept.fixed);
           holds_len = ap length out.kept.holds ∙ p.holds_len;
-          left_len = ap length out.left ∙ length-set f.left.items one (get_or f.left.items one 0 - share) ∙ p.left_len;
+          left_len = ap length left ∙ length-set f.left.items one (get_or f.left.items one 0 - share) ∙ p.left_len;
           waiting_len = ap length out.waiting ∙ length-set f.waiting.items one (get_or f.waiting.items one 0 - weight) ∙ p.waiting_len;
           levels_len = ap length out.kept.levels ∙ p.levels_len;
           stale_room = room ∙ p.stale_room;
@@ -124,7 +128,7 @@ loop-at-preserved g c =
         holds = out.kept.holds ∙ inv.1.holds;
         levels = out.kept.levels ∙ inv.1.levels;
         agenda = out.kept.agenda ∙ inv.1.agenda;
-        left = λ x. ap (λ xs. get_or xs x 0) out.left ∙ take_off f.left.items first.left.items row k one share x r.less r.is in_left inv.1.left;
+        left = λ x. ap (λ xs. get_or xs x 0) left ∙ take_off f.left.items first.left.items row k one share x r.less r.is in_left inv.1.left;
         waiting = λ x. ap (λ xs. get_or xs x 0) out.waiting ∙ take_off f.waiting.items first.waiting.items row k one weight x r.less r.is in_waiting inv.1.waiting;
         grows = subst (λ xs. Grows first.stale.members xs) (sym e) (grows_on first.stale.members old (with_mark number old) inv.1.grows (grows_mark number old));
         room = room ∙ inv.1.room;
@@ -136,55 +140,35 @@ loop-at-preserved g c =
       },
     )
 
-pub returns-clause-places : goal.returns-clause-places
-returns-clause-places g c = c.loop-at.invariant.1.places
-
-pub returns-clause-levels : goal.returns-clause-levels
-returns-clause-levels g c = c.loop-at.invariant.1.levels
-
-pub returns-clause-agenda : goal.returns-clause-agenda
-returns-clause-agenda g c = c.loop-at.invariant.1.agenda
-
-pub returns-clause-holds : goal.returns-clause-holds
-returns-clause-holds g c = c.loop-at.invariant.1.holds
-
-pub returns-clause-fixed : goal.returns-clause-fixed
-returns-clause-fixed g c = c.loop-at.invariant.1.fixed
-
-pub returns-clause-left : goal.returns-clause-left
-unfolding share_at
-returns-clause-left g c = λ x.
+pub returns-clause-fixes : goal.returns-clause-fixes
+returns-clause-fixes g c =
     let s = c.args.system.now in
     let row = uses_at s.slots c.args.flow in
-    let inv = c.loop-at.invariant in
-    let k = inv.0 in
-    let all = take_all row k (walked next_of_flow resource_of s.uses row k c.loop-at.at inv.1.walk c.in_default.not-Some) in
-    let old = get_or c.args.filling.now.left.items x 0 in
-    inv.1.left x ∙ ap (λ xs. old - times x xs * bounded c.bound-bound.result (c.weight-weight.result * c.args.low)) all
-    ∙ ap (λ n. old - times x row * bounded c.bound-bound.result (n * c.args.low)) (weight_is s.slots c.args.flow c.weight-weight.result c.requires.held c.weight-weight.ensures)
-    ∙ ap (λ b. old - times x row * bounded b (weight_at s.slots c.args.flow * c.args.low)) (bound_is s.slots c.args.flow c.bound-bound.result c.requires.held c.bound-bound.ensures)
-
-pub returns-clause-waiting : goal.returns-clause-waiting
-returns-clause-waiting g c = λ x.
-    let s = c.args.system.now in
-    let row = uses_at s.slots c.args.flow in
-    let inv = c.loop-at.invariant in
-    let k = inv.0 in
-    let all = take_all row k (walked next_of_flow resource_of s.uses row k c.loop-at.at inv.1.walk c.in_default.not-Some) in
-    inv.1.waiting x ∙ ap (λ xs. get_or c.args.filling.now.waiting.items x 0 - times x xs * c.weight-weight.result) all
-    ∙ ap (λ n. get_or c.args.filling.now.waiting.items x 0 - times x row * n) (weight_is s.slots c.args.flow c.weight-weight.result c.requires.held c.weight-weight.ensures)
-
-pub returns-clause-stale : goal.returns-clause-stale
-returns-clause-stale g c =
-    let s = c.args.system.now in
-    let inv = c.loop-at.invariant in
-    let end = walked next_of_flow resource_of s.uses (uses_at s.slots c.args.flow) inv.0 c.loop-at.at inv.1.walk c.in_default.not-Some in
+    let f = c.args.filling.now in
+    let inv = c.loop-at.invariant.1 in
+    let k = c.loop-at.invariant.0 in
+    let end = walked next_of_flow resource_of s.uses row k c.loop-at.at inv.walk c.in_default.not-Some in
+    let all = take_all row k end in
+    let weight = weight_is s.slots c.args.flow c.weight-weight.result c.requires.held c.weight-weight.ensures in
     record {
-      grows = inv.1.grows;
-      marked = λ i h. inv.1.done i (omega (arith, h, end));
-      room = inv.1.room;
-      few = omega (arith, inv.1.few, end);
-      least = inv.1.least;
+      places = inv.places;
+      levels = inv.levels;
+      agenda = inv.agenda;
+      holds = inv.holds;
+      fixed = inv.fixed;
+      left = λ x.
+          let old = get_or f.left.items x 0 in
+          inv.left x ∙ ap (λ xs. old - times x xs * share_at (flow_in s.slots c.args.flow) c.args.low) all;
+      waiting = λ x.
+          let old = get_or f.waiting.items x 0 in
+          inv.waiting x ∙ ap (λ xs. old - times x xs * c.weight-weight.result) all ∙ ap (λ n. old - times x row * n) weight;
+      stale = record {
+        grows = inv.grows;
+        marked = λ i h. inv.done i (omega (arith, h, end));
+        room = inv.room;
+        few = omega (arith, inv.few, end);
+        least = inv.least;
+      };
     }
 
 pub returns-clause-looks : goal.returns-clause-looks

@@ -2,8 +2,9 @@ use Rattle.std.proofs.Common.{◌≡◌, ◌+◌, ◌-◌, ◌*◌, ◌<◌, ◌
 use Rattle.sg_base.specs.MarkSet.{is_in}
 use Rattle.sg_chains.specs.Chained.{times}
 use Rattle.sg_chains.specs.Walk.{next_of_flow, resource_of, left_from}
-use Rattle.sg_maxmin.specs.Fill.{bounded}
+use Rattle.sg_maxmin.specs.Fill.{share_at}
 use Rattle.sg_maxmin.specs.Sharing.{uses_at}
+use Rattle.sg_levels.specs.Numbered.{flow_in}
 use Rattle.sg_filling.specs.Component.{AllPass, RowPasses, Grows}
 use Rattle.sg_filling.specs.Filling.{HasPlaces}
 use Rattle.sg_levels.proofs.Walked.{IsWalk}
@@ -17,7 +18,7 @@ invariant-loop-at g l = (k : ℕ) × record {
   holds : l.filling.holds.items ≡ l.fn.filling.holds.items;
   levels : l.filling.levels.items ≡ l.fn.filling.levels.items;
   agenda : l.filling.agenda ≡ l.fn.filling.agenda;
-  left : (c : ℕ) → slice_index l.filling.left.items c ≡ slice_index l.fn.filling.left.items c - times c (take k (uses_at l.system.slots l.flow)) * bounded l.bound (l.weight * l.low);
+  left : (c : ℕ) → slice_index l.filling.left.items c ≡ slice_index l.fn.filling.left.items c - times c (take k (uses_at l.system.slots l.flow)) * share_at (flow_in l.system.slots l.flow) l.low;
   waiting : (c : ℕ) → slice_index l.filling.waiting.items c ≡ slice_index l.fn.filling.waiting.items c - times c (take k (uses_at l.system.slots l.flow)) * l.weight;
   grows : Grows l.fn.filling.stale.members l.filling.stale.members;
   room : l.filling.stale.room ≡ l.fn.filling.stale.room;

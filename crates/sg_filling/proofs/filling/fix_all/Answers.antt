@@ -7,14 +7,22 @@ use Rattle.sg_filling.proofs.Floors.{floor_partly}
 use Rattle.sg_filling.proofs.Notes.{notes_kept, untaken_same}
 use Rattle.sg_filling.proofs.filling.fix_all.Goals as goal
 
-pub fix_all_bounded-requires-clause-above : goal.fix_all_bounded-requires-clause-above
-fix_all_bounded-requires-clause-above g c =
+pub fix_all_bounded-requires : goal.fix_all_bounded-requires
+fix_all_bounded-requires g c =
+    let s = c.args.system.now in
     let touched = c.args.touched.now in
-    above_still c.args.system.now touched touched c.args.low.level c.args.filling.now c.fix_all_users.new.filling c.fix_all_users.ensures.partly (λ id i. i) c.requires.at.above
-
-pub fix_all_bounded-requires-clause-floor : goal.fix_all_bounded-requires-clause-floor
-fix_all_bounded-requires-clause-floor g c =
-    floor_partly c.args.low.floor c.args.system.now c.args.low.level c.args.filling.now c.fix_all_users.new.filling c.args.touched.now c.fix_all_users.ensures.partly c.requires.at.floor
+    let low = c.args.low in
+    let first = c.args.filling.now in
+    let mid = c.fix_all_users.new.filling in
+    let partly = c.fix_all_users.ensures.partly in
+    let at = c.requires.at in
+    record {
+      part = at.joined.part;
+      once = at.joined.once;
+      places = partly.places;
+      above = above_still s touched touched low.level first mid partly (λ id i. i) at.above;
+      floor_is = floor_partly low.floor s low.level first mid touched partly at.floor;
+    }
 
 pub returns-clause-partly : goal.returns-clause-partly
 returns-clause-partly g c =

@@ -47,13 +47,13 @@ loop-flow-preserved g c =
     let old = c.loop-flow.filling in
     let new = c.fix_bounded.new.filling in
     let a = inv.count in
-    let b = out.count touched c.requires.once (in_at f touched k c.loop-flow-test.true refl) in
+    let b = out.fixes.count touched c.requires.once (in_at f touched k c.loop-flow-test.true refl) in
     record {
-      partly = partly_on s c.args.low first old new inv.partly out.fixes.partly;
-      agenda = out.fixes.agenda ∙ inv.agenda;
-      holds = out.fixes.holds ∙ inv.holds;
+      partly = partly_on s c.args.low first old new inv.partly out.fixes.fixes.partly;
+      agenda = out.fixes.fixes.agenda ∙ inv.agenda;
+      holds = out.fixes.fixes.holds ∙ inv.holds;
       bounds = below_more _ _
-          (λ i h e. let id = get_or touched i 0 in some_stays c.args.low (IsLeast (Some c.args.low) (limits_at s.slots old.levels.items id)) (fixed_at old.fixed.items id) (fixed_at new.fixed.items id) (out.fixes.partly.flows id) (inv.bounds i h e))
+          (λ i h e. let id = get_or touched i 0 in some_stays c.args.low (IsLeast (Some c.args.low) (limits_at s.slots old.levels.items id)) (fixed_at old.fixed.items id) (fixed_at new.fixed.items id) (out.fixes.fixes.partly.flows id) (inv.bounds i h e))
           out.done;
       count = record { counted = λ r h. b.counted r (a.counted r h); looks = omega (arith, a.looks, b.looks) };
     }
@@ -67,7 +67,7 @@ returns-then-is_over-clause-bounds g c = λ i h at.
     let fixed = c.args.filling.now.fixed.items in
     let touched = c.args.touched.now in
     let id = get_or touched i 0 in
-    unfixed_or (fixed_at fixed id) (λ none. over_bound s fixed touched c.args.floor c.args.low c.requires.floor (c.is_over.ensures c.if-is_over.true) id (in_index touched i h) none at)
+    unfixed_or (fixed_at fixed id) (λ none. over_bound s fixed touched c.args.floor c.args.low c.requires.floor_is (c.is_over.ensures c.if-is_over.true) id (in_index touched i h) none at)
 
 pub returns-then-is_over-clause-count : goal.returns-then-is_over-clause-count
 returns-then-is_over-clause-count g c = count_same c.args.system.now c.args.touched.now c.args.filling.now c.args.steps.now

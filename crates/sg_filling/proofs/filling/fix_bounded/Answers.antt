@@ -1,6 +1,8 @@
-use Rattle.std.proofs.Common.{refl, arith}
-use Rattle.sg_filling.proofs.Fixing.{bound_in, in_one_self, partly_same}
+use Rattle.sg_filling.proofs.Fixing.{bound_in, fixes_same, in_one_self}
 use Rattle.sg_filling.proofs.filling.fix_bounded.Goals as goal
+
+pub is_bound_at-requires : goal.is_bound_at-requires
+is_bound_at-requires g c = record { sound = c.requires.of.places.sound; held = c.requires.of.held }
 
 pub fix_flow-requires-clause-at : goal.fix_flow-requires-clause-at
 fix_flow-requires-clause-at g c = λ none. (
@@ -9,10 +11,7 @@ fix_flow-requires-clause-at g c = λ none. (
 )
 
 pub returns-else-is_bound_at-clause-fixes : goal.returns-else-is_bound_at-clause-fixes
-returns-else-is_bound_at-clause-fixes g c = record { partly = partly_same c.args.system.now c.args.low c.args.filling.now c.requires.of.places; agenda = refl; holds = refl }
-
-pub returns-else-is_bound_at-clause-count : goal.returns-else-is_bound_at-clause-count
-returns-else-is_bound_at-clause-count g c = λ touched once there. record { counted = λ reached h. h; looks = omega arith }
+returns-else-is_bound_at-clause-fixes g c = fixes_same c.args.system.now c.args.flow c.args.low c.args.filling.now c.args.steps.now c.requires.of.places
 
 pub returns-then-is_some-clause-fixes : goal.returns-then-is_some-clause-fixes
-returns-then-is_some-clause-fixes g c = record { partly = partly_same c.args.system.now c.args.low c.args.filling.now c.requires.of.places; agenda = refl; holds = refl }
+returns-then-is_some-clause-fixes g c = fixes_same c.args.system.now c.args.flow c.args.low c.args.filling.now c.args.steps.now c.requires.of.places

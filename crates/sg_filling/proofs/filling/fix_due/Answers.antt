@@ -23,8 +23,8 @@ loop-c-init g c = record {
   count = record { counted = λ reached h. h; looks = omega arith };
 }
 
-pub fix_on-requires-clause-above : goal.fix_on-requires-clause-above
-fix_on-requires-clause-above g c =
+pub fix_on-requires : goal.fix_on-requires
+fix_on-requires g c =
     let s = c.args.system.now in
     let first = c.args.filling.now in
     let f = c.loop-c.filling in
@@ -32,7 +32,12 @@ fix_on-requires-clause-above g c =
     let row = users_on s.users n in
     let key = some_of (key_at f.agenda n) c.in-Some.ensures.first in
     let its = key_is c.args.reached.now first c.requires.at.dated.quiet (are_right c.args.reached.now first c.requires.at.dated c.requires.keys) n key.0 (key_left (key_at f.agenda n) (key_at first.agenda n) key.0 (c.loop-c.invariant.keys n) key.1) in
-    above_still s c.args.touched.now row c.args.low.level first f c.loop-c.invariant.partly (λ id i. into row c.args.touched.now id (c.requires.at.joined.closed.covered n its.0) i) c.requires.at.above
+    let partly = c.loop-c.invariant.partly in
+    record {
+      places = partly.places;
+      exists = omega (arith, key_within f.agenda n c.in-Some.ensures.first, partly.places.slots);
+      above = above_still s c.args.touched.now row c.args.low.level first f partly (λ id i. into row c.args.touched.now id (c.requires.at.joined.closed.covered n its.0) i) c.requires.at.above;
+    }
 
 pub loop-c-preserved : goal.loop-c-preserved
 loop-c-preserved g c =

@@ -33,14 +33,20 @@ loop-k-init g c = record {
     free : (i : ℕ) → i < c.args.low.at.first → get_or first.levels.items (get_or c.args.reached.now i 0) 0 ≡ c.args.low.level → get_or first.waiting.items (get_or c.args.reached.now i 0) 0 ≡ 0
     free i h e = elim (eq_cases (get_or first.waiting.items (get_or c.args.reached.now i 0) 0) 0) [ inl z ↦ z | inr w ↦ absurd (omega (arith, h, (c.requires.taken.among i (within i h) w e).0)) ]
 
-pub fix_on-requires-clause-above : goal.fix_on-requires-clause-above
-fix_on-requires-clause-above g c =
+pub fix_on-requires : goal.fix_on-requires
+fix_on-requires g c =
     let s = c.args.system.now in
-    let n = get_or c.args.reached.now c.loop-k.k 0 in
-    let there : c.loop-k.k < length c.args.reached.now = omega (arith, c.loop-k-test.true, c.requires.taken.few) in
+    let reached = c.args.reached.now in
+    let n = get_or reached c.loop-k.k 0 in
+    let there : c.loop-k.k < length reached = omega (arith, c.loop-k-test.true, c.requires.taken.few) in
     let row = users_on s.users n in
-    above_still s c.args.touched.now row c.args.low.level c.args.filling.now c.loop-k.filling c.loop-k.invariant.partly
-    (λ id i. into row c.args.touched.now id (c.requires.joined.closed.covered n (in_at n c.args.reached.now c.loop-k.k there refl)) i) c.requires.above
+    let partly = c.loop-k.invariant.partly in
+    record {
+      places = partly.places;
+      exists = All-get_or (λ x. x < length s.capacities) reached c.loop-k.k 0 there c.requires.joined.exist;
+      above = above_still s c.args.touched.now row c.args.low.level c.args.filling.now c.loop-k.filling partly
+          (λ id i. into row c.args.touched.now id (c.requires.joined.closed.covered n (in_at n reached c.loop-k.k there refl)) i) c.requires.above;
+    }
 
 pub loop-k-preserved : goal.loop-k-preserved
 loop-k-preserved g c =

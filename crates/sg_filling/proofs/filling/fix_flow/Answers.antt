@@ -8,7 +8,7 @@ use Rattle.sg_filling.specs.Filling.{AreCounted, IsLeast, MayStep, fixed_at, lim
 use Rattle.sg_filling.proofs.Growing.{stays}
 use Rattle.sg_filling.proofs.Listing.{bool_cases}
 use Rattle.sg_filling.proofs.Rows.{any_default, held_below, is_in_In}
-use Rattle.sg_filling.proofs.Fixing.{counted_one, off_stays, one_steps, partly_same, unfixed_one}
+use Rattle.sg_filling.proofs.Fixing.{counted_one, fixes_same, off_stays, one_steps, unfixed_one}
 use Rattle.sg_filling.proofs.filling.fix_flow.Goals as goal
 
 none_if : (o : Option ℕ) → is_some o ≡ false → o ≡ None
@@ -28,25 +28,35 @@ returns-then-is_none-clause-fixes g c =
     let flow = c.args.flow in
     let low = c.args.low in
     let new = c.fix.new.filling in
-    let out = c.fix.ensures in
+    let out = c.fix.ensures.fixes in
     let below : flow < length f.fixed.items = omega (arith, held_below s.slots flow c.requires.of.held, c.requires.of.places.fixed_len) in
     let none = none_read f.fixed.items flow c.index.result.now below c.index.ensures (c.is_none.ensures ∙ ap not c.if-is_none.true) in
     record {
-      partly = record {
-        places = out.places;
-        levels = out.levels;
-        flows = subst (λ (xs : List (Option ℕ)). (id : ℕ) → MayStep low (IsLeast (Some low) (limits_at s.slots f.levels.items id)) (fixed_at f.fixed.items id) (fixed_at xs id)) (sym out.fixed) (one_steps s f.fixed.items flow low below none f.levels.items (c.requires.at none));
-        stays = λ n h. record {
-          fresh = elim (bool_cases (is_in n f.stale.members)) [ inr e ↦ e | inl e ↦ absurd (true≢false (sym (stays n f.stale.members new.stale.members out.stale.grows e) ∙ h)) ];
-          left = off_stays f.left.items new.left.items (uses_at s.slots flow) new.stale.members (share_at (flow_in s.slots flow) low) n (out.left n) out.stale.marked h;
-          waiting = off_stays f.waiting.items new.waiting.items (uses_at s.slots flow) new.stale.members (weight_at s.slots flow) n (out.waiting n) out.stale.marked h;
-          key = ap (λ ks. key_at ks n) out.agenda;
+      fixes = record {
+        partly = record {
+          places = out.places;
+          levels = out.levels;
+          flows = subst (λ (xs : List (Option ℕ)). (id : ℕ) → MayStep low (IsLeast (Some low) (limits_at s.slots f.levels.items id)) (fixed_at f.fixed.items id) (fixed_at xs id)) (sym out.fixed) (one_steps s f.fixed.items flow low below none f.levels.items (c.requires.at none));
+          stays = λ n h. record {
+            fresh = elim (bool_cases (is_in n f.stale.members)) [ inr e ↦ e | inl e ↦ absurd (true≢false (sym (stays n f.stale.members new.stale.members out.stale.grows e) ∙ h)) ];
+            left = off_stays f.left.items new.left.items (uses_at s.slots flow) new.stale.members (share_at (flow_in s.slots flow) low) n (out.left n) out.stale.marked h;
+            waiting = off_stays f.waiting.items new.waiting.items (uses_at s.slots flow) new.stale.members (weight_at s.slots flow) n (out.waiting n) out.stale.marked h;
+            key = ap (λ ks. key_at ks n) out.agenda;
+          };
+          fewer = λ n. omega (arith, out.waiting n);
+          gone = λ n e. ap (λ ks. key_at ks n) out.agenda ∙ e;
         };
-        fewer = λ n. omega (arith, out.waiting n);
-        gone = λ n e. ap (λ ks. key_at ks n) out.agenda ∙ e;
+        agenda = out.agenda;
+        holds = out.holds;
       };
-      agenda = out.agenda;
-      holds = out.holds;
+      count = λ touched once there.
+          let i = is_in_In flow touched there in
+          record {
+            counted = λ reached h. subst (λ (xs : List (Option ℕ)). AreCounted s xs touched new.left.items new.waiting.items reached) (sym out.fixed)
+                (counted_one s f.fixed.items flow low below none touched once i f.left.items new.left.items f.waiting.items new.waiting.items reached out.left out.waiting h);
+            looks = subst (λ (xs : List (Option ℕ)). c.fix.new.steps + 2 * unfixed_uses s.slots xs touched ≤ c.args.steps.now + 2 * unfixed_uses s.slots f.fixed.items touched) (sym out.fixed)
+                (omega (arith, c.fix.ensures.looks, unfixed_one s f.fixed.items flow low below none touched once i));
+          };
     }
 
 pub returns-then-is_none-clause-done : goal.returns-then-is_none-clause-done
@@ -55,28 +65,10 @@ returns-then-is_none-clause-done g c =
     let f = c.args.filling.now in
     let flow = c.args.flow in
     let below : flow < length f.fixed.items = omega (arith, held_below s.slots flow c.requires.of.held, c.requires.of.places.fixed_len) in
-    subst (λ (xs : List (Option ℕ)). IsSome (fixed_at xs flow)) (sym c.fix.ensures.fixed) (subst IsSome (sym (get_or-set_same f.fixed.items flow (Some c.args.low) None below)) refl)
-
-pub returns-then-is_none-clause-count : goal.returns-then-is_none-clause-count
-returns-then-is_none-clause-count g c = λ touched once there.
-    let s = c.args.system.now in
-    let f = c.args.filling.now in
-    let flow = c.args.flow in
-    let low = c.args.low in
-    let new = c.fix.new.filling in
-    let out = c.fix.ensures in
-    let below : flow < length f.fixed.items = omega (arith, held_below s.slots flow c.requires.of.held, c.requires.of.places.fixed_len) in
-    let none = none_read f.fixed.items flow c.index.result.now below c.index.ensures (c.is_none.ensures ∙ ap not c.if-is_none.true) in
-    let i = is_in_In flow touched there in
-    record {
-      counted = λ reached h. subst (λ (xs : List (Option ℕ)). AreCounted s xs touched new.left.items new.waiting.items reached) (sym out.fixed)
-          (counted_one s f.fixed.items flow low below none touched once i f.left.items new.left.items f.waiting.items new.waiting.items reached out.left out.waiting h);
-      looks = subst (λ (xs : List (Option ℕ)). c.fix.new.steps + 2 * unfixed_uses s.slots xs touched ≤ c.args.steps.now + 2 * unfixed_uses s.slots f.fixed.items touched) (sym out.fixed)
-          (omega (arith, out.looks, unfixed_one s f.fixed.items flow low below none touched once i));
-    }
+    subst (λ (xs : List (Option ℕ)). IsSome (fixed_at xs flow)) (sym c.fix.ensures.fixes.fixed) (subst IsSome (sym (get_or-set_same f.fixed.items flow (Some c.args.low) None below)) refl)
 
 pub returns-else-is_none-clause-fixes : goal.returns-else-is_none-clause-fixes
-returns-else-is_none-clause-fixes g c = record { partly = partly_same c.args.system.now c.args.low c.args.filling.now c.requires.of.places; agenda = refl; holds = refl }
+returns-else-is_none-clause-fixes g c = fixes_same c.args.system.now c.args.flow c.args.low c.args.filling.now c.args.steps.now c.requires.of.places
 
 pub returns-else-is_none-clause-done : goal.returns-else-is_none-clause-done
 returns-else-is_none-clause-done g c =
@@ -84,6 +76,3 @@ returns-else-is_none-clause-done g c =
     let f = c.args.filling.now in
     let below : c.args.flow < length f.fixed.items = omega (arith, held_below s.slots c.args.flow c.requires.of.held, c.requires.of.places.fixed_len) in
     some_read f.fixed.items c.args.flow c.index.result.now below c.index.ensures (c.is_none.ensures ∙ ap not c.if-is_none.false)
-
-pub returns-else-is_none-clause-count : goal.returns-else-is_none-clause-count
-returns-else-is_none-clause-count g c = λ touched once there. record { counted = λ reached h. h; looks = omega arith }

@@ -16,7 +16,7 @@ loop-at-init g c =
       0,
       record {
         walk = walk_from next_on user_of s.uses (users_on s.users c.args.resource) c.first_on-at.result c.first_on-at.ensures.leads c.first_on-at.ensures.few;
-        partly = partly_same s c.args.low c.args.filling.now c.requires.places;
+        partly = partly_same s c.args.low c.args.filling.now c.requires.on.places;
         agenda = refl;
         holds = refl;
         done = λ i h. absurd (omega (arith, h));
@@ -42,7 +42,7 @@ fix_flow-requires-clause-of g c =
     let row = users_on s.users c.args.resource in
     let inv = c.loop-at.invariant in
     let r = looked next_on user_of s.uses row inv.0 c.loop-at.at inv.1.walk c.in-Some.i c.look-one.result c.in-Some.is c.look-one.ensures.there in
-    let f = on_held s c.requires.places.sound c.args.resource c.look-one.result.flow (in_at c.look-one.result.flow row inv.0 r.less (sym r.is)) in
+    let f = on_held s c.requires.on.places.sound c.args.resource c.look-one.result.flow (in_at c.look-one.result.flow row inv.0 r.less (sym r.is)) in
     record { places = inv.1.partly.places; held = subst IsSome (sym f.1) refl }
 
 pub fix_flow-requires-clause-at : goal.fix_flow-requires-clause-at
@@ -53,9 +53,9 @@ fix_flow-requires-clause-at g c = λ none.
     let r = looked next_on user_of s.uses row inv.0 c.loop-at.at inv.1.walk c.in-Some.i c.look-one.result c.in-Some.is c.look-one.ensures.there in
     let id = c.look-one.result.flow in
     let user = in_at id row inv.0 r.less (sym r.is) in
-    let used = same_in id c.args.resource row (uses_at s.slots id) (c.requires.places.sound.both id c.args.resource) user in (
+    let used = same_in id c.args.resource row (uses_at s.slots id) (c.requires.on.places.sound.both id c.args.resource) user in (
       level_in s c.loop-at.filling.levels.items id c.args.resource c.args.low used (ap (λ xs. get_or xs c.args.resource 0) inv.1.partly.levels ∙ c.requires.level),
-      above_still s row row c.args.low c.args.filling.now c.loop-at.filling inv.1.partly (λ n i. i) c.requires.above id user none,
+      above_still s row row c.args.low c.args.filling.now c.loop-at.filling inv.1.partly (λ n i. i) c.requires.on.above id user none,
     )
 
 pub loop-at-preserved : goal.loop-at-preserved
@@ -72,15 +72,15 @@ loop-at-preserved g c =
       suc k,
       record {
         walk = walk_on next_on user_of s.uses row k c.loop-at.at inv.1.walk c.in-Some.i c.look-one.result c.in-Some.is c.look-one.ensures.there;
-        partly = partly_on s c.args.low first old new inv.1.partly out.fixes.partly;
-        agenda = out.fixes.agenda ∙ inv.1.agenda;
-        holds = out.fixes.holds ∙ inv.1.holds;
+        partly = partly_on s c.args.low first old new inv.1.partly out.fixes.fixes.partly;
+        agenda = out.fixes.fixes.agenda ∙ inv.1.agenda;
+        holds = out.fixes.fixes.holds ∙ inv.1.holds;
         done = λ i h. below_more _ _
-            (λ i h. let id = get_or row i 0 in some_stays c.args.low (IsLeast (Some c.args.low) (limits_at s.slots old.levels.items id)) (fixed_at old.fixed.items id) (fixed_at new.fixed.items id) (out.fixes.partly.flows id) (inv.1.done i h))
+            (λ i h. let id = get_or row i 0 in some_stays c.args.low (IsLeast (Some c.args.low) (limits_at s.slots old.levels.items id)) (fixed_at old.fixed.items id) (fixed_at new.fixed.items id) (out.fixes.fixes.partly.flows id) (inv.1.done i h))
             (subst (λ n. IsSome (fixed_at new.fixed.items n)) r.is out.done) i (omega (arith, h));
         count = λ touched once there.
             let a = inv.1.count touched once there in
-            let b = out.count touched once (subst (λ n. is_in n touched ≡ true) (sym r.is) (there k r.less)) in
+            let b = out.fixes.count touched once (subst (λ n. is_in n touched ≡ true) (sym r.is) (there k r.less)) in
             record { counted = λ reached h. b.counted reached (a.counted reached h); looks = omega (arith, a.looks, b.looks, c.look-one.ensures.looks) };
       },
     )

@@ -15,8 +15,8 @@ returns-in-Some-clause-low c =
     let level = c.least_level-least.result.level in
     let bounds = unfixed_bounds s.slots f.fixed.items touched in
     let h = c.least_level-least.ensures.level in
-    let least = over_least low.level c.args.floor (waited_levels f.waiting.items f.levels.items reached) bounds (subst (λ (o : Option ℕ). IsLeast o (waited_levels f.waiting.items f.levels.items reached)) c.in-Some.ensures.0 h) c.requires.floor c.in-Some.ensures.2 in
-    low_waited s f.fixed.items touched reached f.left.items f.waiting.items f.levels.items c.requires.joined c.requires.counted (Some low) (least, subst (λ (o : Option ℕ). IsFloor o bounds) (sym c.in-Some.ensures.1) c.requires.floor)
+    let least = over_least low.level c.args.floor (waited_levels f.waiting.items f.levels.items reached) bounds (subst (λ (o : Option ℕ). IsLeast o (waited_levels f.waiting.items f.levels.items reached)) c.in-Some.ensures.0 h) c.requires.floor_is c.in-Some.ensures.2 in
+    low_waited s f.fixed.items touched reached f.left.items f.waiting.items f.levels.items c.requires.joined c.requires.counted (Some low) (least, subst (λ (o : Option ℕ). IsFloor o bounds) (sym c.in-Some.ensures.1) c.requires.floor_is)
 
 pub returns-in-None-clause-low : goal.returns-in-None-clause-low
 returns-in-None-clause-low c =

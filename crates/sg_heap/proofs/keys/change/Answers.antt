@@ -6,20 +6,20 @@ use Rattle.sg_heap.proofs.Placing.{length-keys}
 use Rattle.sg_heap.proofs.Changes.{loose_of, placed_changed, keys_changed, key_count_reset, key_there}
 use Rattle.sg_heap.proofs.keys.change.Goals as goal
 
-pub sift-requires-clause-hand : goal.sift-requires-clause-hand
-sift-requires-clause-hand g c =
+pub sift-requires : goal.sift-requires
+sift-requires g c =
     let a = c.requires.key.agenda in
     let la : c.args.at < length c.args.place.now = omega (arith, a.within) in
     record {
-      below = c.requires.key.below;
-      fits = omega (arith, a.within, a.placed.len);
-      slot = subst (λ s. s < length c.args.place.now) (sym c.requires.slot) (a.placed.slots c.args.at la);
-      placed = placed_changed c.args.heap.now c.args.place.now c.args.at c.args.entry a.placed la c.requires.slot;
+      hand = record {
+        below = c.requires.key.below;
+        fits = omega (arith, a.within, a.placed.len);
+        slot = subst (λ s. s < length c.args.place.now) (sym c.requires.slot) (a.placed.slots c.args.at la);
+        placed = placed_changed c.args.heap.now c.args.place.now c.args.at c.args.entry a.placed la c.requires.slot;
+      };
+      loose = loose_of c.args.heap.now (set c.args.heap.now c.args.at c.args.entry) c.args.count c.args.count c.args.at a.order (omega arith) c.requires.key.below
+          (λ i h ne. get_or-set_other c.args.heap.now c.args.at i c.args.entry no_entry ne);
     }
-
-pub sift-requires-clause-loose : goal.sift-requires-clause-loose
-sift-requires-clause-loose g c = loose_of c.args.heap.now (set c.args.heap.now c.args.at c.args.entry) c.args.count c.args.count c.args.at c.requires.key.agenda.order (omega arith) c.requires.key.below
-    (λ i h ne. get_or-set_other c.args.heap.now c.args.at i c.args.entry no_entry ne)
 
 pub returns-clause-keys : goal.returns-clause-keys
 returns-clause-keys g c = c.sift.ensures.sifted.keys ∙ keys_changed c.args.heap.now c.args.place.now c.args.at c.args.entry c.requires.key.agenda.placed (omega (arith, c.requires.key.agenda.within)) c.requires.slot c.args.count c.requires.key.below

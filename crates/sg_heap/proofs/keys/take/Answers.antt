@@ -23,21 +23,24 @@ left heap heap' place place' count at a h p order len keys =
 again : (count : ℕ) → 0 < count → (count - 1) + 1 ≡ count
 again count h = omega arith
 
-pub drop_in-requires-clause-hand : goal.drop_in-requires-clause-hand
-drop_in-requires-clause-hand g c =
+pub drop_in-requires : goal.drop_in-requires
+drop_in-requires g c =
+    let heap = c.args.heap.now in
+    let place = c.args.place.now in
+    let at = c.args.at in
+    let last = c.args.count - 1 in
     let a = c.requires.key.agenda in
-    let last : c.args.count - 1 < length c.args.place.now = omega (arith, a.within) in
+    let last_in : last < length place = omega (arith, a.within) in
+    let taken = taken_before heap place at last a.placed (omega arith) last_in c.if-at-last.true in
     record {
-      below = c.if-at-last.true;
-      fits = omega (arith, a.within, a.placed.len, c.put.auto.heap);
-      slot = subst (λ n. (entry_at c.args.heap.now (c.args.count - 1)).slot < n) (sym c.put.auto.place) (a.placed.slots (c.args.count - 1) last);
-      placed = rw (c.put.ensures.heap, c.put.ensures.place) (taken_before c.args.heap.now c.args.place.now c.args.at (c.args.count - 1) a.placed (omega arith) last c.if-at-last.true).placed;
+      hand = record {
+        below = c.if-at-last.true;
+        fits = omega (arith, a.within, a.placed.len, c.put.auto.heap);
+        slot = subst (λ n. (entry_at heap last).slot < n) (sym c.put.auto.place) (a.placed.slots last last_in);
+        placed = rw (c.put.ensures.heap, c.put.ensures.place) taken.placed;
+      };
+      loose = rw c.put.ensures.heap (loose_of heap (set (set heap last (entry_at heap at)) at (entry_at heap last)) c.args.count last at a.order (omega arith) c.requires.key.below taken.same);
     }
-
-pub drop_in-requires-clause-loose : goal.drop_in-requires-clause-loose
-drop_in-requires-clause-loose g c =
-    rw c.put.ensures.heap (loose_of c.args.heap.now (set (set c.args.heap.now (c.args.count - 1) (entry_at c.args.heap.now c.args.at)) c.args.at (entry_at c.args.heap.now (c.args.count - 1))) c.args.count (c.args.count - 1) c.args.at c.requires.key.agenda.order (omega arith) c.requires.key.below
-    (taken_before c.args.heap.now c.args.place.now c.args.at (c.args.count - 1) c.requires.key.agenda.placed (omega arith) (omega (arith, c.requires.key.agenda.within)) c.if-at-last.true).same)
 
 pub returns-then-at-last-clause-keys : goal.returns-then-at-last-clause-keys
 returns-then-at-last-clause-keys g c =

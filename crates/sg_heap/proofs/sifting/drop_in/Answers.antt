@@ -34,5 +34,10 @@ rise-requires-clause-hand g c =
 pub rise-requires-clause-rises : goal.rise-requires-clause-rises
 rise-requires-clause-rises g c = loose_rises _ c.args.count c.loop-at.at (omega arith) c.loop-at.invariant.loose
 
-pub returns-clause-most : goal.returns-clause-most
-returns-clause-most g c = omega (arith, digits-le (c.loop-at.at + 1) c.args.count (omega arith), digits-le c.loop-at.at c.args.count (omega arith))
+pub returns : goal.returns
+returns g c =
+    let out = c.rise.ensures.sifted in
+    record {
+      sifted = record { order = out.order; placed = out.placed; keys = out.keys ∙ c.loop-at.invariant.keys };
+      most = omega (arith, digits-le (c.loop-at.at + 1) c.args.count (omega arith), digits-le c.loop-at.at c.args.count (omega arith));
+    }

@@ -1,11 +1,12 @@
 use Rattle.std.proofs.Common.{refl, sym, ap, ◌∙◌, arith, rules}
-use Rattle.sg_kernel.specs.declared.stop.Stop.TheVariants.{Budget}
-use Rattle.sg_kernel.specs.Known.{Known, after}
+use Rattle.sg_calls.specs.declared.stop.Stop.TheVariants.{Budget}
+use Rattle.sg_calls.specs.Known.{Known, after}
 use Rattle.sg_kernel.specs.Passes.{all_fail, enters_one}
-use Rattle.sg_kernel.specs.World.{Setup}
-use Rattle.sg_kernel.specs.Steps.{Step, result_of}
-use Rattle.sg_kernel.specs.kept.Sound.{core_of, known_of, row_next, setup_in}
-use Rattle.sg_kernel.proofs.Each.{after_stop, ok_anyway, then_after, then_stops}
+use Rattle.sg_setup.specs.Setup.{Setup}
+use Rattle.sg_calls.specs.Steps.{Step, result_of}
+use Rattle.sg_calls.specs.kept.Sound.{core_of, known_of, setup_in}
+use Rattle.sg_kernel.specs.kept.Coming.{row_next}
+use Rattle.sg_calls.proofs.Each.{after_stop, ok_anyway, then_after, then_stops}
 use Rattle.sg_kernel.proofs.Entering.{change_is, change_used, rows_same}
 use Rattle.sg_kernel.proofs.Leaving.{leaves_both, leaves_same}
 use Rattle.sg_kernel.proofs.entries.change.Goals as goal

@@ -2,13 +2,13 @@ use Rattle.std.specs.Prelude.{is_some}
 use Rattle.std.proofs.Common.{◌+◌, ◌-◌, drop, get_or, set, sym, ap, ◌∙◌, arith, rules}
 use Rattle.sg_activity.specs.Doing.{Doing}
 use Rattle.sg_activity.specs.Underway.{hits}
-use Rattle.sg_kernel.specs.declared.fields.Fields.{Fields}
-use Rattle.sg_kernel.specs.declared.owners.How.TheVariants as how
-use Rattle.sg_kernel.specs.declared.owners.Whose.TheVariants.{Over}
-use Rattle.sg_kernel.specs.Answers.{answers}
-use Rattle.sg_kernel.specs.Known.{after}
-use Rattle.sg_kernel.specs.kept.Owners.{Owned}
-use Rattle.sg_kernel.specs.kept.Sound.{core_of, known_of}
+use Rattle.sg_calls.specs.declared.fields.Fields.{Fields}
+use Rattle.sg_owners.specs.declared.owners.How.TheVariants as how
+use Rattle.sg_owners.specs.declared.owners.Whose.TheVariants.{Over}
+use Rattle.sg_calls.specs.Answers.{answers}
+use Rattle.sg_calls.specs.Known.{after}
+use Rattle.sg_owners.specs.Owners.{Owned}
+use Rattle.sg_calls.specs.kept.Sound.{core_of, known_of}
 use Rattle.sg_kernel.proofs.Failing.{failed_owner, failed_passing, not_over}
 use Rattle.sg_kernel.proofs.Hits.{rest_is_hit}
 use Rattle.sg_kernel.proofs.Leaving.{leaves_given}
@@ -20,8 +20,8 @@ fail-whose-requires-clause-to c = omega (arith, c.requires.hit.to, c.requires.pa
 pub fail-whose-requires-clause-under_way : goal.fail-whose-requires-clause-under_way
 fail-whose-requires-clause-under_way c = not_over c.args.fields.now c.args.serial.0 c.requires.hit.task c.requires.hit.at c.requires.passing.meeting
 
-pub give_up-requires-clause-under_way : goal.give_up-requires-clause-under_way
-give_up-requires-clause-under_way c = ap is_some c.requires.hit.at
+pub give_up-requires : goal.give_up-requires
+give_up-requires c = record { from = c.requires.hit.from; under_way = ap is_some c.requires.hit.at }
 
 pub answer_owners-requires-clause-whose : goal.answer_owners-requires-clause-whose
 answer_owners-requires-clause-whose c = failed_owner c.args.fields.now c.args.serial.0 c.fail-whose.result c.fail-whose.ensures.was c.requires.hit c.requires.passing

@@ -1,11 +1,11 @@
 use Rattle.std.proofs.Common.{◌≡◌, ◌≢◌, drop, refl, sym, ap, ◌∙◌, arith, rules}
 use Rattle.sg_activity.specs.Underway.{hits}
-use Rattle.sg_kernel.specs.Known.{Known}
+use Rattle.sg_calls.specs.Known.{Known}
 use Rattle.sg_kernel.specs.Passes.{fails}
-use Rattle.sg_kernel.specs.Steps.{result_of}
-use Rattle.sg_kernel.specs.World.{Setup}
-use Rattle.sg_kernel.specs.kept.Sound.{known_of, setup_in}
-use Rattle.sg_kernel.proofs.Each.{still, still_none, still_stops, stops_none}
+use Rattle.sg_calls.specs.Steps.{result_of}
+use Rattle.sg_setup.specs.Setup.{Setup}
+use Rattle.sg_calls.specs.kept.Sound.{known_of, setup_in}
+use Rattle.sg_calls.proofs.Each.{still, still_none, still_stops, stops_none}
 use Rattle.sg_kernel.proofs.Ends.{still_fails, still_unfailed}
 use Rattle.sg_kernel.proofs.Leaving.{leaves_both, leaves_same}
 use Rattle.sg_kernel.proofs.failures.fail_all.Goals as goal

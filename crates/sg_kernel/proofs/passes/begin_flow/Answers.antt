@@ -3,7 +3,7 @@ use Rattle.std.proofs.lemmas.Grind.{common_steps}
 use Rattle.sg_activity.specs.Doing.{Doing, ended_first}
 use Rattle.sg_activity.specs.Task.{next_phase, phase_after}
 use Rattle.sg_lives.specs.declared.kinds.PhaseKind.TheVariants as phase
-use Rattle.sg_kernel.proofs.Meets.{AreBusy, busy_set}
+use Rattle.sg_calls.proofs.Meets.{AreBusy, busy_set}
 use Rattle.sg_kernel.proofs.passes.begin_flow.Goals as goal
 
 pub returns : goal.returns

@@ -1,11 +1,11 @@
 use Rattle.std.proofs.Common.{◌≡◌, ◌≢◌, inl, refl, drop, sym, ap, ◌∙◌, arith, rules}
-use Rattle.sg_kernel.specs.Known.{Known}
+use Rattle.sg_calls.specs.Known.{Known}
 use Rattle.sg_kernel.specs.Passes.{ends}
-use Rattle.sg_kernel.specs.Steps.{result_of}
-use Rattle.sg_kernel.specs.World.{Setup}
-use Rattle.sg_kernel.specs.kept.Sound.{known_of, setup_in}
+use Rattle.sg_calls.specs.Steps.{result_of}
+use Rattle.sg_setup.specs.Setup.{Setup}
+use Rattle.sg_calls.specs.kept.Sound.{known_of, setup_in}
 use Rattle.sg_kernel.proofs.Counting.{counted_more, counts_all, counts_used}
-use Rattle.sg_kernel.proofs.Each.{still, still_stops, still_none, stops_none}
+use Rattle.sg_calls.proofs.Each.{still, still_stops, still_none, stops_none}
 use Rattle.sg_kernel.proofs.Ends.{still_ends, still_used}
 use Rattle.sg_kernel.proofs.passes.end_due.Goals as goal
 

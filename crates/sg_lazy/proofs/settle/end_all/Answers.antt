@@ -38,8 +38,8 @@ loop-flow-preserved g c =
         flow_room = omega (arith, out.flow_room, inv.without.flow_room, length-take (k + 1) ended, length-take k ended, less);
         use_room = omega (arith, out.use_room, inv.without.use_room, ap length row, part_next (λ n. length (uses_at s.slots n)) ended k less);
       };
-      between = c.end.ensures.between;
-      changed = notes_on s t u c.args.levels.now c.loop-flow.levels c.end.new.self inv.changed c.end.ensures.changed;
-      within = λ p q pass w. c.end.ensures.within p q (λ r i. pass k less r (subst (λ xs. is_in r xs ≡ true) row i)) (inv.within p q pass w);
+      between = c.end.ensures.keeps.between;
+      changed = notes_on s t u c.args.levels.now c.loop-flow.levels c.end.new.self inv.changed c.end.ensures.keeps.changed;
+      within = λ p q pass w. c.end.ensures.keeps.joins p q (λ r i. pass k less r (subst (λ xs. is_in r xs ≡ true) row i)) (inv.within p q pass w);
       looks = omega (arith, inv.looks, c.end.ensures.looks, ap length row, part_next (λ n. length (uses_at s.slots n)) ended k less);
     }

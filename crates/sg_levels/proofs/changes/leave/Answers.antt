@@ -1,11 +1,9 @@
-use Rattle.std.proofs.Common.{◌*◌, ◌<◌, ◌≤◌, length, length-set, slice_index, sym, ap, subst, ◌∙◌, arith}
+use Rattle.std.proofs.Common.{◌<◌, length, length-set, ap, subst, ◌∙◌, arith}
 use Rattle.sg_base.specs.MarkSet.{MarkSet}
-use Rattle.sg_chains.specs.Chained.{times}
 use Rattle.sg_maxmin.specs.Sharing.{uses_at}
 use Rattle.sg_levels.specs.Kept.{Shifts}
 use Rattle.sg_levels.proofs.Users.{held_below}
-use Rattle.sg_levels.proofs.Demand.{parts_fit, part_in}
-use Rattle.sg_levels.proofs.Keeping.{moved_kept}
+use Rattle.sg_levels.proofs.Keeping.{can_shift, moved_kept}
 use Rattle.sg_levels.proofs.changes.leave.Goals as goal
 
 pub part-part-requires : goal.part-part-requires
@@ -26,16 +24,8 @@ visit_uses-requires-clause-places g c =
       active = places.active;
     }
 
-pub visit_uses-requires-clause-some : goal.visit_uses-requires-clause-some
-visit_uses-requires-clause-some g c = λ x.
-    let s = c.args.system.now in
-    let f = c.args.flow in
-    subst (λ b. times x (uses_at s.slots f) * b ≤ slice_index c.args.kept.now.demands.items x) (sym c.part-part.ensures) (omega (arith, part_in s c.requires.kept.places.sound c.args.kept.now.parts.items f x, c.requires.kept.demands x))
-
-pub visit_uses-requires-clause-fits : goal.visit_uses-requires-clause-fits
-visit_uses-requires-clause-fits g c = λ x.
-    let s = c.args.system.now in
-    omega (arith, parts_fit s c.requires.kept.places.sound c.args.kept.now.parts.items c.requires.kept.fit c.args.flow 0 (omega arith) x, c.requires.kept.demands x)
+pub visit_uses-requires-clause-shift : goal.visit_uses-requires-clause-shift
+visit_uses-requires-clause-shift g c = can_shift c.args.system.now c.args.kept.now c.args.flow c.part-part.result 0 c.requires.kept c.part-part.ensures (omega arith)
 
 pub returns-clause-left : goal.returns-clause-left
 returns-clause-left g c =

@@ -14,11 +14,11 @@ loop-next-init g c =
     let row = users_on s.users c.args.resource in
     let users = c.args.first.users in
     let n = length row in
-    let few : users ≤ c.args.looks = c.requires.users.few in
+    let few : users ≤ c.args.looks = c.requires.first.pass.few in
     record {
       way = way_starts (slice_index s.capacities c.args.resource) s.slots c.args.levels.now row;
-      found = first_pass s c.args.resource c.args.levels.now c.args.looks c.args.steps.now (c.args.steps.now + users) (Some c.args.first) c.requires.first c.requires.users refl (omega (arith, few)) (λ e. absurd (none_some (sym e)));
-      users = c.requires.users.all;
+      found = first_pass s c.args.resource c.args.levels.now c.args.looks c.args.steps.now (c.args.steps.now + users) (Some c.args.first) c.requires.first.level_is c.requires.first.pass refl (omega (arith, few)) (λ e. absurd (none_some (sym e)));
+      users = c.requires.first.pass.all;
     }
 
 pub loop-next-smaller : goal.loop-next-smaller
@@ -63,9 +63,9 @@ returns-in_default-level-clause-hold g c =
 pub returns-in_default-level-clause-users : goal.returns-in_default-level-clause-users
 returns-in_default-level-clause-users g c =
     let found = subst (IsNext c.args.system.now c.args.resource c.args.levels.now c.loop-next.low c.loop-next.left c.args.looks c.args.steps.now (c.loop-next.steps + c.args.first.users)) c.in-Some.is c.loop-next.invariant.found in
-    found.users.all ∙ sym c.requires.users.all
+    found.users.all ∙ sym c.requires.first.pass.all
 
 pub returns-then-level-low-clause-users : goal.returns-then-level-low-clause-users
 returns-then-level-low-clause-users g c =
     let found = subst (IsNext c.args.system.now c.args.resource c.args.levels.now c.loop-next.low c.loop-next.left c.args.looks c.args.steps.now (c.loop-next.steps + c.args.first.users)) c.in-Some.is c.loop-next.invariant.found in
-    found.users.all ∙ sym c.requires.users.all
+    found.users.all ∙ sym c.requires.first.pass.all

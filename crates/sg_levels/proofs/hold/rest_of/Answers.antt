@@ -45,24 +45,21 @@ below-requires g c =
     let inv = c.loop-at.invariant in
     let r = looked next_on user_of s.uses row inv.0 c.loop-at.at inv.1.walk c.in-Some.i c.look-one.result c.in-Some.is c.look-one.ensures.there in
     let f = on_held s c.requires.sound c.args.resource c.look-one.result.flow (in_at c.look-one.result.flow row inv.0 r.less (sym r.is)) in
-    omega (arith, flow_below s.slots c.look-one.result.flow f.0 f.1, c.requires.levels)
+    omega (arith, flow_below s.slots c.look-one.result.flow f.0 f.1, c.requires.levels_len)
 
-pub with_flow-rest-requires-clause-held : goal.with_flow-rest-requires-clause-held
-with_flow-rest-requires-clause-held g c =
+pub with_flow-rest-requires : goal.with_flow-rest-requires
+with_flow-rest-requires g c =
     let s = c.args.system.now in
     let row = users_on s.users c.args.resource in
     let inv = c.loop-at.invariant in
     let r = looked next_on user_of s.uses row inv.0 c.loop-at.at inv.1.walk c.in-Some.i c.look-one.result c.in-Some.is c.look-one.ensures.there in
     let f = on_held s c.requires.sound c.args.resource c.look-one.result.flow (in_at c.look-one.result.flow row inv.0 r.less (sym r.is)) in
-    subst IsSome (sym f.1) refl
-
-pub with_flow-rest-requires-clause-fits : goal.with_flow-rest-requires-clause-fits
-with_flow-rest-requires-clause-fits g c =
-    let s = c.args.system.now in
-    let row = users_on s.users c.args.resource in
-    let inv = c.loop-at.invariant in
-    let r = looked next_on user_of s.uses row inv.0 c.loop-at.at inv.1.walk c.in-Some.i c.look-one.result c.in-Some.is c.look-one.ensures.there in
-    omega (arith, inv.1.waiting, room_next s.slots (below_at c.args.levels.now c.args.low) row inv.0 r.less, ap (weight_at s.slots) r.is, weights_fit s c.requires.sound c.args.resource)
+    record {
+      sound = c.requires.sound;
+      held = subst IsSome (sym f.1) refl;
+      fits = omega (arith, inv.1.waiting, room_next s.slots (below_at c.args.levels.now c.args.low) row inv.0 r.less, ap (weight_at s.slots) r.is, weights_fit s c.requires.sound c.args.resource);
+      few = omega (arith, inv.1.few, c.if-rest-looks.false, c.ranges.looks.fits);
+    }
 
 pub loop-at-preserved : goal.loop-at-preserved
 loop-at-preserved g c =
@@ -84,9 +81,6 @@ loop-at-preserved g c =
         looks = omega (arith, inv.1.looks, c.look-one.ensures.looks);
       },
     )
-
-pub with_flow-rest-requires-clause-few : goal.with_flow-rest-requires-clause-few
-with_flow-rest-requires-clause-few g c = omega (arith, c.loop-at.invariant.1.few, c.if-rest-looks.false, c.ranges.looks.fits)
 
 pub returns-clause-rest : goal.returns-clause-rest
 returns-clause-rest g c =

@@ -50,7 +50,7 @@ shift-requires-clause-some g c =
     let row = uses_at s.slots c.args.flow in
     let inv = c.loop-at.invariant in
     let r = looked next_of_flow resource_of s.uses row inv.0 c.loop-at.at inv.1.walk c.in-Some.i c.look-one.result c.in-Some.is c.look-one.ensures.there in
-    shift_some c.args.before c.args.after c.args.demands.now.items c.loop-at.demands.items row inv.0 c.look-one.result.resource r.less r.is inv.1.shifts c.requires.some
+    shift_some c.args.before c.args.after c.args.demands.now.items c.loop-at.demands.items row inv.0 c.look-one.result.resource r.less r.is inv.1.shifts c.requires.shift.some
 
 pub shift-requires-clause-fits : goal.shift-requires-clause-fits
 shift-requires-clause-fits g c =
@@ -58,7 +58,7 @@ shift-requires-clause-fits g c =
     let row = uses_at s.slots c.args.flow in
     let inv = c.loop-at.invariant in
     let r = looked next_of_flow resource_of s.uses row inv.0 c.loop-at.at inv.1.walk c.in-Some.i c.look-one.result c.in-Some.is c.look-one.ensures.there in
-    shift_fits c.args.before c.args.after c.args.demands.now.items c.loop-at.demands.items row inv.0 c.look-one.result.resource r.less r.is inv.1.shifts c.requires.fits
+    shift_fits c.args.before c.args.after c.args.demands.now.items c.loop-at.demands.items row inv.0 c.look-one.result.resource r.less r.is inv.1.shifts c.requires.shift.fits
 
 pub loop-at-preserved : goal.loop-at-preserved
 loop-at-preserved g c =
@@ -74,7 +74,7 @@ loop-at-preserved g c =
     let r = looked next_of_flow resource_of s.uses row k c.loop-at.at inv.1.walk c.in-Some.i c.look-one.result c.in-Some.is c.look-one.ensures.there in
     let below : get_or row k 0 < length s.capacities = All-get_or (λ n. n < length s.capacities) row k 0 r.less (rows_exist s c.requires.sound c.args.flow) in
     let here : one < length old = omega (arith, below, r.is, c.requires.places, inv.1.places) in
-    let some = shift_some before after first old row k one r.less r.is inv.1.shifts c.requires.some in (
+    let some = shift_some before after first old row k one r.less r.is inv.1.shifts c.requires.shift.some in (
       suc k,
       record {
         walk = walk_on next_of_flow resource_of s.uses row k c.loop-at.at inv.1.walk c.in-Some.i c.look-one.result c.in-Some.is c.look-one.ensures.there;

@@ -1,12 +1,11 @@
-use Rattle.std.proofs.Common.{◌≡◌, ◌*◌, ◌<◌, ◌≤◌, ◌^◌, inl, inr, true, IsTrue, length, length-set, set, slice_index, refl, sym, ap, subst, ◌∙◌, arith}
+use Rattle.std.proofs.Common.{◌≡◌, ◌<◌, ◌≤◌, ◌^◌, inl, inr, true, IsTrue, length, length-set, set, refl, sym, ap, subst, ◌∙◌, arith}
 use Rattle.sg_base.specs.MarkSet.{MarkSet, is_in}
-use Rattle.sg_chains.specs.Chained.{times}
 use Rattle.sg_maxmin.specs.Sharing.{uses_at}
 use Rattle.sg_levels.specs.Numbered.{flow_in}
 use Rattle.sg_levels.specs.Kept.{Shifts}
 use Rattle.sg_levels.proofs.Users.{held_below, weighs}
-use Rattle.sg_levels.proofs.Demand.{parts_fit, part_in, part_le}
-use Rattle.sg_levels.proofs.Keeping.{moved_kept}
+use Rattle.sg_levels.proofs.Demand.{part_le}
+use Rattle.sg_levels.proofs.Keeping.{can_shift, moved_kept}
 use Rattle.sg_levels.proofs.Noted.{noted_one}
 use Rattle.sg_levels.proofs.Refilling.{moved_gives}
 use Rattle.sg_levels.proofs.Within.{marked_or}
@@ -18,19 +17,11 @@ part-before-requires g c = omega (arith, held_below c.args.system.now.slots c.ar
 pub insert-requires : goal.insert-requires
 insert-requires g c = omega (arith, held_below c.args.system.now.slots c.args.flow c.requires.held, c.requires.kept.places.moved)
 
-pub shift_uses-requires-clause-some : goal.shift_uses-requires-clause-some
-shift_uses-requires-clause-some g c = λ x.
-    let s = c.args.system.now in
-    let f = c.args.flow in
-    let parts = c.args.kept.now.parts.items in
-    subst (λ b. times x (uses_at s.slots f) * b ≤ slice_index c.args.kept.now.demands.items x) (sym c.part-before.ensures) (omega (arith, part_in s c.requires.kept.places.sound parts f x, c.requires.kept.demands x))
-
-pub shift_uses-requires-clause-fits : goal.shift_uses-requires-clause-fits
-shift_uses-requires-clause-fits g c = λ x.
-    let s = c.args.system.now in
-    let f = c.args.flow in
-    let le : c.part_of-after.result ≤ 2 ^ 65 = omega (arith, c.part_of-after.ensures, part_le (flow_in s.slots f) c.args.level (weighs s c.requires.kept.places.sound f).1) in
-    omega (arith, parts_fit s c.requires.kept.places.sound c.args.kept.now.parts.items c.requires.kept.fit f c.part_of-after.result le x, c.requires.kept.demands x)
+pub shift_uses-requires-clause-shift : goal.shift_uses-requires-clause-shift
+shift_uses-requires-clause-shift g c =
+    let kept = c.requires.kept in
+    let le : c.part_of-after.result ≤ 2 ^ 65 = omega (arith, c.part_of-after.ensures, part_le (flow_in c.args.system.now.slots c.args.flow) c.args.level (weighs c.args.system.now kept.places.sound c.args.flow).1) in
+    can_shift c.args.system.now c.args.kept.now c.args.flow c.part-before.result c.part_of-after.result kept c.part-before.ensures le
 
 pub returns-clause-given : goal.returns-clause-given
 returns-clause-given g c =

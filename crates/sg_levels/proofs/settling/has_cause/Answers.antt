@@ -8,6 +8,9 @@ use Rattle.sg_levels.proofs.Users.{rows_exist}
 use Rattle.sg_levels.proofs.Walked.{can_look, looked, walk_on, nearer}
 use Rattle.sg_levels.proofs.settling.has_cause.Goals as goal
 
+pub bound_of-requires : goal.bound_of-requires
+bound_of-requires g c = record { sound = c.requires.kept.places.sound; held = c.requires.held }
+
 pub look-one-requires : goal.look-one-requires
 look-one-requires g c =
     let s = c.args.system.now in
@@ -28,8 +31,8 @@ hold-requires g c =
     let row = uses_at s.slots c.args.flow in
     let inv = c.loop-at.invariant in
     let r = looked next_of_flow resource_of s.uses row inv.0 c.loop-at.at inv.1.walk c.in-Some.i c.look-one.result c.in-Some.is c.look-one.ensures.there in
-    let below : get_or row inv.0 0 < length s.capacities = All-get_or (λ n. n < length s.capacities) row inv.0 0 r.less (rows_exist s c.requires.places.sound c.args.flow) in
-    omega (arith, below, r.is, c.requires.places.holds)
+    let below : get_or row inv.0 0 < length s.capacities = All-get_or (λ n. n < length s.capacities) row inv.0 0 r.less (rows_exist s c.requires.kept.places.sound c.args.flow) in
+    omega (arith, below, r.is, c.requires.kept.places.holds)
 
 pub returns-then-is_same-2-clause-cause : goal.returns-then-is_same-2-clause-cause
 returns-then-is_same-2-clause-cause g c = λ t.

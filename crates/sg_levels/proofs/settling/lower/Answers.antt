@@ -7,30 +7,33 @@ use Rattle.sg_levels.proofs.settling.lower.Goals as goal
 pub move_flow-requires : goal.move_flow-requires
 move_flow-requires g c = record { kept = c.requires.kept; held = subst IsSome (sym (held_user c.args.system.now c.requires.kept.places.sound c.args.resource c.args.flow c.requires.user)) refl }
 
-pub returns-then-not-was-clause-moved : goal.returns-then-not-was-clause-moved
-returns-then-not-was-clause-moved g c = let m = c.move_flow.ensures.moved in record { level_is = m.level_is; part_is = m.part_is; noted = m.noted; stale = m.stale; holds = m.holds }
-
-pub returns-then-not-was-clause-kept : goal.returns-then-not-was-clause-kept
-returns-then-not-was-clause-kept g c =
-    let kept = c.move_flow.ensures.kept in
+pub returns-then-not-was-clause-to : goal.returns-then-not-was-clause-to
+returns-then-not-was-clause-to g c =
+    let out = c.move_flow.ensures.to in
+    let m = out.moved in
+    let kept = out.kept in
     let places = kept.places in
     record {
-      places = record {
-        sound = places.sound;
-        levels = places.levels;
-        parts = places.parts;
-        moved = places.moved;
-        stale = places.stale;
-        holds = places.holds;
-        demands = places.demands;
-        counts = places.counts;
-        active = c.remove.ensures.room ∙ places.active;
+      moved = record { level_is = m.level_is; part_is = m.part_is; noted = m.noted; stale = m.stale; holds = m.holds };
+      kept = record {
+        places = record {
+          sound = places.sound;
+          levels = places.levels;
+          parts = places.parts;
+          moved = places.moved;
+          stale = places.stale;
+          holds = places.holds;
+          demands = places.demands;
+          counts = places.counts;
+          active = c.remove.ensures.room ∙ places.active;
+        };
+        demands = kept.demands;
+        counts = kept.counts;
+        fit = kept.fit;
+        none = kept.none;
+        longest = kept.longest;
       };
-      demands = kept.demands;
-      counts = kept.counts;
-      fit = kept.fit;
-      none = kept.none;
-      longest = kept.longest;
+      looks = out.looks;
     }
 
 pub returns-then-not-was-clause-activates : goal.returns-then-not-was-clause-activates

@@ -80,7 +80,7 @@ visit-requires-clause-some g c =
     let row = uses_at s.slots c.args.flow in
     let inv = c.loop-at.invariant in
     let r = looked next_of_flow resource_of s.uses row inv.0 c.loop-at.at inv.1.walk c.in-Some.i c.look-one.result c.in-Some.is c.look-one.ensures.there in
-    shift_some c.args.before c.args.after c.args.kept.now.demands.items c.loop-at.kept.demands.items row inv.0 c.look-one.result.resource r.less r.is inv.1.shifts c.requires.some
+    shift_some c.args.before c.args.after c.args.kept.now.demands.items c.loop-at.kept.demands.items row inv.0 c.look-one.result.resource r.less r.is inv.1.shifts c.requires.shift.some
 
 pub visit-requires-clause-fits : goal.visit-requires-clause-fits
 visit-requires-clause-fits g c =
@@ -88,7 +88,7 @@ visit-requires-clause-fits g c =
     let row = uses_at s.slots c.args.flow in
     let inv = c.loop-at.invariant in
     let r = looked next_of_flow resource_of s.uses row inv.0 c.loop-at.at inv.1.walk c.in-Some.i c.look-one.result c.in-Some.is c.look-one.ensures.there in
-    shift_fits c.args.before c.args.after c.args.kept.now.demands.items c.loop-at.kept.demands.items row inv.0 c.look-one.result.resource r.less r.is inv.1.shifts c.requires.fits
+    shift_fits c.args.before c.args.after c.args.kept.now.demands.items c.loop-at.kept.demands.items row inv.0 c.look-one.result.resource r.less r.is inv.1.shifts c.requires.shift.fits
 
 pub loop-at-preserved : goal.loop-at-preserved
 loop-at-preserved g c =
@@ -107,7 +107,7 @@ loop-at-preserved g c =
     let below : get_or row k 0 < length s.capacities = All-get_or (λ n. n < length s.capacities) row k 0 r.less (rows_exist s c.requires.places.sound c.args.flow) in
     let here : one < length old.demands.items = omega (arith, below, r.is, c.requires.places.demands, inv.1.levels.demands) in
     let counted : one < length old.counts.items = omega (arith, below, r.is, c.requires.places.counts, inv.1.levels.counts) in
-    let some = shift_some before after first.demands.items old.demands.items row k one r.less r.is inv.1.shifts c.requires.some in (
+    let some = shift_some before after first.demands.items old.demands.items row k one r.less r.is inv.1.shifts c.requires.shift.some in (
       suc k,
       record {
         walk = walk_on next_of_flow resource_of s.uses row k c.loop-at.at inv.1.walk c.in-Some.i c.look-one.result c.in-Some.is c.look-one.ensures.there;

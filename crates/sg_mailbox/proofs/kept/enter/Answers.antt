@@ -20,12 +20,12 @@ returns-in-Some-clause-there c =
     let met = somebody_met c.in-Some.met c.in-Some.other (partner c.args.sends posts) (sym c.in-Some.is ∙ c.requires.found.met) in
     c.withdraw.ensures.left c.args.mailbox
     ∙ ap (λ s. posts_without s posts) (sym met.2)
-    ∙ sym (ap (λ o. posts_by_partner o c.args.sends c.args.side c.args.serial posts) met.1 ∙ (met_first c.args.sends posts met.0 (ordered_in c.args.kept.now c.requires.kept.ordered c.args.mailbox) met.1).1)
+    ∙ sym (ap (λ o. posts_by_partner o c.args.sends c.args.side c.args.serial posts) met.1 ∙ (met_first c.args.sends posts met.0 (ordered_in c.args.kept.now c.requires.able.kept.ordered c.args.mailbox) met.1).1)
 
 pub returns-in-Some-clause-elsewhere : goal.returns-in-Some-clause-elsewhere
 returns-in-Some-clause-elsewhere c = λ other apart.
     let old = c.args.kept.now in
     let posts = waiters (posts_of old) c.args.mailbox in
     let met = somebody_met c.in-Some.met c.in-Some.other (partner c.args.sends posts) (sym c.in-Some.is ∙ c.requires.found.met) in
-    let first = (met_first c.args.sends posts met.0 (ordered_in old c.requires.kept.ordered c.args.mailbox) met.1).0 in
-    c.withdraw.ensures.left other ∙ ap (λ s. posts_without s (waiters (posts_of old) other)) (sym met.2) ∙ without_none (λ (p : Post). p.serial.0) met.0.serial.0 (waiters (posts_of old) other) (only_there old c.requires.kept c.args.mailbox other apart met.0 first)
+    let first = (met_first c.args.sends posts met.0 (ordered_in old c.requires.able.kept.ordered c.args.mailbox) met.1).0 in
+    c.withdraw.ensures.left other ∙ ap (λ s. posts_without s (waiters (posts_of old) other)) (sym met.2) ∙ without_none (λ (p : Post). p.serial.0) met.0.serial.0 (waiters (posts_of old) other) (only_there old c.requires.able.kept c.args.mailbox other apart met.0 first)

@@ -85,9 +85,9 @@ loop-n-preserved g c =
       left_len = counted.left_len;
       waiting_len = counted.waiting_len;
       len = out.len ∙ inv.len;
-      most = omega (arith, inv.most, c.count_all.ensures.looks, c.lowest.ensures.most, out.most, count_same old now inv.same inv.len);
-      grows = omega (arith, inv.grows, c.count_all.ensures.looks, c.lowest.ensures.looks, out.looks);
-      looks = λ pos. omega (arith, inv.grows, c.count_all.ensures.looks, c.lowest.ensures.looks, out.looks, count_same old now inv.same inv.len);
+      most = omega (arith, inv.most, c.count_all.ensures.looks, c.lowest.ensures.looks.most, out.looks.most, count_same old now inv.same inv.len);
+      grows = omega (arith, inv.grows, c.count_all.ensures.looks, c.lowest.ensures.looks.least, out.looks.least);
+      looks = λ pos. omega (arith, inv.grows, c.count_all.ensures.looks, c.lowest.ensures.looks.least, out.looks.least, count_same old now inv.same inv.len);
     }
 
 pub returns-clause-levels : goal.returns-clause-levels
@@ -105,7 +105,7 @@ returns-clause-levels g c =
     levels_end c.args.capacities.now now uses limits (subst (λ k. AreFixed uses now (steps_from k c.args.capacities.now (held (flows_of now uses)) unfixed)) all inv.fixed)
 
 pub returns-in_default-clause-looks : goal.returns-in_default-clause-looks
-returns-in_default-clause-looks g c = omega (arith, c.loop-n.invariant.grows, c.count_all.ensures.looks, c.lowest.ensures.looks, count_same c.args.flows.now c.loop-n.flows c.loop-n.invariant.same c.loop-n.invariant.len)
+returns-in_default-clause-looks g c = omega (arith, c.loop-n.invariant.grows, c.count_all.ensures.looks, c.lowest.ensures.looks.least, count_same c.args.flows.now c.loop-n.flows c.loop-n.invariant.same c.loop-n.invariant.len)
 
 pub returns-clause-looks : goal.returns-clause-looks
 returns-clause-looks g c =
@@ -132,7 +132,7 @@ returns-in_default-clause-most g c =
     let same1 = same_flows c.args.uses.now.uses old first (unfix_same old first c.unfix_all.ensures.all) c.unfix_all.ensures.len in
     let many : length (held (flows_of old c.args.uses.now.uses)) ≡ count_by is_some first = ap (λ fs. length (held fs)) (sym same1) ∙ length-held first c.args.uses.now.uses in
     let few : c.loop-n.n ≤ length (held (flows_of old c.args.uses.now.uses)) = omega (arith, many, c.held-n-end.ensures, c.loop-n.auto.n-end) in
-    omega (arith, inv.most, c.count_all.ensures.looks, c.lowest.ensures.most, count_same old now inv.same inv.len, mul-le-mul_right (count_of old) few)
+    omega (arith, inv.most, c.count_all.ensures.looks, c.lowest.ensures.looks.most, count_same old now inv.same inv.len, mul-le-mul_right (count_of old) few)
 
 pub returns-clause-most : goal.returns-clause-most
 returns-clause-most g c =

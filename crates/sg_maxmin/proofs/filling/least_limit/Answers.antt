@@ -34,7 +34,7 @@ loop-done-preserved g c =
 pub returns-clause-least : goal.returns-clause-least
 returns-clause-least g c =
     let all = resources c.args.row.count c.args.uses.now.uses c.args.row.first in
-    let len : length all ≡ c.args.row.count = length-resources c.requires.chain.0 c.args.row.count c.args.uses.now.uses c.args.row.first c.requires.chain.1 in
+    let len : length all ≡ c.args.row.count = length-resources c.requires.left.chain.0 c.args.row.count c.args.uses.now.uses c.args.row.first c.requires.left.chain.1 in
     let whole : take c.loop-done.done all ≡ all = take_whole c.loop-done.done all (omega (arith, len)) in
     subst (λ ys. IsLeast c.loop-done.least (option_to_list (option_map (bound_level c.args.row.weight) c.args.row.bound) ++ map (λ r. get_or c.args.counts.left.now r 0 / get_or c.args.counts.waiting.now r 0) ys)) whole c.loop-done.invariant.least
   where

@@ -17,12 +17,15 @@ stays true actors queue actor next is turn was queued = answered_same actors que
     never false e = refl
 stays false actors queue actor next is turn was queued = queue_kept actors queue actor.0 next is.0 is.1 was queued
 
-pub returns-else-is_ready-clause-queued : goal.returns-else-is_ready-clause-queued
-returns-else-is_ready-clause-queued c =
+pub returns-else-is_ready : goal.returns-else-is_ready
+returns-else-is_ready c =
     let actors = c.args.actors.now in
     let was : is_ready c.args.next ≡ true → is_ready_in actors c.args.actor.0 ≡ true =
     elim c.else-is_ready.branch [
       | else-is_ready-via-then-is_ready+else-not-is_ready_in w ↦ λ now. sym w.is_ready_in.ensures ∙ w.if-not-is_ready_in.false
       | else-is_ready-via-else-is_ready w ↦ λ now. absurd (true≢false (sym now ∙ (sym c.is_ready.ensures ∙ w.if-is_ready.false)))
     ] in
-    stays c.args.passing actors c.args.queue.now.items c.args.actor c.args.next c.requires.follows.actor c.requires.turn was c.requires.follows.queued
+    record {
+      queued = stays c.args.passing actors c.args.queue.now.items c.args.actor c.args.next c.requires.follows.actor c.requires.turn was c.requires.follows.queued;
+      capacity = refl;
+    }

@@ -9,8 +9,7 @@ energy-requires c =
     let there : c.args.host.0 < length c.self.inside.kept.hosts.items = subst (λ (d : Doing). c.args.host.0 < length d.under.capacities.hosts) (sym c.self.view_is) c.requires in
     record {
       host = omega (arith, there, is.metered.long);
-      from = is.metered.past c.args.host.0;
-      small = is.sound.room.early;
+      date = record { from = is.metered.past c.args.host.0; small = is.sound.room.early };
     }
 
 pub returns-clause-energy : goal.returns-clause-energy

@@ -19,8 +19,11 @@ unreachable-requires c =
     let s : State = state_of kept in
     c.requires (subst (λ (d : Doing). d.due ≡ []) c.self.view_is (none_due_told s c.self.invariant.sound.are kept.room c.in_default.ensures))
 
-pub end_phase-requires-clause-there : goal.end_phase-requires-clause-there
-end_phase-requires-clause-there c = record { at = c.in-Some.ensures.at; sound = c.self.invariant.sound; used = c.self.invariant.used }
+pub end_phase-requires : goal.end_phase-requires
+end_phase-requires c = record {
+  there = record { at = c.in-Some.ensures.at; sound = c.self.invariant.sound; used = c.self.invariant.used };
+  hit = c.self.invariant.hit;
+}
 
 pub note-requires : goal.note-requires
 note-requires c = λ exec. omega (arith, exec_host (state_of c.self.inside.kept) c.in-Some.key c.in-Some.live c.self.invariant.sound.are c.in-Some.ensures.at exec, c.self.invariant.metered.room)
@@ -36,9 +39,9 @@ invariant_of-self c =
     record {
       sound = ends.sound;
       hosts = subst (λ (d : Capacities). All IsHost d.hosts) (sym ends.turns.capacities) c.self.invariant.hosts;
-      used = c.end_phase.ensures.used;
+      used = c.end_phase.ensures.known.used;
       switches = switches_alike (state_of c.self.inside.kept) (state_of c.end_phase.new.kept) ends.turns.on (ap (λ (d : Capacities). length d.hosts) ends.turns.capacities) (ap (λ (d : Capacities). length d.links) ends.turns.capacities) c.self.invariant.switches;
-      hit = c.end_phase.ensures.hit;
+      hit = c.end_phase.ensures.known.hit;
       metered = subst (IsMetered c.end_phase.new.kept c.self.inside.meter) (sym c.note.ensures)
           (metered_turned kept c.end_phase.new.kept c.self.inside.meter c.self.inside.touched (record c.self.inside.touched { members = noted live c.self.inside.touched.members }) key live ends.slot (next_phase live.kind (task_of s key live)) c.self.invariant.metered refl c.self.invariant.sound.are ends.sound.are at ends.turns ends.under
           (λ host out. let r = not_noted live host c.self.inside.touched.members out in (r.0, (r.1, next_not s key live host))));

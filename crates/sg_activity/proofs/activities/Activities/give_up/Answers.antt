@@ -18,8 +18,11 @@ unreachable-requires c =
     let none = task_missed s c.self.invariant.sound.are c.args.serial.0 c.requires.from c.in_default.ensures in
     true≢false (sym c.requires.under_way ∙ ap (λ (d : Doing). is_some (task_at d.under.tasks c.args.serial.0)) (sym c.self.view_is) ∙ ap is_some none)
 
-pub leave-requires-clause-there : goal.leave-requires-clause-there
-leave-requires-clause-there c = record { at = c.in-Some.ensures.at; sound = c.self.invariant.sound; used = c.self.invariant.used }
+pub leave-requires : goal.leave-requires
+leave-requires c = record {
+  there = record { at = c.in-Some.ensures.at; sound = c.self.invariant.sound; used = c.self.invariant.used };
+  hit = c.self.invariant.hit;
+}
 
 pub note-requires : goal.note-requires
 note-requires c = λ exec. omega (arith, exec_host (state_of c.self.inside.kept) c.in-Some.key c.in-Some.live c.self.invariant.sound.are c.in-Some.ensures.at exec, c.self.invariant.metered.room)
@@ -35,9 +38,9 @@ invariant_of-self c =
     record {
       sound = ends.sound;
       hosts = subst (λ (d : Capacities). All IsHost d.hosts) (sym ends.turns.capacities) c.self.invariant.hosts;
-      used = c.leave.ensures.used;
+      used = c.leave.ensures.known.used;
       switches = switches_alike (state_of c.self.inside.kept) (state_of c.leave.new.kept) ends.turns.on (ap (λ (d : Capacities). length d.hosts) ends.turns.capacities) (ap (λ (d : Capacities). length d.links) ends.turns.capacities) c.self.invariant.switches;
-      hit = c.leave.ensures.hit;
+      hit = c.leave.ensures.known.hit;
       metered = subst (IsMetered c.leave.new.kept c.self.inside.meter) (sym c.note.ensures)
           (metered_turned kept c.leave.new.kept c.self.inside.meter c.self.inside.touched (record c.self.inside.touched { members = noted live c.self.inside.touched.members }) key live ends.slot None c.self.invariant.metered refl c.self.invariant.sound.are ends.sound.are at ends.turns ends.under
           (λ host out. let r = not_noted live host c.self.inside.touched.members out in (r.0, (r.1, refl))));

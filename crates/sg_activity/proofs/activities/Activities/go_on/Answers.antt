@@ -1,4 +1,4 @@
-use Rattle.std.proofs.Common.{◌≡◌, All, Some, refl, arith, length, true≢false, sym, ap, subst, ◌∙◌}
+use Rattle.std.proofs.Common.{◌≡◌, ◌<◌, All, Some, refl, arith, length, true≢false, sym, ap, subst, ◌∙◌}
 use Rattle.sg_lives.specs.declared.kinds.PhaseKind.TheVariants as phase
 use Rattle.sg_activity.specs.Hosts.{IsHost}
 use Rattle.sg_activity.specs.Links.{Capacities}
@@ -21,13 +21,14 @@ unreachable-requires c =
     let s : State = state_of c.self.inside.kept in
     true≢false (sym c.requires.held ∙ ap (λ (d : Doing). is_kept d.under c.args.serial.0) (sym c.self.view_is) ∙ kind_missed s c.self.invariant.sound.are c.args.serial.0 is_held c.requires.from c.in_default.ensures)
 
-pub go_on-requires-clause-kind : goal.go_on-requires-clause-kind
-go_on-requires-clause-kind c =
+pub go_on-requires : goal.go_on-requires
+go_on-requires c =
     let s : State = state_of c.self.inside.kept in
-    held_is c.in-Some.live.kind (sym (kind_found s c.self.invariant.sound.are c.args.serial.0 is_held c.in-Some.key c.in-Some.live c.in-Some.ensures) ∙ ap (λ (d : Doing). is_kept d.under c.args.serial.0) c.self.view_is ∙ c.requires.held)
-
-pub go_on-requires-clause-there : goal.go_on-requires-clause-there
-go_on-requires-clause-there c = record { at = c.in-Some.ensures.at; sound = c.self.invariant.sound; used = c.self.invariant.used }
+    record {
+      kind = held_is c.in-Some.live.kind (sym (kind_found s c.self.invariant.sound.are c.args.serial.0 is_held c.in-Some.key c.in-Some.live c.in-Some.ensures) ∙ ap (λ (d : Doing). is_kept d.under c.args.serial.0) c.self.view_is ∙ c.requires.held);
+      there = record { at = c.in-Some.ensures.at; sound = c.self.invariant.sound; used = c.self.invariant.used };
+      room = subst (λ (d : Doing). 0 < d.room) (sym c.self.view_is) c.requires.room;
+    }
 
 pub insert-requires : goal.insert-requires
 insert-requires c =

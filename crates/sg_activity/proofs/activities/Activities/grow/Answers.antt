@@ -1,4 +1,4 @@
-use Rattle.std.proofs.Common.{◌≡◌, All, length, sym, ap, subst, ◌∙◌, arith}
+use Rattle.std.proofs.Common.{◌≡◌, All, length, sym, ap, subst, ◌∙◌, arith, rules}
 use Rattle.sg_activity.specs.declared.kept.Kept.{Kept}
 use Rattle.sg_activity.specs.Doing.{Doing}
 use Rattle.sg_activity.specs.Hosts.{IsHost}
@@ -42,13 +42,18 @@ invariant_of-self-in_err-grow c =
           (λ host. ap (λ (d : Doing). power_at d.under host) (grown_doing kept new kept.room kept.flows kept.uses is g new.room));
     }
 
-pub returns-in_err-grow-clause-kept : goal.returns-in_err-grow-clause-kept
-returns-in_err-grow-clause-kept c =
+pub returns-in_err-grow : goal.returns-in_err-grow
+returns-in_err-grow c =
     let kept = c.self.inside.kept in
     let new = c.grow.new.kept in
-    ap (λ date. metered_in (energies date c.self.inside.meter) (doing_of (state_of new) new.room)) (ap (λ (k : Kept). k.date) c.grow.ensures.grows.rest)
-    ∙ ap (metered_in (energies kept.date c.self.inside.meter)) (grown_doing kept new kept.room kept.flows kept.uses c.self.invariant.sound c.grow.ensures.grows new.room)
-    ∙ ap (λ (d : Doing). record d { room = new.room }) c.self.view_is
+    record {
+      room = search rules;
+      grows = omega (arith, ap (λ (k : Kept). k.room) c.grow.ensures.grows.rest, ap (λ (d : Doing). d.room) c.self.view_is);
+      kept =
+          ap (λ date. metered_in (energies date c.self.inside.meter) (doing_of (state_of new) new.room)) (ap (λ (k : Kept). k.date) c.grow.ensures.grows.rest)
+          ∙ ap (metered_in (energies kept.date c.self.inside.meter)) (grown_doing kept new kept.room kept.flows kept.uses c.self.invariant.sound c.grow.ensures.grows new.room)
+          ∙ ap (λ (d : Doing). record d { room = new.room }) c.self.view_is;
+    }
 
 pub invariant_of-self-2 : goal.invariant_of-self-2
 invariant_of-self-2 c =
@@ -67,11 +72,16 @@ invariant_of-self-2 c =
           (λ host. ap (λ (d : Doing). power_at d.under host) (grown_doing kept new kept.room kept.flows kept.uses is g new.room));
     }
 
-pub returns-clause-kept : goal.returns-clause-kept
-returns-clause-kept c =
+pub returns : goal.returns
+returns c =
     let kept = c.self.inside.kept in
     let new = c.grow.new.kept in
     let n = c.max-n.result in
-    ap (λ date. metered_in (energies date c.self.inside.meter) (doing_of (state_of new) n)) (ap (λ (k : Kept). k.date) c.grow.ensures.grows.rest)
-    ∙ ap (metered_in (energies kept.date c.self.inside.meter)) (grown_doing kept new n c.in-Some.flows c.in-Some-checked_add.uses c.self.invariant.sound c.grow.ensures.grows n)
-    ∙ ap (λ (d : Doing). record d { room = n }) c.self.view_is
+    record {
+      room = omega (arith, c.max-n.ensures);
+      grows = omega (arith, c.max-n.ensures, ap (λ (d : Doing). d.room) c.self.view_is);
+      kept =
+          ap (λ date. metered_in (energies date c.self.inside.meter) (doing_of (state_of new) n)) (ap (λ (k : Kept). k.date) c.grow.ensures.grows.rest)
+          ∙ ap (metered_in (energies kept.date c.self.inside.meter)) (grown_doing kept new n c.in-Some.flows c.in-Some-checked_add.uses c.self.invariant.sound c.grow.ensures.grows n)
+          ∙ ap (λ (d : Doing). record d { room = n }) c.self.view_is;
+    }

@@ -20,13 +20,13 @@ unreachable-requires c =
     let s : State = state_of c.self.inside.kept in
     true≢false (sym c.requires.computes ∙ ap (λ (d : Doing). is_computing d.under c.args.serial.0) (sym c.self.view_is) ∙ kind_missed s c.self.invariant.sound.are c.args.serial.0 is_exec c.requires.from c.in_default.ensures)
 
-pub hold-requires-clause-kind : goal.hold-requires-clause-kind
-hold-requires-clause-kind c =
+pub hold-requires : goal.hold-requires
+hold-requires c =
     let s : State = state_of c.self.inside.kept in
-    exec_is c.in-Some.live.kind (sym (kind_found s c.self.invariant.sound.are c.args.serial.0 is_exec c.in-Some.key c.in-Some.live c.in-Some.ensures) ∙ ap (λ (d : Doing). is_computing d.under c.args.serial.0) c.self.view_is ∙ c.requires.computes)
-
-pub hold-requires-clause-there : goal.hold-requires-clause-there
-hold-requires-clause-there c = record { at = c.in-Some.ensures.at; sound = c.self.invariant.sound; used = c.self.invariant.used }
+    record {
+      kind = exec_is c.in-Some.live.kind (sym (kind_found s c.self.invariant.sound.are c.args.serial.0 is_exec c.in-Some.key c.in-Some.live c.in-Some.ensures) ∙ ap (λ (d : Doing). is_computing d.under c.args.serial.0) c.self.view_is ∙ c.requires.computes);
+      there = record { at = c.in-Some.ensures.at; sound = c.self.invariant.sound; used = c.self.invariant.used };
+    }
 
 pub note-requires : goal.note-requires
 note-requires c = λ exec. omega (arith, exec_host (state_of c.self.inside.kept) c.in-Some.key c.in-Some.live c.self.invariant.sound.are c.in-Some.ensures.at exec, c.self.invariant.metered.room)

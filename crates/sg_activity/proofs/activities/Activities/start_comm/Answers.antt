@@ -75,13 +75,13 @@ pub enter-requires-clause-room : goal.enter-requires-clause-room
 enter-requires-clause-room c =
     let kept = c.self.inside.kept in
     let transfer = c.args.transfer in
-    omega (arith, ap length (c.as_slice.ensures.value ∙ c.write_things.ensures), long_used c.len.result c.len-2.result (way_of c.args.links.now transfer), c.requires.transfer.few, c.self.invariant.used.uses_free, ap (λ (d : Doing). d.room) c.self.view_is, c.requires.room)
+    omega (arith, ap length (c.as_slice.ensures.value ∙ c.write_things.ensures), long_used c.len.result c.len-2.result (way_of c.args.links.now transfer), c.requires.transfer.few, c.self.invariant.used.uses_free, ap (λ (d : Doing). d.room) c.self.view_is, c.requires.serial.room)
 
 pub put-key-requires-clause-apart : goal.put-key-requires-clause-apart
 put-key-requires-clause-apart c =
     let s : State = state_of c.self.inside.kept in
     let drawn : length c.args.self.now.under.tasks ≡ s.drawn = sym (ap (λ (d : Doing). length d.under.tasks) c.self.view_is) ∙ length-listed s.drawn (λ i. told_at (task_of s) s.slots (i + 1)) in
-    idle_serial s c.args.serial.0 c.self.invariant.sound.are (sym (task_told s c.args.serial.0 c.requires.from (omega (arith, c.requires.to, drawn))) ∙ ap (λ (d : Doing). task_at d.under.tasks c.args.serial.0) c.self.view_is ∙ c.requires.idle)
+    idle_serial s c.args.serial.0 c.self.invariant.sound.are (sym (task_told s c.args.serial.0 c.requires.serial.from (omega (arith, c.requires.serial.to, drawn))) ∙ ap (λ (d : Doing). task_at d.under.tasks c.args.serial.0) c.self.view_is ∙ c.requires.serial.idle)
 
 pub invariant_of-self : goal.invariant_of-self
 invariant_of-self c =
@@ -94,10 +94,10 @@ invariant_of-self c =
     let drawn : length c.args.self.now.under.tasks ≡ s.drawn = sym (ap (λ (d : Doing). length d.under.tasks) c.self.view_is) ∙ length-listed s.drawn (λ i. told_at (task_of s) s.slots (i + 1)) in
     let free = c.put-key.ensures.free in
     let within = c.put-key.ensures.in_range in
-    let to : live.serial ≤ s.drawn = omega (arith, c.requires.to, drawn) in
+    let to : live.serial ≤ s.drawn = omega (arith, c.requires.serial.to, drawn) in
     let may = given c.args.self.now (metered_in (energies kept.date c.self.inside.meter) (doing_of s kept.room)) c.args.links.now transfer c.self.view_is c.requires.transfer in
     let small : live.kept ≤ 10 ^ 24 = omega (arith, may.latency) in
-    let idle : told_at (task_of s) s.slots live.serial ≡ None = sym (task_told s live.serial c.requires.from to) ∙ ap (λ (d : Doing). task_at d.under.tasks live.serial) c.self.view_is ∙ c.requires.idle in
+    let idle : told_at (task_of s) s.slots live.serial ≡ None = sym (task_told s live.serial c.requires.serial.from to) ∙ ap (λ (d : Doing). task_at d.under.tasks live.serial) c.self.view_is ∙ c.requires.serial.idle in
     let ways : ℕ → List LinkId = ways_of (record kept { index = c.enter.new.self }) in
     let things_are : c.as_slice.result.now ≡ used_at (length kept.hosts.items) (length kept.links.items) (over (way_of c.args.links.now transfer)) = c.as_slice.ensures.value ∙ c.write_things.ensures
     ∙ ap₂ (λ n m. used_at n m (over (way_of c.args.links.now transfer))) (c.len.ensures ∙ kept.hosts.ok.0) (c.len-2.ensures ∙ kept.links.ok.0) in
@@ -105,7 +105,7 @@ invariant_of-self c =
     let way : IsPath s.capacities (record { links = links_at ways key; sender = transfer.sender.0; receiver = transfer.receiver.0 }) = subst (λ l. IsPath s.capacities (record { links = l; sender = transfer.sender.0; receiver = transfer.receiver.0 })) (sym here)
     (record { links = record { some = may.some; apart = may.apart; exist = may.exist; few = may.few; small = c.self.invariant.switches.1.1.1 }; sender = may.sender; receiver = may.receiver }) in
     let new : State = begun_state s s.drawn key live ways s.keys s.runs s.by_flow in
-    let turns : Turns s new key live.serial (Some live) = time_turns s s.drawn key live ways is.are (idle_begins s key live is.are within free c.requires.from to idle refl small may.bytes (omega arith, omega arith)) free refl refl (λ k ne. ap (way_in (length kept.hosts.items)) (c.enter.ensures.row.others k ne)) way (λ _. omega (arith, ap length here)) in
+    let turns : Turns s new key live.serial (Some live) = time_turns s s.drawn key live ways is.are (idle_begins s key live is.are within free c.requires.serial.from to idle refl small may.bytes (omega arith, omega arith)) free refl refl (λ k ne. ap (way_in (length kept.hosts.items)) (c.enter.ensures.row.others k ne)) way (λ _. omega (arith, ap length here)) in
     let state_is = state_same s s.drawn false c.put-key.new.self.slots (set s.slots key (Some live)) ways ways s.keys s.keys s.runs s.runs s.by_flow s.by_flow c.insert.new.self.members (with_mark key s.fresh) s.ended s.ended s.resources s.resources
     c.put-key.ensures.slots refl refl refl refl (ap (λ (m : MarkSet). m.members) c.insert.ensures) refl refl in
     let room = ap (λ (d : Doing). d.room) c.self.view_is in
@@ -114,7 +114,7 @@ invariant_of-self c =
     let are = subst IsKept (sym state_is) (turned s new key live.serial (Some live) is.are turns) in
     let told =
     ap (λ st. doing_of st (kept.room - 1)) state_is
-    ∙ begun_told s new key live.serial (Some live) is.are turns live kept.room refl refl c.requires.from to idle free (mark_self key s.fresh) refl
+    ∙ begun_told s new key live.serial (Some live) is.are turns live kept.room refl refl c.requires.serial.from to idle free (mark_self key s.fresh) refl
     ∙ ap₂ (λ n l. begun_in c.args.serial.0 (record { kind = phase.Latency; left = n; place = over (record { links = l; sender = transfer.sender.0; receiver = transfer.receiver.0 }); weight = 1; bound = transfer.bound; bytes = transfer.bytes }) (doing_of s kept.room)) (left_fresh transfer.latency 1 kept.date) here in
     record {
       sound = record {
@@ -123,11 +123,11 @@ invariant_of-self c =
           capacities = is.room.capacities;
           few = is.room.few;
           early = is.room.early;
-          flows = omega (arith, is.room.flows, room, c.requires.room, ahead_set s.slots key (Some live) within, ap slot_ahead free, ap (sum_by slot_ahead) c.put-key.ensures.slots);
+          flows = omega (arith, is.room.flows, room, c.requires.serial.room, ahead_set s.slots key (Some live) within, ap slot_ahead free, ap (sum_by slot_ahead) c.put-key.ensures.slots);
           flow_room = omega (arith, is.room.flow_room);
-          uses = omega (arith, is.room.uses, room, c.requires.room, may.few, uses_set s.slots key (Some live) within, ap slot_uses free, ap (sum_by slot_uses) c.put-key.ensures.slots);
+          uses = omega (arith, is.room.uses, room, c.requires.serial.room, may.few, uses_set s.slots key (Some live) within, ap slot_uses free, ap (sum_by slot_uses) c.put-key.ensures.slots);
           use_room = omega (arith, is.room.use_room);
-          keys_free = omega (arith, is.room.keys_free, room, c.requires.room, c.put-key.ensures.room);
+          keys_free = omega (arith, is.room.keys_free, room, c.requires.serial.room, c.put-key.ensures.room);
           rows_long = omega (arith, c.enter.ensures.row.long, is.room.rows_long, ap length c.put-key.ensures.slots, length-set s.slots key (Some live));
           agenda_long = omega (arith, is.room.agenda_long, ap length c.put-key.ensures.slots, length-set s.slots key (Some live));
           fresh_room = omega (arith, is.room.fresh_room, ap length c.put-key.ensures.slots, length-set s.slots key (Some live), ap (λ (m : MarkSet). m.room) c.insert.ensures);
@@ -139,12 +139,12 @@ invariant_of-self c =
           (things_are ∙ used_here ∙ ap (used_by (length s.capacities.hosts) (length s.capacities.links) (links_at ways key)) (sym (ap (λ l. get_or l key None) c.put-key.ensures.slots ∙ set_here s.slots key (Some live) within)))
           (λ k ne. ap (λ l. get_or l k None) c.put-key.ensures.slots ∙ set_there s.slots key k (Some live) ne) (λ k ne. ap (way_in (length kept.hosts.items)) (c.enter.ensures.row.others k ne))
           (ap length c.put-key.ensures.slots ∙ length-set s.slots key (Some live)) c.enter.ensures.users
-          (omega (arith, c.self.invariant.used.uses_free, c.enter.ensures.room, room, c.requires.room, few));
+          (omega (arith, c.self.invariant.used.uses_free, c.enter.ensures.room, room, c.requires.serial.room, few));
       switches = c.self.invariant.switches;
       hit = hits_more s.on s.slots s.ways c.self.inside.hits c.self.invariant.hit key live c.put-key.new.self.slots ways free within (ap (λ l. is_cut s.on (record { links = l; sender = transfer.sender.0; receiver = transfer.receiver.0 })) here ∙ may.on) c.put-key.ensures.slots
           (λ k ne. ap (way_in (length kept.hosts.items)) (c.enter.ensures.row.others k ne));
       metered = metered_kept kept _ c.self.inside.meter c.self.inside.touched c.self.invariant.metered refl refl is.are are
-          (λ host. subst (λ u. IsSameHost (under_of s) u host) (sym (ap (λ (d : Doing). d.under) told)) (same_task (under_of s) host c.args.serial.0 (Some (comm_of (way_of c.args.links.now transfer) transfer.latency transfer.bytes transfer.bound)) (ap (passes (loads host)) (ap (λ (d : Doing). task_at d.under.tasks c.args.serial.0) c.self.view_is ∙ c.requires.idle)) refl));
+          (λ host. subst (λ u. IsSameHost (under_of s) u host) (sym (ap (λ (d : Doing). d.under) told)) (same_task (under_of s) host c.args.serial.0 (Some (comm_of (way_of c.args.links.now transfer) transfer.latency transfer.bytes transfer.bound)) (ap (passes (loads host)) (ap (λ (d : Doing). task_at d.under.tasks c.args.serial.0) c.self.view_is ∙ c.requires.serial.idle)) refl));
     }
 
 pub returns : goal.returns
@@ -158,10 +158,10 @@ returns c =
     let drawn : length c.args.self.now.under.tasks ≡ s.drawn = sym (ap (λ (d : Doing). length d.under.tasks) c.self.view_is) ∙ length-listed s.drawn (λ i. told_at (task_of s) s.slots (i + 1)) in
     let free = c.put-key.ensures.free in
     let within = c.put-key.ensures.in_range in
-    let to : live.serial ≤ s.drawn = omega (arith, c.requires.to, drawn) in
+    let to : live.serial ≤ s.drawn = omega (arith, c.requires.serial.to, drawn) in
     let may = given c.args.self.now (metered_in (energies kept.date c.self.inside.meter) (doing_of s kept.room)) c.args.links.now transfer c.self.view_is c.requires.transfer in
     let small : live.kept ≤ 10 ^ 24 = omega (arith, may.latency) in
-    let idle : told_at (task_of s) s.slots live.serial ≡ None = sym (task_told s live.serial c.requires.from to) ∙ ap (λ (d : Doing). task_at d.under.tasks live.serial) c.self.view_is ∙ c.requires.idle in
+    let idle : told_at (task_of s) s.slots live.serial ≡ None = sym (task_told s live.serial c.requires.serial.from to) ∙ ap (λ (d : Doing). task_at d.under.tasks live.serial) c.self.view_is ∙ c.requires.serial.idle in
     let ways : ℕ → List LinkId = ways_of (record kept { index = c.enter.new.self }) in
     let things_are : c.as_slice.result.now ≡ used_at (length kept.hosts.items) (length kept.links.items) (over (way_of c.args.links.now transfer)) = c.as_slice.ensures.value ∙ c.write_things.ensures
     ∙ ap₂ (λ n m. used_at n m (over (way_of c.args.links.now transfer))) (c.len.ensures ∙ kept.hosts.ok.0) (c.len-2.ensures ∙ kept.links.ok.0) in
@@ -169,12 +169,12 @@ returns c =
     let way : IsPath s.capacities (record { links = links_at ways key; sender = transfer.sender.0; receiver = transfer.receiver.0 }) = subst (λ l. IsPath s.capacities (record { links = l; sender = transfer.sender.0; receiver = transfer.receiver.0 })) (sym here)
     (record { links = record { some = may.some; apart = may.apart; exist = may.exist; few = may.few; small = c.self.invariant.switches.1.1.1 }; sender = may.sender; receiver = may.receiver }) in
     let new : State = begun_state s s.drawn key live ways s.keys s.runs s.by_flow in
-    let turns : Turns s new key live.serial (Some live) = time_turns s s.drawn key live ways is.are (idle_begins s key live is.are within free c.requires.from to idle refl small may.bytes (omega arith, omega arith)) free refl refl (λ k ne. ap (way_in (length kept.hosts.items)) (c.enter.ensures.row.others k ne)) way (λ _. omega (arith, ap length here)) in
+    let turns : Turns s new key live.serial (Some live) = time_turns s s.drawn key live ways is.are (idle_begins s key live is.are within free c.requires.serial.from to idle refl small may.bytes (omega arith, omega arith)) free refl refl (λ k ne. ap (way_in (length kept.hosts.items)) (c.enter.ensures.row.others k ne)) way (λ _. omega (arith, ap length here)) in
     let state_is = state_same s s.drawn false c.put-key.new.self.slots (set s.slots key (Some live)) ways ways s.keys s.keys s.runs s.runs s.by_flow s.by_flow c.insert.new.self.members (with_mark key s.fresh) s.ended s.ended s.resources s.resources
     c.put-key.ensures.slots refl refl refl refl (ap (λ (m : MarkSet). m.members) c.insert.ensures) refl refl in
     let told =
     ap (λ st. doing_of st (kept.room - 1)) state_is
-    ∙ begun_told s new key live.serial (Some live) is.are turns live kept.room refl refl c.requires.from to idle free (mark_self key s.fresh) refl
+    ∙ begun_told s new key live.serial (Some live) is.are turns live kept.room refl refl c.requires.serial.from to idle free (mark_self key s.fresh) refl
     ∙ ap₂ (λ n l. begun_in c.args.serial.0 (record { kind = phase.Latency; left = n; place = over (record { links = l; sender = transfer.sender.0; receiver = transfer.receiver.0 }); weight = 1; bound = transfer.bound; bytes = transfer.bytes }) (doing_of s kept.room)) (left_fresh transfer.latency 1 kept.date) here in
     ap (metered_in (energies kept.date c.self.inside.meter)) told
     ∙ ap (begun_in c.args.serial.0 (comm_of (way_of c.args.links.now transfer) transfer.latency transfer.bytes transfer.bound)) c.self.view_is

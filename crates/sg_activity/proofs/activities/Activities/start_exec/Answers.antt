@@ -49,7 +49,7 @@ enter-requires-clause-exist c =
     all_cons (λ thing. thing < length c.self.inside.kept.index.users) c.args.host.0 [] (omega (arith, there, c.self.invariant.used.things)) (λ k d w. absurd (omega (arith, w)))
 
 pub enter-requires-clause-room : goal.enter-requires-clause-room
-enter-requires-clause-room c = omega (arith, c.self.invariant.used.uses_free, ap (λ (d : Doing). d.room) c.self.view_is, c.requires.room)
+enter-requires-clause-room c = omega (arith, c.self.invariant.used.uses_free, ap (λ (d : Doing). d.room) c.self.view_is, c.requires.start.room)
 
 pub put-key-requires-clause-apart : goal.put-key-requires-clause-apart
 put-key-requires-clause-apart c =
@@ -93,13 +93,13 @@ invariant_of-self c =
         are = are;
         room = record {
           capacities = ap (λ (l : Lazily). l.capacities) c.start-flow.ensures.starts ∙ is.room.capacities;
-          few = omega (arith, drawn, c.requires.few);
+          few = omega (arith, drawn, c.requires.start.few);
           early = is.room.early;
-          flows = omega (arith, is.room.flows, room, c.requires.room, ahead_set s.slots key (Some live) within, ap slot_ahead free, ap (sum_by slot_ahead) c.put-key.ensures.slots);
-          flow_room = omega (arith, is.room.flow_room, is.room.flows, room, c.requires.room, ap (λ (l : Lazily). l.flow_room) c.start-flow.ensures.starts);
-          uses = omega (arith, is.room.uses, room, c.requires.room, uses_set s.slots key (Some live) within, ap slot_uses free, ap (sum_by slot_uses) c.put-key.ensures.slots);
-          use_room = omega (arith, is.room.use_room, is.room.uses, room, c.requires.room, ap (λ (l : Lazily). l.use_room) c.start-flow.ensures.starts);
-          keys_free = omega (arith, is.room.keys_free, room, c.requires.room, c.put-key.ensures.room);
+          flows = omega (arith, is.room.flows, room, c.requires.start.room, ahead_set s.slots key (Some live) within, ap slot_ahead free, ap (sum_by slot_ahead) c.put-key.ensures.slots);
+          flow_room = omega (arith, is.room.flow_room, is.room.flows, room, c.requires.start.room, ap (λ (l : Lazily). l.flow_room) c.start-flow.ensures.starts);
+          uses = omega (arith, is.room.uses, room, c.requires.start.room, uses_set s.slots key (Some live) within, ap slot_uses free, ap (sum_by slot_uses) c.put-key.ensures.slots);
+          use_room = omega (arith, is.room.use_room, is.room.uses, room, c.requires.start.room, ap (λ (l : Lazily). l.use_room) c.start-flow.ensures.starts);
+          keys_free = omega (arith, is.room.keys_free, room, c.requires.start.room, c.put-key.ensures.room);
           rows_long = omega (arith, is.room.rows_long, c.enter.ensures.row.long, ap length c.put-key.ensures.slots, length-set s.slots key (Some live));
           agenda_long = omega (arith, is.room.agenda_long, ap length c.put-key.ensures.slots, length-set s.slots key (Some live));
           fresh_room = omega (arith, is.room.fresh_room, ap length c.put-key.ensures.slots, length-set s.slots key (Some live), ap (λ (m : MarkSet). m.room) c.insert.ensures);
@@ -110,7 +110,7 @@ invariant_of-self c =
       used = used_turned s.capacities s.slots s.ways kept.room c.self.inside.kept.index c.self.invariant.used c.put-key.new.self.slots ways (kept.room - 1) c.enter.new.self key (c.args.host.0 ∷ []) c.enter.ensures.row
           (ap (used_by (length s.capacities.hosts) (length s.capacities.links) (links_at ways key)) (sym (ap (λ l. get_or l key None) c.put-key.ensures.slots ∙ set_here s.slots key (Some live) within)))
           (λ k ne. ap (λ l. get_or l k None) c.put-key.ensures.slots ∙ set_there s.slots key k (Some live) ne) (λ k ne. ap (way_in (length kept.hosts.items)) (c.enter.ensures.row.others k ne)) (ap length c.put-key.ensures.slots ∙ length-set s.slots key (Some live)) c.enter.ensures.users
-          (omega (arith, c.self.invariant.used.uses_free, c.enter.ensures.room, room, c.requires.room));
+          (omega (arith, c.self.invariant.used.uses_free, c.enter.ensures.room, room, c.requires.start.room));
       switches = c.self.invariant.switches;
       hit = hits_more s.on s.slots s.ways c.self.inside.hits c.self.invariant.hit key live c.put-key.new.self.slots ways free within (subst (λ (d : Doing). is_off d.under.on.hosts c.args.host.0 ≡ false) (sym c.self.view_is) c.requires.on) c.put-key.ensures.slots (λ k ne. ap (way_in (length kept.hosts.items)) (c.enter.ensures.row.others k ne));
       metered = subst (IsMetered _ c.self.inside.meter) (sym c.insert-2.ensures)

@@ -1,4 +1,4 @@
-use Rattle.std.proofs.Common.{IsSome, Some, sym, ap, subst, arith}
+use Rattle.std.proofs.Common.{IsSome, Some, refl, sym, ap, subst, arith}
 use Rattle.std.proofs.lemmas.List.{length-map}
 use Rattle.slab.specs.declared.Entry.TheVariants.{Occupied}
 use Rattle.slab.specs.Entry.{value_of}
@@ -21,10 +21,10 @@ returns-clause-updates c =
     rw (← c.self.view_is) (Updates-set _ _ _ _ (omega (arith, within_cells cells c.args.i there, length-map cells entry_of, length-map (entries_of cells) value_of))
     (slots_set cells c.args.i c.args.cell (Some (slot_in c.args.cell)) (ap value_of c.requires.slot)))
 
-pub returns-clause-len : goal.returns-clause-len
-returns-clause-len c =
+pub returns-clause-kept : goal.returns-clause-kept
+returns-clause-kept c =
     let cells = c.self.inside.cells.items in
     let there = subst (λ s. IsSome (get s c.args.i)) (sym c.self.view_is) c.requires.there in
     let found = occupied_at (entries_of cells) c.args.i there in
     let counted = count_cells cells c.args.i c.args.cell (Occupied found.0) (Occupied (slot_in c.args.cell)) found.1 c.requires.slot in
-    rw (← c.self.view_is) (omega (arith, counted))
+    rw (← c.self.view_is) (record { len = omega (arith, counted); capacity = refl })

@@ -1,8 +1,8 @@
 use Rattle.std.proofs.Common.{◌≢◌, ◌<◌, sym, subst, arith}
-use Rattle.sg_kernel.specs.Known.{Known}
-use Rattle.sg_kernel.specs.World.{IsActor, MayCall}
-use Rattle.sg_kernel.proofs.Limits.{homes_counted}
-use Rattle.sg_kernel.proofs.Moves.{can_step}
+use Rattle.sg_calls.specs.Known.{Known}
+use Rattle.sg_calls.specs.World.{IsActor, MayCall}
+use Rattle.sg_calls.proofs.Limits.{homes_counted}
+use Rattle.sg_calls.proofs.Moves.{can_step}
 use Rattle.sg_kernel.proofs.kernel.Kernel.create.Goals as goal
 
 pub create-requires-clause-makes : goal.create-requires-clause-makes

@@ -51,7 +51,7 @@ invariant_of-self c =
         changed = omega (arith, inv.1.changed, numbers);
       },
       subst (λ m. AreLeveled t c.set_bound.new.self i.rated.rates.items i.pending.began.members m i.pending.resources.members) (sym (ap (λ (m : MarkSet). m.members) c.insert.ensures))
-          (bound_leveled s t i.solver.levels c.set_bound.new.self i.rated.rates.items i.pending.began.members i.pending.marked.members i.pending.resources.members c.args.flow inv.2 (ap (λ (x : Sharing). x.capacities) out) c.set_bound.ensures.between c.set_bound.ensures.changed c.set_bound.ensures.within),
+          (bound_leveled s t i.solver.levels c.set_bound.new.self i.rated.rates.items i.pending.began.members i.pending.marked.members i.pending.resources.members c.args.flow inv.2 (ap (λ (x : Sharing). x.capacities) out) c.set_bound.ensures.keeps.between c.set_bound.ensures.keeps.changed c.set_bound.ensures.keeps.joins),
     )
 
 pub returns : goal.returns

@@ -32,5 +32,5 @@ invariant_of-self c =
         changed = omega (arith, inv.1.changed, numbers);
       },
       subst (AreLeveled t kept i.rated.rates.items i.pending.began.members i.pending.marked.members) (sym (ap (λ (m : MarkSet). m.members) c.insert.ensures))
-          (capacity_leveled s t i.solver.levels kept i.rated.rates.items i.pending.began.members i.pending.marked.members i.pending.resources.members c.args.resource c.args.capacity inv.2 below small (ap (λ (x : Sharing). x.capacities) out) c.set_capacity.ensures.between c.set_capacity.ensures.changed c.set_capacity.ensures.within),
+          (capacity_leveled s t i.solver.levels kept i.rated.rates.items i.pending.began.members i.pending.marked.members i.pending.resources.members c.args.resource c.args.capacity inv.2 below small (ap (λ (x : Sharing). x.capacities) out) c.set_capacity.ensures.keeps.between c.set_capacity.ensures.keeps.changed c.set_capacity.ensures.keeps.joins),
     )

@@ -37,7 +37,7 @@ invariant_of-self c =
       },
       subst (λ b. AreLeveled t c.start-number.new.self (set i.rated.rates.items id 0) b c.insert-2.new.self.members i.pending.resources.members) (sym (ap (λ (m : MarkSet). m.members) m))
           (subst (λ b. AreLeveled t c.start-number.new.self (set i.rated.rates.items id 0) (with_mark id i.pending.began.members) b i.pending.resources.members) (sym (ap (λ (m : MarkSet). m.members) n))
-          (start_leveled s t i.solver.levels c.start-number.new.self i.rated.rates.items i.pending.began.members i.pending.marked.members i.pending.resources.members id its inv.2 out c.start-number.ensures.between c.start-number.ensures.changed c.start-number.ensures.within)),
+          (start_leveled s t i.solver.levels c.start-number.new.self i.rated.rates.items i.pending.began.members i.pending.marked.members i.pending.resources.members id its inv.2 out c.start-number.ensures.keeps.between c.start-number.ensures.keeps.changed c.start-number.ensures.keeps.joins)),
     )
 
 pub returns-clause-free : goal.returns-clause-free

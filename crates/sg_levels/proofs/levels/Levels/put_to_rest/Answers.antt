@@ -7,7 +7,7 @@ use Rattle.sg_levels.proofs.levels.Levels.put_to_rest.Goals as goal
 pub returns : goal.returns
 returns c =
     let all = c.args.self.now in
-    let settling = c.requires.at.settling in
+    let settling = c.requires.none.at.settling in
     let kept = settling.kept in
     let places = kept.places in
     record {
@@ -21,7 +21,7 @@ returns c =
           longest = kept.longest;
         };
         parts = settling.parts;
-        written = rest_keeps c.args.system.now c.is_sound.ensures all.levels.items all.holds.items all.active.members c.remove.new.self.members 0 None c.args.resource settling.written c.remove.ensures.others c.requires.held c.requires.none;
+        written = rest_keeps c.args.system.now c.is_sound.ensures all.levels.items all.holds.items all.active.members c.remove.new.self.members 0 None c.args.resource settling.written c.remove.ensures.others c.requires.held c.requires.none.hold_is;
       };
       moved = noted_none all.moved all.levels.items;
       within = λ p q along here are. record {

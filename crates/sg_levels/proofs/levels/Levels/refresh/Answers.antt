@@ -1,11 +1,15 @@
 use Rattle.std.proofs.Common.{◌+◌, ◌≤◌, length, max, refl, sym, subst, arith}
 use Rattle.sg_chains.specs.Chained.{users_on}
+use Rattle.sg_levels.specs.Kept.{IsLevelAbove}
 use Rattle.sg_levels.specs.Numbered.{flow_in}
 use Rattle.sg_levels.proofs.Demand.{demand_holds_none_lem, parts_demand}
 use Rattle.sg_levels.proofs.Steps.{held_user}
 use Rattle.sg_levels.specs.Joined.{spare_looks}
 use Rattle.sg_levels.proofs.Joined.{first_fits, spare_known}
 use Rattle.sg_levels.proofs.levels.Levels.refresh.Goals as goal
+
+pub has_slack-requires : goal.has_slack-requires
+has_slack-requires g c = record { places = c.requires.at.settling.kept.places; resource = c.requires.at.resource }
 
 pub put_to_rest-requires-clause-none : goal.put_to_rest-requires-clause-none
 put_to_rest-requires-clause-none g c =
@@ -15,8 +19,17 @@ put_to_rest-requires-clause-none g c =
     let sound = c.is_sound.ensures in
     let told = c.has_slack.ensures c.if-has_slack.true in
     let settling = c.requires.at.settling in
-    demand_holds_none_lem s kept.levels.items n sound (λ id i. settling.written.within id (flow_in s.slots id) (held_user s sound n id i)) told.1
-    (omega (arith, told.0, settling.kept.demands n, parts_demand s sound kept.parts.items kept.levels.items (λ id held. settling.parts id held refl) n))
+    record {
+      at = c.requires.at;
+      hold_is = demand_holds_none_lem s kept.levels.items n sound (λ id i. settling.written.within id (flow_in s.slots id) (held_user s sound n id i)) told.1
+          (omega (arith, told.0, settling.kept.demands n, parts_demand s sound kept.parts.items kept.levels.items (λ id held. settling.parts id held refl) n));
+    }
+
+pub look_at-requires-clause-first : goal.look_at-requires-clause-first
+look_at-requires-clause-first g c = record {
+  level_is = subst (λ ls. IsLevelAbove c.args.system.now c.args.resource ls 0 c.in-Some.first.level) c.deref.ensures.value c.in-Some.ensures.level;
+  pass = record { all = c.in-Some.ensures.users.all; few = c.in-Some-left_for.ensures.pass };
+}
 
 pub returns-then-has_slack-clause-looks : goal.returns-then-has_slack-clause-looks
 returns-then-has_slack-clause-looks g c =

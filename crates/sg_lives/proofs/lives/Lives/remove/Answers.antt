@@ -33,5 +33,8 @@ invariant_of-self c =
       spare_room = omega (arith, c.self.invariant.spare_room, c.remove.ensures.room);
     })
 
-pub returns-clause-slots : goal.returns-clause-slots
-returns-clause-slots c = lives_set c.self.inside.slots.items c.args.key c.free_cell.result None c.free_cell.ensures ∙ ap (λ (p : Pool). set p.slots c.args.key None) c.self.view_is
+pub returns : goal.returns
+returns c = record {
+  slots = lives_set c.self.inside.slots.items c.args.key c.free_cell.result None c.free_cell.ensures ∙ ap (λ (p : Pool). set p.slots c.args.key None) c.self.view_is;
+  room = ap (λ (p : Pool). p.room) c.self.view_is;
+}

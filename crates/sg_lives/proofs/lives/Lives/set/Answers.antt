@@ -30,5 +30,8 @@ invariant_of-self c =
       spare_room = c.self.invariant.spare_room;
     })
 
-pub returns-clause-slots : goal.returns-clause-slots
-returns-clause-slots c = lives_set c.self.inside.slots.items c.args.key c.cell_with.result (Some c.args.live) c.cell_with.ensures ∙ ap (λ (p : Pool). set p.slots c.args.key (Some c.args.live)) c.self.view_is
+pub returns : goal.returns
+returns c = record {
+  slots = lives_set c.self.inside.slots.items c.args.key c.cell_with.result (Some c.args.live) c.cell_with.ensures ∙ ap (λ (p : Pool). set p.slots c.args.key (Some c.args.live)) c.self.view_is;
+  room = ap (λ (p : Pool). p.room) c.self.view_is;
+}

@@ -1,7 +1,8 @@
 use Rattle.std.proofs.Common.{◌≡◌, ◌<◌, ◌∙◌, ap, sym, subst, length, set, Some, arith}
+use Rattle.std.specs.Prelude.{map}
 use Rattle.std.proofs.lemmas.List.{get_or_read, length-map, length-set}
-use Rattle.sg_queues.specs.Rings.{Rings, front, joined}
-use Rattle.sg_queues.specs.kept.Entries.{AreHomes, by_node, entries_of, home, nowhere, value_in}
+use Rattle.sg_queues.specs.Rings.{Rings, front, joined, without}
+use Rattle.sg_queues.specs.kept.Entries.{AreHomes, by_node, entries_of, entry, home, nowhere, value_in}
 use Rattle.sg_queues.proofs.Lists.{left_none}
 use Rattle.sg_queues.proofs.Entries.{front_in, in_idle, idle_apart, one_less, holds_at, are_slots, pushed}
 use Rattle.sg_queues.proofs.Homes.{homes_stay, node_set}
@@ -22,8 +23,16 @@ index_mut-requires g c =
 pub leave-requires : goal.leave-requires
 leave-requires g c = in_idle c.self.inside.rings c.in-Some.slot c.self.invariant.apart (sym c.idle.ensures ∙ c.in-Some.is)
 
-pub join-requires-clause-slot : goal.join-requires-clause-slot
-join-requires-clause-slot g c = rw c.leave.ensures.left (in_idle c.self.inside.rings c.in-Some.slot c.self.invariant.apart (sym c.idle.ensures ∙ c.in-Some.is))
+pub join-requires : goal.join-requires
+join-requires g c = record {
+  slot = rw c.leave.ensures.left (in_idle c.self.inside.rings c.in-Some.slot c.self.invariant.apart (sym c.idle.ensures ∙ c.in-Some.is));
+  alone = c.leave.ensures.alone;
+  queue =
+      let inside = c.self.inside in
+      let values = by_node inside.blank inside.values.items inside.homes.items in
+      let below : c.args.queue < length (entries_of inside.blank values inside.rings.queues) = rw (← c.self.view_is) at c.requires.queue in
+      omega (arith, below, ap (λ (r : Rings). length r.queues) c.leave.ensures.left, length-map inside.rings.queues (without c.in-Some.slot), length-map inside.rings.queues (map (entry inside.blank values)));
+}
 
 pub invariant_of-self : goal.invariant_of-self
 invariant_of-self g c =

@@ -1,4 +1,4 @@
-use Rattle.std.proofs.Common.{◌≤◌, ◌∙◌, ap, suc, length, arith}
+use Rattle.std.proofs.Common.{◌<◌, ◌≤◌, ◌∙◌, ap, suc, length, arith, rules}
 use Rattle.std.specs.Prelude.{map}
 use Rattle.std.proofs.lemmas.List.{length-map}
 use Rattle.sg_queues.specs.Rings as rings
@@ -9,8 +9,14 @@ use Rattle.sg_queues.proofs.Lists.{joined_of}
 use Rattle.sg_sync.proofs.Slots.{alone_is, waiting_at}
 use Rattle.sg_sync.proofs.queues.Queues.join.Goals as goal
 
-pub join-requires-clause-alone : goal.join-requires-clause-alone
-join-requires-clause-alone c = alone_is c.self.inside.rings c.args.actor c.self.invariant.idle (rw (← c.self.view_is) at c.requires.joins.free)
+pub join-requires : goal.join-requires
+join-requires c = record {
+  slot = search rules;
+  alone = alone_is c.self.inside.rings c.args.actor c.self.invariant.idle (rw (← c.self.view_is) at c.requires.joins.free);
+  queue =
+      let below : c.args.queue < length (waiting_in c.self.inside.rings.queues) = rw (← c.self.view_is) at c.requires.queue in
+      omega (arith, below, length-map c.self.inside.rings.queues (map actor_of));
+}
 
 pub returns-clause-joined : goal.returns-clause-joined
 returns-clause-joined c =

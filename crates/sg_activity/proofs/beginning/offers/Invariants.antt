@@ -1,6 +1,0 @@
-use Rattle.std.proofs.Common.{◌≡◌, take}
-use Rattle.sg_activity.specs.Hosts.{offers_of}
-use Rattle.sg_activity.proofs.beginning.offers.Given as goal
-
-abbrev pub invariant-loop-host : goal.invariant-loop-host
-invariant-loop-host l = l.offers.items ≡ offers_of (take l.host-index l.hosts)

@@ -1,0 +1,181 @@
+-- Calls that are sides of communications, and others.
+use Rattle.std.proofs.Common.{◌≡◌, ℕ, ◌==◌, Bool, true, false, cond, Option, None, Some, List, [], ◌∷◌, refl, sym, ap, subst, arith}
+use Rattle.sg_base.specs.declared.call.Answer.{Answer}
+use Rattle.sg_base.specs.declared.call.Call.{Call}
+use Rattle.sg_base.specs.declared.call.Call.TheVariants as call
+use Rattle.sg_base.specs.declared.ids.ActorId.{ActorId}
+use Rattle.sg_base.specs.Limits.{Extent, IsActorIn, IsActorNumber, IsCall}
+use Rattle.sg_base.specs.declared.awaits.Await.{Await}
+use Rattle.sg_requests.specs.Requested.{oldest, queue_at, queues_without_oldest}
+use Rattle.sg_route.specs.Roads.{Roads}
+use Rattle.sg_sync.specs.Objects.{Done, locked, unlocked, acquired, released, arrived}
+use Rattle.sg_calls.specs.declared.meetings.Comer.{Comer}
+use Rattle.sg_activity.specs.Links.{is_off}
+use Rattle.sg_states.specs.Actors.{is_alive, is_ended, joiners}
+use Rattle.sg_owners.specs.declared.owners.How.TheVariants as how
+use Rattle.sg_owners.specs.declared.owners.Whose.{Whose}
+use Rattle.sg_owners.specs.declared.owners.Whose.TheVariants.{Over, Alone, Posted, Pair}
+use Rattle.sg_calls.specs.declared.fields.Fields.{Fields}
+use Rattle.sg_setup.specs.Setup.{Setup}
+use Rattle.sg_calls.specs.World.{Core, extent, host_of, state_of, whose_at}
+use Rattle.sg_calls.specs.Steps.{Step, all_of, counted, each}
+use Rattle.sg_calls.specs.Answers.{side_of}
+use Rattle.sg_calls.specs.Meetings.{comer_of, sends_by, receives_by, answer_of_over, waits_by, waits_until}
+use Rattle.sg_calls.specs.Locks.{caller_gets, all_wake, caller_first, caller_last, joiners_wake, with_objects}
+use Rattle.sg_calls.specs.Lives.{joins_by, leaves}
+use Rattle.sg_calls.specs.Kills.{awaited, gives_up, gives_up_by, kill_done, kill_stretches, kills, withdrawn}
+use Rattle.sg_calls.specs.Calls.{answered_call, actor_of, computes}
+use Rattle.sg_calls.specs.kept.Acts.{CanName}
+use Rattle.sg_calls.specs.kept.Sound.{setup_in, IsComer}
+use Rattle.sg_calls.specs.kept.Whole.{CanStep}
+use Rattle.sg_calls.proofs.Each.{both_on, each_on}
+use Rattle.sg_calls.proofs.Finishes.{finishes_goes}
+use Rattle.sg_calls.proofs.Limits.{homes_counted}
+use Rattle.sg_calls.proofs.Woken.{all_on, caller_goes}
+
+-- who is named by a call exists
+pub can_name : (fields : Fields) (actor : ℕ) (target : ActorId) → CanStep fields actor → IsActorIn (extent (setup_in fields)) target → CanName fields actor target.0
+can_name fields actor target able is = record { able = able; target = record { from = is.0; to = omega (arith, is.1, homes_counted fields able.whole.sound) } }
+
+-- ---- a side that comes keeps to the limits
+comes_limited : (ex : Extent) (one two : Comer) → Some one ≡ Some two → IsComer ex one → IsComer ex two
+comes_limited ex one two e is =
+    let same : one ≡ two = cc e in
+    subst (IsComer ex) same is
+
+pub comer_limited : (ex : Extent) (actor : ℕ) (what : Call) (comer : Comer) → IsActorNumber ex actor → IsCall ex what → comer_of actor what ≡ Some comer → IsComer ex comer
+comer_limited ex actor call.Ask comer a h e = absurd (cc e)
+comer_limited ex actor (call.Compute n p) comer a h e = absurd (cc e)
+comer_limited ex actor (call.Sleep n) comer a h e = absurd (cc e)
+comer_limited ex actor (call.Send b n m r) comer a h e = comes_limited ex (sends_by (side_of actor n m r) (call.Send b n m r) true b) comer e (record { what = record { told = tt; call = h }; side = record { actor = a; bytes = h.1; message = h.2; rate = h.3 } })
+comer_limited ex actor (call.Recv b) comer a h e = comes_limited ex (receives_by actor (call.Recv b) true b) comer e (record { what = record { told = tt; call = h }; side = record { actor = a; bytes = omega arith; message = tt; rate = omega arith } })
+comer_limited ex actor (call.ISend b n m r) comer a h e = comes_limited ex (sends_by (side_of actor n m r) (call.ISend b n m r) false b) comer e (record { what = record { told = tt; call = h }; side = record { actor = a; bytes = h.1; message = h.2; rate = h.3 } })
+comer_limited ex actor (call.IRecv b) comer a h e = comes_limited ex (receives_by actor (call.IRecv b) false b) comer e (record { what = record { told = tt; call = h }; side = record { actor = a; bytes = omega arith; message = tt; rate = omega arith } })
+comer_limited ex actor call.Wait comer a h e = absurd (cc e)
+comer_limited ex actor (call.Lock n) comer a h e = absurd (cc e)
+comer_limited ex actor (call.Unlock n) comer a h e = absurd (cc e)
+comer_limited ex actor (call.Acquire n) comer a h e = absurd (cc e)
+comer_limited ex actor (call.Release n) comer a h e = absurd (cc e)
+comer_limited ex actor call.Barrier comer a h e = absurd (cc e)
+comer_limited ex actor (call.Create n) comer a h e = absurd (cc e)
+comer_limited ex actor (call.Join n) comer a h e = absurd (cc e)
+comer_limited ex actor (call.Kill n) comer a h e = absurd (cc e)
+comer_limited ex actor (call.Suspend n) comer a h e = absurd (cc e)
+comer_limited ex actor (call.Resume n) comer a h e = absurd (cc e)
+comer_limited ex actor call.Yield comer a h e = absurd (cc e)
+comer_limited ex actor call.Exit comer a h e = absurd (cc e)
+
+same_actor : (one two : Comer) → Some one ≡ Some two → two.side.actor.0 ≡ one.side.actor.0
+same_actor one two e =
+    let same : one ≡ two = cc e in
+    ap (λ (x : Comer). x.side.actor.0) (sym same)
+
+-- the one that comes is the caller
+pub comer_actor : (actor : ℕ) (what : Call) (comer : Comer) → comer_of actor what ≡ Some comer → comer.side.actor.0 ≡ actor
+comer_actor actor call.Ask comer e = absurd (cc e)
+comer_actor actor (call.Compute n p) comer e = absurd (cc e)
+comer_actor actor (call.Sleep n) comer e = absurd (cc e)
+comer_actor actor (call.Send b n m r) comer e = same_actor (sends_by (side_of actor n m r) (call.Send b n m r) true b) comer e
+comer_actor actor (call.Recv b) comer e = same_actor (receives_by actor (call.Recv b) true b) comer e
+comer_actor actor (call.ISend b n m r) comer e = same_actor (sends_by (side_of actor n m r) (call.ISend b n m r) false b) comer e
+comer_actor actor (call.IRecv b) comer e = same_actor (receives_by actor (call.IRecv b) false b) comer e
+comer_actor actor call.Wait comer e = absurd (cc e)
+comer_actor actor (call.Lock n) comer e = absurd (cc e)
+comer_actor actor (call.Unlock n) comer e = absurd (cc e)
+comer_actor actor (call.Acquire n) comer e = absurd (cc e)
+comer_actor actor (call.Release n) comer e = absurd (cc e)
+comer_actor actor call.Barrier comer e = absurd (cc e)
+comer_actor actor (call.Create n) comer e = absurd (cc e)
+comer_actor actor (call.Join n) comer e = absurd (cc e)
+comer_actor actor (call.Kill n) comer e = absurd (cc e)
+comer_actor actor (call.Suspend n) comer e = absurd (cc e)
+comer_actor actor (call.Resume n) comer e = absurd (cc e)
+comer_actor actor call.Yield comer e = absurd (cc e)
+comer_actor actor call.Exit comer e = absurd (cc e)
+
+-- ---- any other call goes on
+first_goes : (done : Done) (actor : ℕ) (what : Call) (core : Core) → (caller_first done actor what core).stop ≡ None
+first_goes done actor what core = both_on (caller_gets done.outcome actor what (with_objects done core)) (all_wake done.after.others) (caller_goes done.outcome actor what (with_objects done core)) (all_on done.after.others)
+
+last_goes : (done : Done) (actor : ℕ) (what : Call) (core : Core) → (caller_last done actor what core).stop ≡ None
+last_goes done actor what core = both_on (all_wake done.after.others (with_objects done core)) (caller_gets done.outcome actor what) (all_on done.after.others (with_objects done core)) (caller_goes done.outcome actor what)
+
+waits_on : (over : Option Answer) (actor : ℕ) (on : Await) (core : Core) → (waits_until over actor on core).stop ≡ None
+waits_on None actor on core = refl
+waits_on (Some over) actor on core = refl
+
+waits_goes : (found : Option Await) (actor : ℕ) (core : Core) → (waits_by found actor core).stop ≡ None
+waits_goes None actor core = refl
+waits_goes (Some on) actor core = waits_on (answer_of_over (whose_at core on.serial.0)) actor on (record core { requests = queues_without_oldest core.requests actor })
+
+computes_goes : (setup : Setup) (actor flops priority : ℕ) (core : Core) → (computes setup actor flops priority core).stop ≡ None
+computes_goes setup actor flops priority core = cases (is_off core.under.on.hosts (host_of setup actor)) _ _ refl refl
+  where
+    cases : (b : Bool) (one other : Step) → one.stop ≡ None → other.stop ≡ None → (cond b one other).stop ≡ None
+    cases true one other e f = e
+    cases false one other e f = f
+
+joins_goes : (ended : Bool) (actor : ℕ) (target : ActorId) (core : Core) → (joins_by ended actor target core).stop ≡ None
+joins_goes true actor target core = refl
+joins_goes false actor target core = refl
+
+-- ---- a kill
+pub gives_up_goes : (serial : ℕ) (core : Core) → (gives_up serial core).stop ≡ None
+gives_up_goes serial core = cases (whose_at core serial)
+  where
+    cases : (whose : Whose) → (gives_up_by whose serial core).stop ≡ None
+    cases (Over before) = refl
+    cases (Alone actor) = finishes_goes how.Failed serial core
+    cases (Posted mailbox sends side) = finishes_goes how.Failed serial core
+    cases (Pair sender receiver) = finishes_goes how.Failed serial core
+
+pub kill_done_goes : (actor : ℕ) (target : ActorId) (core : Core) → (kill_done actor target core).stop ≡ None
+kill_done_goes actor target core = cases (actor == target.0) _ _ refl refl
+  where
+    cases : (b : Bool) (one other : Step) → one.stop ≡ None → other.stop ≡ None → (cond b one other).stop ≡ None
+    cases true one other e f = e
+    cases false one other e f = f
+
+-- one stretch after another
+all_two : (first : Core → Step) (rest : List (Core → Step)) (core : Core) → (first core).stop ≡ None → ((c : Core) → (all_of rest c).stop ≡ None) → (all_of (first ∷ rest) core).stop ≡ None
+unfolding all_of
+all_two first rest core one more = both_on (first core) (all_of rest) one more
+
+all_none : (core : Core) → (all_of [] core).stop ≡ None
+unfolding all_of
+all_none core = refl
+
+pub kill_stretches_go : (actor : ℕ) (target : ActorId) (serials : List ℕ) (core : Core) → (all_of (kill_stretches actor target serials) core).stop ≡ None
+kill_stretches_go actor target serials core =
+    all_two (kill_done actor target) (each gives_up serials ∷ joiners_wake target.0 ∷ []) core (kill_done_goes actor target core)
+    (λ c. all_two (each gives_up serials) (joiners_wake target.0 ∷ []) c (each_on gives_up gives_up_goes serials c)
+    (λ d. all_two (joiners_wake target.0) [] d (all_on (joiners target.0 1 d.actors) d) all_none))
+
+kills_goes : (actor : ℕ) (target : ActorId) (core : Core) → (kills actor target core).stop ≡ None
+kills_goes actor target core = cases (is_alive (state_of core target.0)) _ _ (kill_stretches_go actor target (awaited target core) (withdrawn target core)) refl
+  where
+    cases : (b : Bool) (one other : Step) → one.stop ≡ None → other.stop ≡ None → (cond b one other).stop ≡ None
+    cases true one other e f = e
+    cases false one other e f = f
+
+pub alone_goes : (roads : Roads) (setup : Setup) (core : Core) (actor : ℕ) (what : Call) → comer_of actor what ≡ None → (answered_call roads setup core actor what).stop ≡ None
+alone_goes roads setup core actor call.Ask e = refl
+alone_goes roads setup core actor (call.Compute n p) e = computes_goes setup actor n p (counted core)
+alone_goes roads setup core actor (call.Sleep n) e = refl
+alone_goes roads setup core actor (call.Send b n m r) e = absurd (cc e)
+alone_goes roads setup core actor (call.Recv b) e = absurd (cc e)
+alone_goes roads setup core actor (call.ISend b n m r) e = absurd (cc e)
+alone_goes roads setup core actor (call.IRecv b) e = absurd (cc e)
+alone_goes roads setup core actor call.Wait e = waits_goes (oldest (queue_at core.requests actor)) actor (counted core)
+alone_goes roads setup core actor (call.Lock n) e = first_goes (locked (actor_of actor) n core.objects) actor (call.Lock n) (counted core)
+alone_goes roads setup core actor (call.Unlock n) e = first_goes (unlocked (actor_of actor) n core.objects) actor (call.Unlock n) (counted core)
+alone_goes roads setup core actor (call.Acquire n) e = first_goes (acquired (actor_of actor) n core.objects) actor (call.Acquire n) (counted core)
+alone_goes roads setup core actor (call.Release n) e = first_goes (released n core.objects) actor (call.Release n) (counted core)
+alone_goes roads setup core actor call.Barrier e = last_goes (arrived (actor_of actor) core.objects) actor call.Barrier (counted core)
+alone_goes roads setup core actor (call.Create n) e = refl
+alone_goes roads setup core actor (call.Join n) e = joins_goes (is_ended (state_of core n.0)) actor n (counted core)
+alone_goes roads setup core actor (call.Kill n) e = kills_goes actor n (counted core)
+alone_goes roads setup core actor (call.Suspend n) e = refl
+alone_goes roads setup core actor (call.Resume n) e = refl
+alone_goes roads setup core actor call.Yield e = refl
+alone_goes roads setup core actor call.Exit e = all_on (joiners actor 1 (leaves actor core).actors) (leaves actor (counted core))

@@ -1,0 +1,17 @@
+pub mod Alone
+pub mod Begins
+pub mod Each
+pub mod Finishes
+pub mod Limits
+pub mod Meets
+pub mod Mets
+pub mod Moves
+pub mod Postings
+pub mod PostsKept
+pub mod Suspending
+pub mod Timely
+pub mod Unmet
+pub mod Waiting
+pub mod Woken
+pub mod Stated
+pub mod Killed

@@ -1,0 +1,12 @@
+use Rattle.std.proofs.Common.{ap, ◌∙◌, rules}
+use Rattle.sg_calls.specs.Known.{Known, after}
+use Rattle.sg_calls.specs.Locks.{joiners_wake}
+use Rattle.sg_calls.proofs.joining.exit.Goals as goal
+
+pub returns : goal.returns
+returns c = record {
+  known =
+      c.wake_joiners.ensures.known
+      ∙ ap (λ (k : Known). after (joiners_wake c.args.actor.0 k.core) k) c.leave.ensures.known;
+  whole = search rules;
+}

@@ -1,0 +1,97 @@
+-- How a call is answered. Each call is one event.
+use Rattle.std.specs.Prelude.{ℕ, ◌+◌, Option, None, Some, true, false, if◌then◌else◌, [], ◌∷◌, ◌++◌, length}
+use Rattle.sg_base.specs.declared.call.Call.{Call}
+use Rattle.sg_base.specs.declared.call.Call.TheVariants as call
+use Rattle.sg_base.specs.declared.call.Answer.{Answer}
+use Rattle.sg_base.specs.declared.call.Answer.TheVariants as answer
+use Rattle.sg_base.specs.declared.call.Action.{Action}
+use Rattle.sg_base.specs.declared.ids.ActorId.{ActorId}
+use Rattle.sg_activity.specs.Links.{is_off}
+use Rattle.sg_activity.specs.Task.{Task, exec_of, timer_of}
+use Rattle.sg_activity.specs.Underway.{started}
+use Rattle.sg_base.specs.declared.awaits.Await.{Await}
+use Rattle.sg_base.specs.declared.awaits.Party.TheVariants as party
+use Rattle.sg_route.specs.Roads.{Roads}
+use Rattle.sg_sync.specs.Objects.{locked, unlocked, acquired, released, arrived}
+use Rattle.sg_owners.specs.declared.owners.Whose.TheVariants.{Alone}
+use Rattle.sg_setup.specs.Setup.{Setup}
+use Rattle.sg_calls.specs.World.{Core, host_of, is_suspended}
+use Rattle.sg_calls.specs.Steps.{Step, goes_on, counted, unless_used, readied, blocked_by, at_once}
+use Rattle.sg_calls.specs.Answers.{side_of}
+use Rattle.sg_calls.specs.Meetings.{sends_by, receives_by, comes, waits}
+use Rattle.sg_calls.specs.Locks.{caller_first, caller_last}
+use Rattle.sg_calls.specs.Lives.{created, exits, joins_one}
+use Rattle.sg_calls.specs.Kills.{kills}
+use Rattle.sg_calls.specs.Suspensions.{held_if, resumes, suspends}
+
+abbrev pub actor_of : ℕ → ActorId
+actor_of number = record { 0 = number }
+
+abbrev pub alone : ℕ → Await
+alone serial = record { serial = record { 0 = serial }; party = party.Alone }
+
+-- a new activity, on which the actor is blocked by this call
+abbrev pub blocks_on : Task → ℕ → Call → Core → Core
+blocks_on task actor what core =
+    blocked_by actor what (Some (alone (length core.under.tasks + 1)))
+    (record core { under = started task core.under; whose = core.whose ++ Alone (actor_of actor) ∷ [] })
+
+-- ---- what calls lead to, once they are counted
+-- it computes on its host, and weighs there as much as its priority
+abbrev pub with_execution : Setup → ℕ → ℕ → ℕ → Core → Core
+with_execution setup actor flops priority core =
+    blocks_on (exec_of (host_of setup actor) flops priority) actor (call.Compute flops priority) core
+
+-- that of a suspended actor is held as soon as it begins
+abbrev pub executed : Setup → ℕ → ℕ → ℕ → Core → Core
+executed setup actor flops priority core =
+    held_if (is_suspended core actor) (length core.under.tasks + 1) (with_execution setup actor flops priority core)
+
+abbrev pub executes : Setup → ℕ → ℕ → ℕ → Core → Step
+executes setup actor flops priority core = goes_on (executed setup actor flops priority core) []
+
+-- on a host that is off it fails at once
+abbrev pub computes : Setup → ℕ → ℕ → ℕ → Core → Step
+computes setup actor flops priority core =
+    if is_off core.under.on.hosts (host_of setup actor)
+    then at_once actor (call.Compute flops priority) 0 answer.Failed core
+    else executes setup actor flops priority core
+
+abbrev pub with_sleep : ℕ → ℕ → Core → Core
+with_sleep actor ns core = blocks_on (timer_of ns) actor (call.Sleep ns) core
+
+-- The answer to a call. An Ask is refused where nobody tells the actor its next line, and a Create where nobody gives the named actor a context.
+abbrev pub answered_call : Roads → Setup → Core → ℕ → Call → Step
+answered_call roads setup core actor call.Ask = goes_on (readied actor answer.Refused (counted core)) []
+answered_call roads setup core actor (call.Compute flops priority) = computes setup actor flops priority (counted core)
+answered_call roads setup core actor (call.Sleep ns) = goes_on (with_sleep actor ns (counted core)) []
+answered_call roads setup core actor (call.Send mailbox bytes message rate) =
+    comes roads setup (sends_by (side_of actor bytes message rate) (call.Send mailbox bytes message rate) true mailbox) core
+answered_call roads setup core actor (call.Recv mailbox) = comes roads setup (receives_by actor (call.Recv mailbox) true mailbox) core
+answered_call roads setup core actor (call.ISend mailbox bytes message rate) =
+    comes roads setup (sends_by (side_of actor bytes message rate) (call.ISend mailbox bytes message rate) false mailbox) core
+answered_call roads setup core actor (call.IRecv mailbox) = comes roads setup (receives_by actor (call.IRecv mailbox) false mailbox) core
+answered_call roads setup core actor call.Wait = waits actor (counted core)
+answered_call roads setup core actor (call.Lock mutex) = caller_first (locked (actor_of actor) mutex core.objects) actor (call.Lock mutex) (counted core)
+answered_call roads setup core actor (call.Unlock mutex) = caller_first (unlocked (actor_of actor) mutex core.objects) actor (call.Unlock mutex) (counted core)
+answered_call roads setup core actor (call.Acquire semaphore) = caller_first (acquired (actor_of actor) semaphore core.objects) actor (call.Acquire semaphore) (counted core)
+answered_call roads setup core actor (call.Release semaphore) = caller_first (released semaphore core.objects) actor (call.Release semaphore) (counted core)
+answered_call roads setup core actor call.Barrier = caller_last (arrived (actor_of actor) core.objects) actor call.Barrier (counted core)
+answered_call roads setup core actor (call.Create target) = created false actor target core
+answered_call roads setup core actor (call.Join target) = joins_one actor target (counted core)
+answered_call roads setup core actor (call.Kill target) = kills actor target (counted core)
+answered_call roads setup core actor (call.Suspend target) = suspends actor target (counted core)
+answered_call roads setup core actor (call.Resume target) = resumes actor target (counted core)
+answered_call roads setup core actor call.Yield = at_once actor call.Yield 0 answer.Done (counted core)
+answered_call roads setup core actor call.Exit = exits actor (counted core)
+
+abbrev pub answered : Roads → Setup → Core → ℕ → Call → Step
+answered roads setup core actor what = unless_used setup.budget core (answered_call roads setup core actor what)
+
+abbrev pub answer_of_ask : Option Action → Answer
+answer_of_ask None = answer.NoMore
+answer_of_ask (Some action) = answer.Act action
+
+-- the answer to an Ask, where the actor's next line is known, or that there is none
+abbrev pub told : Setup → Core → ℕ → Option Action → Step
+told setup core actor action = unless_used setup.budget core (goes_on (readied actor (answer_of_ask action) (counted core)) [])

@@ -1,0 +1,13 @@
+pub mod World
+pub mod Steps
+pub mod Network
+pub mod Answers
+pub mod Meetings
+pub mod Locks
+pub mod Lives
+pub mod Kills
+pub mod Suspensions
+pub mod Calls
+pub mod Known
+pub mod Roads
+pub mod kept

@@ -1,0 +1,39 @@
+-- How actors begin and end, and how others wait for their end.
+use Rattle.std.specs.Prelude.{ℕ, Bool, true, false, None, []}
+use Rattle.sg_base.specs.declared.call.Answer.TheVariants as answer
+use Rattle.sg_base.specs.declared.call.Call.TheVariants as call
+use Rattle.sg_base.specs.declared.ids.ActorId.{ActorId}
+use Rattle.sg_states.specs.declared.state.State.TheVariants.{Ready, Ended}
+use Rattle.sg_states.specs.Actors.{is_ended}
+use Rattle.sg_calls.specs.World.{Core, state_of, with_state}
+use Rattle.sg_calls.specs.Steps.{Step, goes_on, counted, blocked_by, at_once}
+use Rattle.sg_calls.specs.Locks.{joiners_wake}
+
+-- an actor that has not started begins
+abbrev pub begins : ActorId → Core → Core
+begins target core = with_state target.0 (Ready answer.Start) core
+
+-- whether the named actor was given a context
+abbrev pub creates : Bool → ℕ → ActorId → Core → Step
+creates true actor target core = at_once actor (call.Create target) 0 answer.Done (begins target core)
+creates false actor target core = at_once actor (call.Create target) 0 answer.Refused core
+
+-- a create, which is counted
+abbrev pub created : Bool → ℕ → ActorId → Core → Step
+created given actor target core = creates given actor target (counted core)
+
+-- whether the named actor has ended: the caller waits until it has
+abbrev pub joins_by : Bool → ℕ → ActorId → Core → Step
+joins_by true actor target core = at_once actor (call.Join target) 0 answer.Done core
+joins_by false actor target core = goes_on (blocked_by actor (call.Join target) None core) []
+
+abbrev pub joins_one : ℕ → ActorId → Core → Step
+joins_one actor target core = joins_by (is_ended (state_of core target.0)) actor target core
+
+-- it has made its last call
+abbrev pub leaves : ℕ → Core → Core
+leaves actor core = with_state actor Ended core
+
+-- and those that joined it go on
+abbrev pub exits : ℕ → Core → Step
+exits actor core = joiners_wake actor (leaves actor core)

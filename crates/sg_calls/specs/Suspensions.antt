@@ -1,0 +1,45 @@
+-- How actors are suspended and resumed.
+use Rattle.std.specs.Prelude.{ℕ, Bool, true, false, Option, None, Some, if◌then◌else◌}
+use Rattle.sg_base.specs.declared.awaits.Await.{Await}
+use Rattle.sg_base.specs.declared.call.Answer.TheVariants as answer
+use Rattle.sg_base.specs.declared.call.Call.TheVariants as call
+use Rattle.sg_base.specs.declared.ids.ActorId.{ActorId}
+use Rattle.sg_activity.specs.Underway.{Underway, gone_on, held, is_computing, is_kept}
+use Rattle.sg_states.specs.declared.state.Blocking.{Blocking}
+use Rattle.sg_states.specs.Actors.{blocking_in, is_alive}
+use Rattle.sg_calls.specs.World.{Core, state_of, with_suspended}
+use Rattle.sg_calls.specs.Steps.{Step, at_once}
+
+-- the execution of this serial is held where its actor is suspended
+abbrev pub held_if : Bool → ℕ → Core → Core
+held_if true serial core = record core { under = held serial core.under }
+held_if false serial core = core
+
+-- an execution that goes on is held, or one that is held goes on; anything else stays as it is
+abbrev pub held_to : Bool → ℕ → Underway → Underway
+held_to true serial under = if is_computing under serial then held serial under else under
+held_to false serial under = if is_kept under serial then gone_on serial under else under
+
+-- so it is with the activity on which an actor is blocked
+abbrev pub held_on : Bool → Option Await → Core → Core
+held_on on None core = core
+held_on on (Some await) core = record core { under = held_to on await.serial.0 core.under }
+
+abbrev pub held_by : Bool → Option Blocking → Core → Core
+held_by on None core = core
+held_by on (Some blocking) core = held_on on blocking.on core
+
+-- one that is alive is suspended, or resumed
+abbrev pub suspended_to : Bool → ActorId → Core → Core
+suspended_to on target core =
+    if is_alive (state_of core target.0)
+    then held_by on (blocking_in (state_of core target.0)) (with_suspended target.0 on core)
+    else core
+
+abbrev pub suspends : ℕ → ActorId → Core → Step
+suspends actor target core =
+    at_once actor (call.Suspend target) 0 answer.Done (suspended_to true target core)
+
+abbrev pub resumes : ℕ → ActorId → Core → Step
+resumes actor target core =
+    at_once actor (call.Resume target) 0 answer.Done (suspended_to false target core)

@@ -1,0 +1,7 @@
+-- How what is known is kept.
+pub mod Sound
+pub mod Waking
+pub mod Whole
+pub mod Acts
+pub mod Asks
+pub mod Killing

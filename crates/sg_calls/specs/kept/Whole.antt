@@ -1,0 +1,56 @@
+-- All that holds of what is kept.
+use Rattle.std.specs.Prelude.{◌≡◌, ◌≢◌, ℕ, ◌<◌, ◌^◌, true, false}
+use Rattle.sg_states.specs.States.{CanCall}
+use Rattle.sg_calls.specs.declared.fields.Fields.{Fields}
+use Rattle.sg_calls.specs.kept.Waking.{LeavesCallers}
+use Rattle.sg_calls.specs.kept.Sound.{IsSound, HasRoom, IsDated, IsTimely, AreLimited, AreMeeting, AreHeld}
+
+-- between any two calls, with room for what so many calls begin
+pub record IsWholeFor (room : ℕ) (fields : Fields) : Type 0 where
+  pub sound : IsSound fields
+  pub roomy : HasRoom room fields
+  pub dated : IsDated fields
+  pub timely : IsTimely fields
+  pub limited : AreLimited fields
+  pub meeting : AreMeeting fields
+  pub held : AreHeld fields
+  pub round : fields.states.passing ≡ false
+
+abbrev pub IsWhole : Fields → Type 0
+IsWhole fields = IsWholeFor fields.states.room fields
+
+-- a call of the actor can be answered: the budget isn't used up
+pub record CanStep (fields : Fields) (actor : ℕ) : Type 0 where
+  pub whole : IsWhole fields
+  pub call : CanCall fields.states actor
+  pub budget : fields.events ≢ fields.budget
+
+-- while a call on an object is answered: all but who is held, which `AreWaking` tells
+pub record IsSteady (fields : Fields) : Type 0 where
+  pub sound : IsSound fields
+  pub roomy : HasRoom fields.states.room fields
+  pub dated : IsDated fields
+  pub timely : IsTimely fields
+  pub limited : AreLimited fields
+  pub meeting : AreMeeting fields
+  pub round : fields.states.passing ≡ false
+
+-- while a pass answers: its date is not yet that of an event
+pub record IsPassing (fields : Fields) : Type 0 where
+  pub sound : IsSound fields
+  pub roomy : HasRoom fields.states.room fields
+  pub timely : IsTimely fields
+  pub limited : AreLimited fields
+  pub meeting : AreMeeting fields
+  pub held : AreHeld fields
+  pub passing : fields.states.passing ≡ true
+  pub small : fields.doing.under.date < 10 ^ 33
+
+-- an actor that waited may be answered: all that holds before holds after
+pub record KeepsWhole (old new : Fields) : Type 0 where
+  pub passing : IsPassing old → IsPassing new
+  pub whole : (room : ℕ) → IsWholeFor room old → IsWholeFor room new
+  pub sound : IsSound new
+  pub callers : LeavesCallers old.states new.states
+  pub room : new.states.room ≡ old.states.room
+  pub rest : new ≡ record old { states = new.states }

@@ -1,0 +1,102 @@
+//! Who is answered when an activity is over.
+
+ghost use Rattle.std.specs.Prelude.{◌≡◌, ◌<◌, ◌^◌, if◌then◌else◌};
+ghost use Rattle.sg_calls.specs.Answers.{answer_of_done as answer_of_done_spec, answer_to as answer_to_spec, answers, answers_side, for_receiver, tells_bytes as tells_bytes_spec};
+ghost use Rattle.sg_calls.specs.World.{extent};
+ghost use Rattle.sg_calls.specs.kept.Sound.{setup_in, IsOwner, IsSide, IsSound, StepsBy};
+ghost use Rattle.sg_calls.specs.kept.Whole.{KeepsWhole};
+
+use crate::fields::Fields;
+use crate::meetings::bare_side;
+use sg_base::{Answer, Call, Msg, Party, Serial};
+use sg_mailbox::Side;
+use sg_owners::{How, Whose};
+use sg_states::{Blocking, State};
+
+fn tells_bytes(what: Call) -> bool
+    ensures { result ≡ tells_bytes_spec what }
+{
+    match what {
+        Call::Send(..) | Call::Recv(_) => true,
+        _ => false,
+    }
+}
+
+// How many bytes the record of a call tells, of those that came.
+fn bytes_told(what: Call, bytes: u64) -> u64
+    ensures { result ≡ (if tells_bytes_spec what then bytes else 0) }
+{
+    if tells_bytes(what) { bytes } else { 0 }
+}
+
+fn answer_of_done(what: Call, msg: Msg) -> Answer
+    ensures { result ≡ answer_of_done_spec what msg }
+{
+    match what {
+        Call::Recv(_) => Answer::Got(msg),
+        _ => Answer::Done,
+    }
+}
+
+// The answer to a call by how its activity is over.
+fn answer_to(over: How, what: Call, msg: Msg) -> Answer
+    ensures { result ≡ answer_to_spec over what msg }
+{
+    match over {
+        How::Done => answer_of_done(what, msg),
+        How::Failed => Answer::Failed,
+    }
+}
+
+/// Answers the actor of a side, where it is blocked on this side of this activity: with what the side gives, by how the
+/// activity is over.
+pub(crate) fn answer_side(fields: &mut Fields, over: How, serial: Serial, party: Party, given: Side)
+    requires given { IsSide (extent (setup_in fields.old)) given }
+    requires sound { IsSound fields.old }
+    requires small { fields.old.doing.under.date < 10 ^ 33 }
+    ensures known { StepsBy (answers_side over serial.0 party given) fields.old fields.new }
+    ensures keeps { KeepsWhole fields.old fields.new }
+{
+    match fields.states.state(given.actor) {
+        State::Blocked(what, since, Some(on)) if on.serial.0 == serial.0 && on.party == party => {
+            let bytes = bytes_told(what, given.bytes);
+            let answer = answer_to(over, what, given.msg);
+            let date = fields.doing.date();
+            let on = Some(on);
+            let blocking = Blocking { what, since, on };
+            fields
+                .states
+                .reply(given.actor, blocking, bytes, answer, date);
+        }
+        _ => {}
+    }
+}
+
+/// What a sender sent, for the receiver.
+pub(crate) fn for_receiver(sender: Side, receiver: Side) -> Side
+    ensures { result ≡ for_receiver sender receiver }
+{
+    Side {
+        actor: receiver.actor,
+        ..sender
+    }
+}
+
+/// Answers those whose activity is over: of a communication the sender, and then the receiver.
+pub fn answer_owners(fields: &mut Fields, over: How, serial: Serial, whose: Whose)
+    requires whose { IsOwner (extent (setup_in fields.old)) whose }
+    requires sound { IsSound fields.old }
+    requires small { fields.old.doing.under.date < 10 ^ 33 }
+    ensures known { StepsBy (answers over serial.0 whose) fields.old fields.new }
+    ensures keeps { KeepsWhole fields.old fields.new }
+{
+    match whose {
+        Whose::Alone(actor) => answer_side(fields, over, serial, Party::Alone, bare_side(actor)),
+        Whose::Pair(sender, receiver) => {
+            answer_side(fields, over, serial, Party::Sender, sender);
+            let given = for_receiver(sender, receiver);
+            answer_side(fields, over, serial, Party::Receiver, given);
+        }
+        Whose::Over(_) | Whose::Posted(..) => {}
+    }
+}

@@ -1,0 +1,99 @@
+//! Executions and sleeps begin.
+ghost use Rattle.std.specs.Prelude.{◌≡◌, ◌+◌, ◌<◌, IsTrue, length};
+ghost use Rattle.sg_activity.specs.Underway.{is_computing};
+ghost use Rattle.sg_calls.specs.World.{host_of};
+ghost use Rattle.sg_calls.specs.Calls.{alone, computes, executed, with_execution, with_sleep};
+ghost use Rattle.sg_calls.specs.kept.Acts.{Answers, CanMake, Counts};
+ghost use Rattle.sg_calls.specs.kept.Sound.{setup_in, IsHome};
+ghost use Rattle.sg_calls.specs.kept.Whole.{CanStep};
+
+use crate::at_once::answer_now;
+use crate::fields::Fields;
+use crate::holding::hold_if;
+use sg_base::{ActorId, Answer, Await, Call, Party, PointId, Serial};
+use sg_owners::Whose;
+
+fn alone(serial: Serial) -> Await
+    ensures { result ≡ alone serial.0 }
+{
+    Await {
+        serial,
+        party: Party::Alone,
+    }
+}
+
+// The host of an actor.
+fn home_of(fields: &Fields, actor: ActorId) -> PointId
+    requires { CanStep fields.now actor.0 }
+    ensures is { result.0 ≡ host_of (setup_in fields.now) actor.0 }
+    ensures exists { result.0 < length fields.now.doing.under.capacities.hosts }
+{
+    fields.homes[actor.index()]
+}
+
+// An execution of the actor begins on its host, which is on.
+fn start(fields: &mut Fields, actor: ActorId, host: PointId, flops: u64, priority: u32) -> Serial
+    requires computes { CanMake fields.old actor.0 (Call.Compute flops priority) }
+    requires home { IsHome fields.old actor.0 host }
+    ensures serial { result.0 ≡ length fields.old.doing.under.tasks + 1 }
+    ensures computing { IsTrue (is_computing fields.new.doing.under result.0) }
+    ensures counts { Counts (with_execution (setup_in fields.old) actor.0 flops priority)
+        fields.old fields.new }
+{
+    let date = fields.doing.date();
+    let serial = fields.doing.start_exec(host, flops, priority);
+    fields.whose.push(Whose::Alone(actor));
+    fields.states.block(
+        actor,
+        Call::Compute(flops, priority),
+        date,
+        Some(alone(serial)),
+    );
+    fields.events += 1;
+    serial
+}
+
+// The actor computes on its host, which is on. That is held as soon as it begins, where the actor is suspended.
+fn execute(fields: &mut Fields, actor: ActorId, host: PointId, flops: u64, priority: u32)
+    requires computes { CanMake fields.old actor.0 (Call.Compute flops priority) }
+    requires home { IsHome fields.old actor.0 host }
+    ensures { Counts (executed (setup_in fields.old) actor.0 flops priority)
+        fields.old fields.new }
+{
+    let serial = start(fields, actor, host, flops, priority);
+    hold_if(fields, actor, serial);
+}
+
+/// The actor computes at a priority, unless its host is off.
+pub(crate) fn compute(fields: &mut Fields, actor: ActorId, flops: u64, priority: u32)
+    requires { CanMake fields.old actor.0 (Call.Compute flops priority) }
+    ensures { Answers (computes (setup_in fields.old) actor.0 flops priority)
+        fields.old fields.new }
+{
+    let host = home_of(fields, actor);
+    if fields.doing.is_host_off(host) {
+        answer_now(
+            fields,
+            actor,
+            Call::Compute(flops, priority),
+            0,
+            Answer::Failed,
+        )
+    } else {
+        execute(fields, actor, host, flops, priority)
+    }
+}
+
+/// The actor sleeps.
+pub(crate) fn sleep(fields: &mut Fields, actor: ActorId, ns: u64)
+    requires { CanMake fields.old actor.0 (Call.Sleep ns) }
+    ensures { Counts (with_sleep actor.0 ns) fields.old fields.new }
+{
+    let date = fields.doing.date();
+    let serial = fields.doing.start_timer(ns);
+    fields.whose.push(Whose::Alone(actor));
+    fields
+        .states
+        .block(actor, Call::Sleep(ns), date, Some(alone(serial)));
+    fields.events += 1;
+}

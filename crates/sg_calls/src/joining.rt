@@ -1,0 +1,76 @@
+//! Actors end, and those that wait for that go on.
+ghost use Rattle.std.specs.Prelude.{◌≡◌, drop};
+ghost use Rattle.sg_states.specs.Actors.{is_ended, joiners, IsJoiner};
+ghost use Rattle.sg_calls.specs.Lives.{exits, joins_one, leaves};
+ghost use Rattle.sg_calls.specs.Locks.{joiners_wake, wakes};
+ghost use Rattle.sg_calls.specs.kept.Acts.{Answers, CanMake, Counts, Wakes};
+ghost use Rattle.sg_calls.specs.kept.Whole.{CanStep, IsWhole};
+
+use crate::at_once::answer_now;
+use crate::fields::Fields;
+use crate::meetings::block;
+use sg_base::{ActorId, Answer, Call};
+use sg_states::State;
+
+// The first that waits for an actor to end goes on.
+fn wake_joiner(fields: &mut Fields, target: ActorId, actor: ActorId)
+    requires first { IsJoiner fields.old.states.actors target.0 actor }
+    requires whole { IsWhole fields.old }
+    ensures wakes { Wakes (wakes actor) fields.old fields.new }
+    ensures rest { joiners target.0 1 fields.new.states.actors
+        ≡ drop 1 (joiners target.0 1 fields.old.states.actors) }
+{
+    if let Some(blocking) = fields.states.state(actor).blocking() {
+        let date = fields.doing.date();
+        fields.states.reply(actor, blocking, 0, Answer::Done, date);
+    }
+}
+
+/// All that wait for an actor to end go on, by rising id.
+pub(crate) fn wake_joiners(fields: &mut Fields, target: ActorId)
+    requires { IsWhole fields.old }
+    ensures { Wakes (joiners_wake target.0) fields.old fields.new }
+{
+    while let Some(actor) = fields.states.joiner(target) {
+        wake_joiner(fields, target, actor);
+    }
+}
+
+// The actor has made its last call.
+fn leave(fields: &mut Fields, actor: ActorId)
+    requires { CanStep fields.old actor.0 }
+    ensures { Counts (leaves actor.0) fields.old fields.new }
+{
+    fields.states.exit(actor);
+    fields.events += 1;
+}
+
+/// The actor has made its last call, and those that wait for its end go on.
+pub(crate) fn exit(fields: &mut Fields, actor: ActorId)
+    requires { CanStep fields.old actor.0 }
+    ensures { Answers (exits actor.0) fields.old fields.new }
+{
+    leave(fields, actor);
+    wake_joiners(fields, actor);
+}
+
+fn has_ended(state: State) -> bool
+    ensures { result ≡ is_ended state }
+{
+    match state {
+        State::Ended => true,
+        State::Unstarted | State::Ready(_) | State::Blocked(..) => false,
+    }
+}
+
+/// The actor waits until the named one has ended.
+pub(crate) fn join(fields: &mut Fields, actor: ActorId, target: ActorId)
+    requires { CanMake fields.old actor.0 (Call.Join target) }
+    ensures { Answers (joins_one actor.0 target) fields.old fields.new }
+{
+    if has_ended(fields.states.state(target)) {
+        answer_now(fields, actor, Call::Join(target), 0, Answer::Done)
+    } else {
+        block(fields, actor, Call::Join(target), None)
+    }
+}

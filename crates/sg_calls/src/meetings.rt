@@ -1,0 +1,406 @@
+//! Sides of communications come to mailboxes, and actors wait for their requests.
+
+ghost use Rattle.std.specs.Prelude.{◌≡◌, ◌≢◌, ◌<◌, ◌^◌, AllPairs, IfSome, None, false, length};
+ghost use Rattle.sg_activity.specs.Task.{is_cut};
+ghost use Rattle.sg_base.specs.declared.ids.BoxId.{BoxId};
+ghost use Rattle.sg_base.specs.Limits.{IsActorIn};
+ghost use Rattle.sg_mailbox.specs.Posts.{partner, waiters, IsFound};
+ghost use Rattle.sg_states.specs.Records.{IsTellable};
+ghost use Rattle.sg_calls.specs.World.{extent};
+ghost use Rattle.sg_calls.specs.Steps.{blocked_by};
+ghost use Rattle.sg_calls.specs.Answers.{bare_side, side_of};
+ghost use Rattle.sg_calls.specs.Meetings.{answer_of_over as answer_of_over_spec, comer_fails, comer_of, fails_with, joins_on, joins_with, other_fails, party_of, point_of, posts, receiver_of, receives_by, sender_of, sends_by, stop_of, takes_part, waits as waits_spec, way_with};
+ghost use Rattle.sg_calls.specs.Roads.{AreOver, IsOver};
+ghost use Rattle.sg_calls.specs.kept.Acts.{Answers, CanCome, CanMeet, CanTakePart, Completes, Counts, Replies};
+ghost use Rattle.sg_calls.specs.kept.Sound.{setup_in, comes_in, IsComer, IsMade, IsSide, IsSound, StepsBy};
+ghost use Rattle.sg_calls.specs.kept.Whole.{CanStep, KeepsWhole};
+
+use crate::answers::{answer_side, for_receiver};
+use crate::at_once::answer_now;
+use crate::fields::Fields;
+use crate::network::{latency_over, own_bound};
+use crate::stop::Stop;
+use arrayvec::ArrayVec;
+use sg_activity::Transfer;
+use sg_base::{ActorId, Answer, Await, BoxId, Call, LinkId, Msg, Party, PointId, Serial};
+use sg_mailbox::{Found, Side};
+use sg_owners::{How, Whose};
+use sg_route::{RouteFault, Router};
+
+/// A side of a communication that comes to a mailbox.
+#[derive(Clone, Copy)]
+pub struct Comer {
+    /// The call by which it comes.
+    pub what: Call,
+    pub mailbox: BoxId,
+    pub sends: bool,
+    /// Whether the call waits until the communication is done.
+    pub waits: bool,
+    pub side: Side,
+}
+
+fn side_of(actor: ActorId, bytes: u64, msg: Msg, rate: u64) -> Side
+    ensures { result ≡ side_of actor.0 bytes msg rate }
+{
+    Side {
+        actor,
+        bytes,
+        msg,
+        rate,
+    }
+}
+
+/// A side that brings nothing.
+pub(crate) fn bare_side(actor: ActorId) -> Side
+    ensures { result ≡ bare_side actor.0 }
+{
+    side_of(actor, 0, Msg::Empty, 0)
+}
+
+fn sends_by(side: Side, what: Call, waits: bool, mailbox: BoxId) -> Comer
+    ensures { result ≡ sends_by side what waits mailbox }
+{
+    Comer {
+        what,
+        mailbox,
+        sends: true,
+        waits,
+        side,
+    }
+}
+
+fn receives_by(actor: ActorId, what: Call, waits: bool, mailbox: BoxId) -> Comer
+    ensures { result ≡ receives_by actor.0 what waits mailbox }
+{
+    Comer {
+        what,
+        mailbox,
+        sends: false,
+        waits,
+        side: bare_side(actor),
+    }
+}
+
+/// The side that comes by this call, where it is one of a communication.
+pub(crate) fn comer_of(actor: ActorId, call: Call) -> Option<Comer>
+    ensures { result ≡ comer_of actor.0 call }
+{
+    match call {
+        Call::Send(mailbox, bytes, msg, rate) => {
+            let side = side_of(actor, bytes, msg, rate);
+            Some(sends_by(side, call, true, mailbox))
+        }
+        Call::ISend(mailbox, bytes, msg, rate) => {
+            let side = side_of(actor, bytes, msg, rate);
+            Some(sends_by(side, call, false, mailbox))
+        }
+        Call::Recv(mailbox) => Some(receives_by(actor, call, true, mailbox)),
+        Call::IRecv(mailbox) => Some(receives_by(actor, call, false, mailbox)),
+        _ => None,
+    }
+}
+
+fn party_of(sends: bool) -> Party
+    ensures { result ≡ party_of sends }
+{
+    if sends {
+        Party::Sender
+    } else {
+        Party::Receiver
+    }
+}
+
+// The actor of a call that is counted takes part in the communication of this serial; that takes the room of the call.
+fn take_part(fields: &mut Fields, comer: Comer, serial: Serial)
+    requires { CanTakePart fields.old comer serial.0 }
+    ensures { Completes (takes_part comer.waits comer serial.0) fields.old fields.new }
+{
+    let actor = comer.side.actor;
+    let on = Await {
+        serial,
+        party: party_of(comer.sends),
+    };
+    let date = fields.doing.date();
+    if comer.waits {
+        fields.states.block(actor, comer.what, date, Some(on))
+    } else {
+        fields.requests.push(actor, on);
+        fields
+            .states
+            .answer(actor, comer.what, comer.side.bytes, Answer::Done, date)
+    }
+}
+
+// The side is posted, as a communication with the next serial.
+fn post(fields: &mut Fields, comer: Comer, found: Found)
+    requires comes { CanCome fields.old comer }
+    requires found { IsFound fields.old.boxes comer.mailbox comer.sends found }
+    requires alone { partner comer.sends (waiters fields.old.boxes comer.mailbox) ≡ None }
+    ensures { Answers (posts comer) fields.old fields.new }
+{
+    fields.events += 1;
+    let serial = fields.doing.take_serial();
+    fields
+        .whose
+        .push(Whose::Posted(comer.mailbox, comer.sends, comer.side));
+    fields
+        .boxes
+        .enter(comer.mailbox, comer.sends, found, comer.side, serial);
+    take_part(fields, comer, serial);
+}
+
+fn stop_of(from: PointId, to: PointId, fault: RouteFault) -> Stop
+    ensures { result ≡ stop_of from to fault }
+{
+    match fault {
+        RouteFault::NoRoute {
+            zone,
+            from: a,
+            to: b,
+        } => Stop::NoRoute {
+            from,
+            to,
+            zone,
+            a,
+            b,
+        },
+        RouteFault::TooLong => Stop::TooLong { from, to },
+    }
+}
+
+fn sender_of(comer: Comer, other: Side) -> Side
+    ensures { result ≡ sender_of comer other }
+{
+    if comer.sends { comer.side } else { other }
+}
+
+fn receiver_of(comer: Comer, other: Side) -> Side
+    ensures { result ≡ receiver_of comer other }
+{
+    if comer.sends { other } else { comer.side }
+}
+
+// The host of a side.
+fn point_of(fields: &Fields, side: Side) -> PointId
+    requires { IsActorIn (extent (setup_in fields.now)) side.actor }
+    ensures { result ≡ point_of (setup_in fields.now) side }
+{
+    fields.homes[side.actor.index()]
+}
+
+// Both sides are there, and the communication begins over these links.
+fn begin(
+    fields: &mut Fields,
+    comer: Comer,
+    found: Found,
+    met: (Serial, Side),
+    links: &[LinkId],
+    latency: u128,
+)
+    requires meets { CanMeet fields.old comer found met }
+    requires route { IsOver fields.old.links
+        (record { links = links.now; latency = latency }) }
+    requires apart { AllPairs (λ a b. a ≢ b) links.now }
+    requires on { is_cut fields.old.doing.under.on
+        (way_with (record { links = links.now; latency = latency }) (setup_in fields.old)
+        comer met.1) ≡ false }
+    ensures { Answers
+        (joins_with (record { links = links.now; latency = latency }) (setup_in fields.old)
+        comer met.0 met.1)
+        fields.old fields.new }
+{
+    let (serial, other) = met;
+    let sender = sender_of(comer, other);
+    let receiver = receiver_of(comer, other);
+    let lasts = latency_over(fields, links, latency);
+    let bound = own_bound(fields, links, latency, sender.rate);
+    let from = point_of(fields, sender);
+    let to = point_of(fields, receiver);
+    let transfer = Transfer {
+        latency: lasts,
+        bytes: sender.bytes,
+        bound,
+        sender: from,
+        receiver: to,
+    };
+    fields.events += 1;
+    let next = fields.doing.next_serial();
+    fields
+        .boxes
+        .enter(comer.mailbox, comer.sends, found, comer.side, next);
+    fields.doing.start_comm(serial, links, transfer);
+    fields.whose.put(serial, Whose::Pair(sender, receiver));
+    take_part(fields, comer, serial);
+}
+
+// The actor of a call that is counted takes part in a communication that fails; that takes the room of the call.
+fn fail_comer(fields: &mut Fields, comer: Comer, serial: Serial, other: Side)
+    requires takes_part { CanTakePart fields.old comer serial.0 }
+    requires other { IsSide (extent (setup_in fields.old)) other }
+    ensures { Completes (comer_fails comer serial.0 other) fields.old fields.new }
+{
+    let date = fields.doing.date();
+    if comer.waits {
+        let bytes = sender_of(comer, other).bytes;
+        fields
+            .states
+            .answer(comer.side.actor, comer.what, bytes, Answer::Failed, date)
+    } else {
+        take_part(fields, comer, serial)
+    }
+}
+
+// The side that waited is answered, where its communication fails.
+fn fail_other(fields: &mut Fields, comer: Comer, serial: Serial, other: Side)
+    requires comer { IsComer (extent (setup_in fields.old)) comer }
+    requires other { IsSide (extent (setup_in fields.old)) other }
+    requires sound { IsSound fields.old }
+    requires small { fields.old.doing.under.date < 10 ^ 33 }
+    ensures known { StepsBy (other_fails comer serial.0 other) fields.old fields.new }
+    ensures keeps { KeepsWhole fields.old fields.new }
+{
+    if comer.sends {
+        let given = for_receiver(comer.side, other);
+        answer_side(fields, How::Failed, serial, Party::Receiver, given)
+    } else {
+        answer_side(fields, How::Failed, serial, Party::Sender, other)
+    }
+}
+
+// Both sides are there, but something that they would use is off: the communication fails in the call.
+fn fail_at_once(fields: &mut Fields, comer: Comer, found: Found, met: (Serial, Side))
+    requires { CanMeet fields.old comer found met }
+    ensures { Answers (fails_with comer met.0 met.1) fields.old fields.new }
+{
+    let (serial, other) = met;
+    fields.events += 1;
+    let next = fields.doing.next_serial();
+    fields
+        .boxes
+        .enter(comer.mailbox, comer.sends, found, comer.side, next);
+    fields.whose.put(serial, Whose::Over(How::Failed));
+    if comer.sends {
+        fail_comer(fields, comer, serial, other);
+        fail_other(fields, comer, serial, other)
+    } else {
+        fail_other(fields, comer, serial, other);
+        fail_comer(fields, comer, serial, other)
+    }
+}
+
+// Both sides are there: the communication begins over these links, unless something is off that it would use.
+fn meet(
+    fields: &mut Fields,
+    comer: Comer,
+    found: Found,
+    met: (Serial, Side),
+    links: &[LinkId],
+    latency: u128,
+)
+    requires meets { CanMeet fields.old comer found met }
+    requires route { IsOver fields.old.links
+        (record { links = links.now; latency = latency }) }
+    requires apart { AllPairs (λ a b. a ≢ b) links.now }
+    ensures { Answers
+        (joins_on (record { links = links.now; latency = latency }) (setup_in fields.old)
+        comer met.0 met.1)
+        fields.old fields.new }
+{
+    let (_, other) = met;
+    let sender = point_of(fields, sender_of(comer, other));
+    let receiver = point_of(fields, receiver_of(comer, other));
+    if fields.doing.is_cut(links, sender, receiver) {
+        fail_at_once(fields, comer, found, met)
+    } else {
+        begin(fields, comer, found, met, links, latency)
+    }
+}
+
+// Both sides are there: their communication begins over its route, or fails. Its links are written in a place that stands
+// ready, since to make an array takes longer than to write a route.
+fn join(
+    fields: &mut Fields,
+    router: &mut Router,
+    links: &mut ArrayVec<LinkId, 64>,
+    comer: Comer,
+    found: Found,
+    met: (Serial, Side),
+) -> Result<(), Stop>
+    requires meets { CanMeet fields.old comer found met }
+    requires roads { AreOver fields.old.links router.old }
+    ensures replies { Replies (comes_in router.old comer fields.old)
+        fields.old fields.new result }
+    ensures router { router.new ≡ router.old }
+{
+    let (_, other) = met;
+    let from = point_of(fields, sender_of(comer, other));
+    let to = point_of(fields, receiver_of(comer, other));
+    match router.route(from, to, links) {
+        Ok(latency) => {
+            meet(fields, comer, found, met, links.as_slice(), latency);
+            Ok(())
+        }
+        Err(fault) => Err(stop_of(from, to, fault)),
+    }
+}
+
+/// A side comes to its mailbox. A missing or too long route stops the run, with all as it was.
+pub(crate) fn come(
+    fields: &mut Fields,
+    router: &mut Router,
+    links: &mut ArrayVec<LinkId, 64>,
+    comer: Comer,
+) -> Result<(), Stop>
+    requires comes { CanCome fields.old comer }
+    requires roads { AreOver fields.old.links router.old }
+    ensures replies { Replies (comes_in router.old comer fields.old)
+        fields.old fields.new result }
+    ensures router { router.new ≡ router.old }
+{
+    let found = fields.boxes.look(comer.mailbox, comer.sends);
+    match found.met {
+        Some(met) => join(fields, router, links, comer, found, met),
+        None => {
+            post(fields, comer, found);
+            Ok(())
+        }
+    }
+}
+
+/// The actor is blocked by its call until its side of an activity is done, or, with none, until another's call lets it go
+/// on.
+pub(crate) fn block(fields: &mut Fields, actor: ActorId, what: Call, on: Option<Await>)
+    requires able { CanStep fields.old actor.0 }
+    requires what { IsTellable (extent (setup_in fields.old)) what }
+    requires made { IfSome on (IsMade (length fields.old.whose.whose)) }
+    ensures { Counts (blocked_by actor.0 what on) fields.old fields.new }
+{
+    let date = fields.doing.date();
+    fields.states.block(actor, what, date, on);
+    fields.events += 1;
+}
+
+// What an actor that waits for an activity is answered at once, where it is over.
+fn answer_of_over(whose: Whose) -> Option<Answer>
+    ensures { result ≡ answer_of_over_spec whose }
+{
+    match whose {
+        Whose::Over(How::Done) => Some(Answer::Done),
+        Whose::Over(How::Failed) => Some(Answer::Failed),
+        Whose::Alone(_) | Whose::Posted(..) | Whose::Pair(..) => None,
+    }
+}
+
+/// The actor waits for its oldest request.
+pub(crate) fn wait(fields: &mut Fields, actor: ActorId)
+    requires { CanStep fields.old actor.0 }
+    ensures { Answers (waits_spec actor.0) fields.old fields.new }
+{
+    match fields.requests.take(actor) {
+        None => answer_now(fields, actor, Call::Wait, 0, Answer::Refused),
+        Some(on) => match answer_of_over(fields.whose.of(on.serial)) {
+            Some(answer) => answer_now(fields, actor, Call::Wait, 0, answer),
+            None => block(fields, actor, Call::Wait, Some(on)),
+        },
+    }
+}

@@ -1,0 +1,63 @@
+//! What the network does to a communication over a route.
+ghost use Rattle.std.specs.Prelude.{◌≡◌, ◌≤◌, ◌^◌};
+ghost use Rattle.sg_lives.specs.Slots.{sooner};
+ghost use Rattle.sg_rows.specs.Network.{IsNetwork};
+ghost use Rattle.sg_calls.specs.Network.{is_loopback, latency_over, own_bound, rate_bound};
+ghost use Rattle.sg_calls.specs.kept.Sound.{setup_in};
+
+use crate::fields::Fields;
+use sg_base::LinkId;
+
+fn is_loopback(count: usize, links: &[LinkId]) -> bool
+    ensures { result ≡ is_loopback count links.now }
+{
+    match links {
+        [link] => link.0 as usize + 1 == count,
+        _ => false,
+    }
+}
+
+fn sooner(a: Option<u64>, b: Option<u64>) -> Option<u64>
+    ensures { result ≡ sooner a b }
+{
+    match (a, b) {
+        (None, _) => b,
+        (Some(_), None) => a,
+        (Some(a), Some(b)) => Some(a.min(b)),
+    }
+}
+
+fn rate_bound(rate: u64) -> Option<u64>
+    ensures { result ≡ rate_bound rate }
+{
+    if rate == 0 { None } else { Some(rate) }
+}
+
+/// How long the latency of a route over these links lasts.
+pub(crate) fn latency_over(fields: &Fields, links: &[LinkId], latency: u128) -> u128
+    requires network { IsNetwork fields.now.network }
+    requires short { latency ≤ 64000000000000000 }
+    ensures value { result ≡ latency_over (setup_in fields.now)
+        (record { links = links.now; latency = latency }) }
+    ensures limit { result ≤ 10 ^ 20 }
+{
+    if is_loopback(fields.links, links) {
+        latency
+    } else {
+        fields.network.latency_over(latency)
+    }
+}
+
+/// What bounds a message of a rate over a route, beside its links.
+pub(crate) fn own_bound(fields: &Fields, links: &[LinkId], latency: u128, rate: u64) -> Option<u64>
+    requires network { IsNetwork fields.now.network }
+    requires short { latency ≤ 64000000000000000 }
+    ensures { result ≡ own_bound (setup_in fields.now)
+        (record { links = links.now; latency = latency }) rate }
+{
+    if is_loopback(fields.links, links) {
+        rate_bound(rate)
+    } else {
+        sooner(rate_bound(rate), fields.network.window_bound(latency))
+    }
+}

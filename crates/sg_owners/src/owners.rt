@@ -1,0 +1,157 @@
+//! Whose each activity is.
+ghost use Rattle.std.specs.Prelude.{◌≡◌, ◌≢◌, ◌+◌, ◌-◌, ◌<◌, ◌≤◌, ◌^◌, ◌++◌, ◌∷◌, [], length, slice_index_or, slice_set, OnOk};
+ghost use Rattle.sg_owners.specs.declared.owners.How.TheVariants as how;
+ghost use Rattle.sg_owners.specs.declared.owners.Whose.TheVariants.{Over};
+ghost use Rattle.sg_owners.specs.Owners.{whose_of as whose_of_spec};
+
+use sg_base::{ActorId, BoxId, Memory, Serial};
+use sg_mailbox::Side;
+use sg_serials::BySerial;
+use std::alloc::Global;
+use std::marker::Model;
+
+/// How an activity is over.
+#[derive(Clone, Copy)]
+pub enum How {
+    /// All of it is done.
+    Done,
+    /// It failed: something that it used is off, or went off.
+    Failed,
+}
+
+/// Whose an activity is.
+#[derive(Clone, Copy)]
+pub enum Whose {
+    /// Nobody's: it is over.
+    Over(How),
+    /// It is what this actor computes or sleeps.
+    Alone(ActorId),
+    /// It is a communication of which one side is there, in this mailbox, and whether that one sends.
+    Posted(BoxId, bool, Side),
+    /// It is a communication of a sender and a receiver.
+    Pair(Side, Side),
+}
+
+/// Whose each activity is. It keeps nothing of one that is done, and of one that failed that it did. Contracts see a list
+/// by serial.
+#[derive(Drop)]
+pub struct Owners {
+    owners: BySerial<Whose>,
+    drawn: u64,
+    room: usize,
+}
+
+impl Model for Owners {
+    ghost use Rattle.std.specs.Prelude.{◌≤◌};
+    ghost use Rattle.sg_serials.specs.Serials.{at, room as room_in};
+    ghost use Rattle.sg_owners.specs.Owners.{Owned, table};
+
+    ghost Value = { Owned };
+
+    ghost view = { λ s. record {
+      whose = table (at s.owners) 1 s.drawn;
+      room = s.room;
+    } };
+
+    ghost invariant = { λ s. s.room ≤ room_in s.owners };
+}
+
+fn whose_of(owner: Option<Whose>) -> Whose
+    ensures { result ≡ whose_of_spec owner }
+{
+    match owner {
+        Some(whose) => whose,
+        None => Whose::Over(How::Done),
+    }
+}
+
+impl Owners {
+    /// Nobody's and no room.
+    pub fn new(alloc: Global) -> Owners
+        ensures { result ≡ record { whose = []; room = 0 } }
+    {
+        Owners {
+            owners: BySerial::new(alloc),
+            drawn: 0,
+            room: 0,
+        }
+    }
+
+    /// Room for so many more.
+    pub fn reserve(&mut self, n: usize) -> Result<(), Memory>
+        ensures room { OnOk result (n ≤ self.new.room) }
+        ensures grows { self.old.room ≤ self.new.room }
+        ensures kept { self.new ≡ record self.old { room = self.new.room } }
+    {
+        let n = n.max(self.room);
+        self.owners.reserve(n)?;
+        self.room = n;
+        Ok(())
+    }
+
+    /// Whose the activity of the next serial is.
+    pub fn push(&mut self, whose: Whose)
+        requires few { length self.old.whose < 10 ^ 9 }
+        requires room { 0 < self.old.room }
+        ensures { self.new ≡ record {
+          whose = self.old.whose ++ whose ∷ [];
+          room = self.old.room - 1;
+        } }
+    {
+        self.owners.insert(self.drawn + 1, whose);
+        self.drawn += 1;
+        self.room -= 1;
+    }
+
+    /// Whose the activity of this serial is.
+    pub fn of(&self, serial: Serial) -> Whose
+        requires from { 0 < serial.0 }
+        requires to { serial.0 ≤ length self.now.whose }
+        ensures { result ≡ slice_index_or self.now.whose (serial.0 - 1) (Over how.Done) }
+    {
+        whose_of(self.owners.get(serial.0))
+    }
+
+    /// The activity of this serial is this one's now.
+    pub fn put(&mut self, serial: Serial, whose: Whose)
+        requires from { 0 < serial.0 }
+        requires to { serial.0 ≤ length self.old.whose }
+        requires room { 0 < self.old.room }
+        ensures { self.new ≡ record {
+          whose = slice_set self.old.whose (serial.0 - 1) whose;
+          room = self.old.room - 1;
+        } }
+    {
+        self.owners.insert(serial.0, whose);
+        self.room -= 1;
+    }
+
+    /// The activity of this serial, which isn't over, failed; the answer is whose it was.
+    pub fn fail(&mut self, serial: Serial) -> Whose
+        requires from { 0 < serial.0 }
+        requires to { serial.0 ≤ length self.old.whose }
+        requires under_way { slice_index_or self.old.whose (serial.0 - 1) (Over how.Done)
+            ≢ Over how.Done }
+        ensures was { result ≡ slice_index_or self.old.whose (serial.0 - 1) (Over how.Done) }
+        ensures is { self.new ≡ record self.old {
+          whose = slice_set self.old.whose (serial.0 - 1) (Over how.Failed);
+        } }
+    {
+        match self.owners.replace(serial.0, Whose::Over(How::Failed)) {
+            Some(was) => was,
+            None => unreachable!(),
+        }
+    }
+
+    /// The activity of this serial is done; the answer is whose it was.
+    pub fn take(&mut self, serial: Serial) -> Whose
+        requires from { 0 < serial.0 }
+        requires to { serial.0 ≤ length self.old.whose }
+        ensures was { result ≡ slice_index_or self.old.whose (serial.0 - 1) (Over how.Done) }
+        ensures is { self.new ≡ record self.old {
+          whose = slice_set self.old.whose (serial.0 - 1) (Over how.Done);
+        } }
+    {
+        whose_of(self.owners.remove(serial.0))
+    }
+}
