@@ -1,11 +1,15 @@
--- Calls that are sides of communications, and others.
-use Rattle.std.proofs.Common.{◌≡◌, ℕ, ◌==◌, Bool, true, false, cond, Option, None, Some, List, [], ◌∷◌, refl, sym, ap, subst, arith}
+-- Calls by which sides of communications come, and others.
+use Rattle.std.proofs.Common.{◌≡◌, ◌≢◌, ℕ, ◌==◌, Bool, true, false, cond, Ok, Result, Option, None, Some, List, [], ◌∷◌, refl, sym, ap, subst, arith}
 use Rattle.sg_base.specs.declared.call.Answer.{Answer}
 use Rattle.sg_base.specs.declared.call.Call.{Call}
 use Rattle.sg_base.specs.declared.call.Call.TheVariants as call
+use Rattle.sg_base.specs.declared.call.Msg.{Msg}
 use Rattle.sg_base.specs.declared.ids.ActorId.{ActorId}
-use Rattle.sg_base.specs.Limits.{Extent, IsActorIn, IsActorNumber, IsCall}
+use Rattle.sg_base.specs.declared.ids.BoxId.{BoxId}
+use Rattle.sg_base.specs.Limits.{IsActorIn, IsAmount, IsMsg, IsRate}
+use Rattle.sg_base.specs.Lines.{HasLine}
 use Rattle.sg_base.specs.declared.awaits.Await.{Await}
+use Rattle.sg_mailbox.specs.declared.sides.Side.{Side}
 use Rattle.sg_requests.specs.Requested.{oldest, queue_at, queues_without_oldest}
 use Rattle.sg_route.specs.Roads.{Roads}
 use Rattle.sg_sync.specs.Objects.{Done, locked, unlocked, acquired, released, arrived}
@@ -16,82 +20,54 @@ use Rattle.sg_owners.specs.declared.owners.How.TheVariants as how
 use Rattle.sg_owners.specs.declared.owners.Whose.{Whose}
 use Rattle.sg_owners.specs.declared.owners.Whose.TheVariants.{Over, Alone, Posted, Pair}
 use Rattle.sg_calls.specs.declared.fields.Fields.{Fields}
+use Rattle.sg_calls.specs.declared.stop.Stop.{Stop}
+use Rattle.sg_calls.specs.declared.stop.Stop.TheVariants.{Budget}
 use Rattle.sg_setup.specs.Setup.{Setup}
 use Rattle.sg_calls.specs.World.{Core, extent, host_of, state_of, whose_at}
-use Rattle.sg_calls.specs.Steps.{Step, all_of, counted, each}
+use Rattle.sg_calls.specs.Known.{after_call}
+use Rattle.sg_calls.specs.Steps.{Step, all_of, counted, each, result_of, stops}
 use Rattle.sg_calls.specs.Answers.{side_of}
 use Rattle.sg_calls.specs.Meetings.{comer_of, sends_by, receives_by, answer_of_over, waits_by, waits_until}
 use Rattle.sg_calls.specs.Locks.{caller_gets, all_wake, caller_first, caller_last, joiners_wake, with_objects}
 use Rattle.sg_calls.specs.Lives.{joins_by, leaves}
 use Rattle.sg_calls.specs.Kills.{awaited, gives_up, gives_up_by, kill_done, kill_stretches, kills, withdrawn}
-use Rattle.sg_calls.specs.Calls.{answered_call, actor_of, computes}
-use Rattle.sg_calls.specs.kept.Acts.{CanName}
-use Rattle.sg_calls.specs.kept.Sound.{setup_in, IsComer}
-use Rattle.sg_calls.specs.kept.Whole.{CanStep}
-use Rattle.sg_calls.proofs.Each.{both_on, each_on}
+use Rattle.sg_calls.specs.Calls.{answered, answered_call, actor_of, computes}
+use Rattle.sg_calls.specs.kept.Acts.{CanCome, CanMake, CanName, Replies}
+use Rattle.sg_calls.specs.kept.Asks.{CanAnswer}
+use Rattle.sg_calls.specs.kept.Sound.{comes_in, core_of, known_of, setup_in}
+use Rattle.sg_calls.specs.kept.Whole.{CanStep, IsWhole}
+use Rattle.sg_calls.proofs.Each.{both_on, each_on, eq_no}
 use Rattle.sg_calls.proofs.Finishes.{finishes_goes}
 use Rattle.sg_calls.proofs.Limits.{homes_counted}
+use Rattle.sg_calls.proofs.Moves.{can_step}
 use Rattle.sg_calls.proofs.Woken.{all_on, caller_goes}
 
 -- who is named by a call exists
 pub can_name : (fields : Fields) (actor : ℕ) (target : ActorId) → CanStep fields actor → IsActorIn (extent (setup_in fields)) target → CanName fields actor target.0
 can_name fields actor target able is = record { able = able; target = record { from = is.0; to = omega (arith, is.1, homes_counted fields able.whole.sound) } }
 
--- ---- a side that comes keeps to the limits
-comes_limited : (ex : Extent) (one two : Comer) → Some one ≡ Some two → IsComer ex one → IsComer ex two
-comes_limited ex one two e is =
-    let same : one ≡ two = cc e in
-    subst (IsComer ex) same is
+-- ---- a side comes by a call of its actor
+side_comes : (fields : Fields) (one : Comer) → CanMake fields one.side.actor.0 one.what → HasLine one.what → IsAmount one.side.bytes → IsMsg one.side.msg → IsRate one.side.rate → CanCome fields one
+side_comes fields one makes told bytes message rate =
+    let caller = makes.able.call.caller in
+    record {
+      able = makes.able;
+      comer = record {
+        what = record { told = told; call = makes.call };
+        side = record { actor = (caller.from, omega (arith, caller.to, homes_counted fields makes.able.whole.sound)); bytes = bytes; message = message; rate = rate };
+      };
+    }
 
-pub comer_limited : (ex : Extent) (actor : ℕ) (what : Call) (comer : Comer) → IsActorNumber ex actor → IsCall ex what → comer_of actor what ≡ Some comer → IsComer ex comer
-comer_limited ex actor call.Ask comer a h e = absurd (cc e)
-comer_limited ex actor (call.Compute n p) comer a h e = absurd (cc e)
-comer_limited ex actor (call.Sleep n) comer a h e = absurd (cc e)
-comer_limited ex actor (call.Send b n m r) comer a h e = comes_limited ex (sends_by (side_of actor n m r) (call.Send b n m r) true b) comer e (record { what = record { told = tt; call = h }; side = record { actor = a; bytes = h.1; message = h.2; rate = h.3 } })
-comer_limited ex actor (call.Recv b) comer a h e = comes_limited ex (receives_by actor (call.Recv b) true b) comer e (record { what = record { told = tt; call = h }; side = record { actor = a; bytes = omega arith; message = tt; rate = omega arith } })
-comer_limited ex actor (call.ISend b n m r) comer a h e = comes_limited ex (sends_by (side_of actor n m r) (call.ISend b n m r) false b) comer e (record { what = record { told = tt; call = h }; side = record { actor = a; bytes = h.1; message = h.2; rate = h.3 } })
-comer_limited ex actor (call.IRecv b) comer a h e = comes_limited ex (receives_by actor (call.IRecv b) false b) comer e (record { what = record { told = tt; call = h }; side = record { actor = a; bytes = omega arith; message = tt; rate = omega arith } })
-comer_limited ex actor call.Wait comer a h e = absurd (cc e)
-comer_limited ex actor (call.Lock n) comer a h e = absurd (cc e)
-comer_limited ex actor (call.Unlock n) comer a h e = absurd (cc e)
-comer_limited ex actor (call.Acquire n) comer a h e = absurd (cc e)
-comer_limited ex actor (call.Release n) comer a h e = absurd (cc e)
-comer_limited ex actor call.Barrier comer a h e = absurd (cc e)
-comer_limited ex actor (call.Create n) comer a h e = absurd (cc e)
-comer_limited ex actor (call.Join n) comer a h e = absurd (cc e)
-comer_limited ex actor (call.Kill n) comer a h e = absurd (cc e)
-comer_limited ex actor (call.Suspend n) comer a h e = absurd (cc e)
-comer_limited ex actor (call.Resume n) comer a h e = absurd (cc e)
-comer_limited ex actor call.Yield comer a h e = absurd (cc e)
-comer_limited ex actor call.Exit comer a h e = absurd (cc e)
+-- to send what it brings
+pub sender_comes : (fields : Fields) (actor : ℕ) (what : Call) (waits : Bool) (mailbox : BoxId) (bytes : ℕ) (message : Msg) (rate : ℕ) (side : Side) → side ≡ side_of actor bytes message rate → CanMake fields actor what → HasLine what → IsAmount bytes → IsMsg message → IsRate rate →
+    CanCome fields (sends_by side what waits mailbox)
+sender_comes fields actor what waits mailbox bytes message rate side is makes told few short slow =
+    subst (λ (s : Side). CanCome fields (sends_by s what waits mailbox)) (sym is)
+    (side_comes fields (sends_by (side_of actor bytes message rate) what waits mailbox) makes told few short slow)
 
-same_actor : (one two : Comer) → Some one ≡ Some two → two.side.actor.0 ≡ one.side.actor.0
-same_actor one two e =
-    let same : one ≡ two = cc e in
-    ap (λ (x : Comer). x.side.actor.0) (sym same)
-
--- the one that comes is the caller
-pub comer_actor : (actor : ℕ) (what : Call) (comer : Comer) → comer_of actor what ≡ Some comer → comer.side.actor.0 ≡ actor
-comer_actor actor call.Ask comer e = absurd (cc e)
-comer_actor actor (call.Compute n p) comer e = absurd (cc e)
-comer_actor actor (call.Sleep n) comer e = absurd (cc e)
-comer_actor actor (call.Send b n m r) comer e = same_actor (sends_by (side_of actor n m r) (call.Send b n m r) true b) comer e
-comer_actor actor (call.Recv b) comer e = same_actor (receives_by actor (call.Recv b) true b) comer e
-comer_actor actor (call.ISend b n m r) comer e = same_actor (sends_by (side_of actor n m r) (call.ISend b n m r) false b) comer e
-comer_actor actor (call.IRecv b) comer e = same_actor (receives_by actor (call.IRecv b) false b) comer e
-comer_actor actor call.Wait comer e = absurd (cc e)
-comer_actor actor (call.Lock n) comer e = absurd (cc e)
-comer_actor actor (call.Unlock n) comer e = absurd (cc e)
-comer_actor actor (call.Acquire n) comer e = absurd (cc e)
-comer_actor actor (call.Release n) comer e = absurd (cc e)
-comer_actor actor call.Barrier comer e = absurd (cc e)
-comer_actor actor (call.Create n) comer e = absurd (cc e)
-comer_actor actor (call.Join n) comer e = absurd (cc e)
-comer_actor actor (call.Kill n) comer e = absurd (cc e)
-comer_actor actor (call.Suspend n) comer e = absurd (cc e)
-comer_actor actor (call.Resume n) comer e = absurd (cc e)
-comer_actor actor call.Yield comer e = absurd (cc e)
-comer_actor actor call.Exit comer e = absurd (cc e)
+-- or to receive
+pub receiver_comes : (fields : Fields) (actor : ℕ) (what : Call) (waits : Bool) (mailbox : BoxId) → CanMake fields actor what → HasLine what → CanCome fields (receives_by actor what waits mailbox)
+receiver_comes fields actor what waits mailbox makes told = side_comes fields (receives_by actor what waits mailbox) makes told (omega arith) tt (omega arith)
 
 -- ---- any other call goes on
 first_goes : (done : Done) (actor : ℕ) (what : Call) (core : Core) → (caller_first done actor what core).stop ≡ None
@@ -179,3 +155,29 @@ alone_goes roads setup core actor (call.Suspend n) e = refl
 alone_goes roads setup core actor (call.Resume n) e = refl
 alone_goes roads setup core actor call.Yield e = refl
 alone_goes roads setup core actor call.Exit e = all_on (joiners actor 1 (leaves actor core).actors) (leaves actor (counted core))
+
+-- ---- in the budget
+pub can_make : (fields : Fields) (actor : ℕ) (one what : Call) → one ≡ what → CanAnswer fields actor one → fields.events ≢ fields.budget → CanMake fields actor what
+can_make fields actor one what is can left = subst (CanMake fields actor) is (record { able = can_step fields actor can.whole can.caller can.room left; call = can.call })
+
+in_budget : (roads : Roads) (old new : Fields) (actor : ℕ) (what : Call) (reply : Result Unit Stop) → old.events ≢ old.budget → Replies (answered_call roads (setup_in old) (core_of old) actor what) old new reply →
+    Replies (answered roads (setup_in old) (core_of old) actor what) old new reply
+in_budget roads old new actor what reply left does =
+    let step = answered_call roads (setup_in old) (core_of old) actor what in
+    let go : (old.events == old.budget) ≡ false = eq_no old.events old.budget left in
+    subst (λ b. Replies (cond b (stops (core_of old) [] Budget) step) old new reply) (sym go) does
+
+-- a call that is no side of a communication
+pub alone_replies : (roads : Roads) (old new : Fields) (actor : ℕ) (one what : Call) → one ≡ what → old.events ≢ old.budget → comer_of actor what ≡ None →
+    known_of new ≡ after_call true (answered_call roads (setup_in old) (core_of old) actor what) (known_of old) → IsWhole new → Replies (answered roads (setup_in old) (core_of old) actor one) old new (Ok tt)
+alone_replies roads old new actor one what is left alone known whole =
+    let goes = alone_goes roads (setup_in old) (core_of old) actor what alone in
+    subst (λ (w : Call). Replies (answered roads (setup_in old) (core_of old) actor w) old new (Ok tt)) (sym is)
+    (in_budget roads old new actor what (Ok tt) left (record { known = known; result = sym (ap result_of goes); whole = whole }))
+
+-- one that is, by the side that comes
+pub side_replies : (roads : Roads) (old new : Fields) (actor : ℕ) (one what : Call) (comer : Comer) (reply : Result Unit Stop) → one ≡ what → old.events ≢ old.budget → comes_in roads comer old ≡ answered_call roads (setup_in old) (core_of old) actor what →
+    Replies (comes_in roads comer old) old new reply → Replies (answered roads (setup_in old) (core_of old) actor one) old new reply
+side_replies roads old new actor one what comer reply is left row does =
+    subst (λ (w : Call). Replies (answered roads (setup_in old) (core_of old) actor w) old new reply) (sym is)
+    (in_budget roads old new actor what reply left (subst (λ (step : Step). Replies step old new reply) row does))

@@ -9,7 +9,7 @@ ghost use Rattle.sg_states.specs.Records.{IsTellable};
 ghost use Rattle.sg_calls.specs.World.{extent};
 ghost use Rattle.sg_calls.specs.Steps.{blocked_by};
 ghost use Rattle.sg_calls.specs.Answers.{bare_side, side_of};
-ghost use Rattle.sg_calls.specs.Meetings.{answer_of_over as answer_of_over_spec, comer_fails, comer_of, fails_with, joins_on, joins_with, other_fails, party_of, point_of, posts, receiver_of, receives_by, sender_of, sends_by, stop_of, takes_part, waits as waits_spec, way_with};
+ghost use Rattle.sg_calls.specs.Meetings.{answer_of_over as answer_of_over_spec, comer_fails, fails_with, joins_on, joins_with, other_fails, party_of, point_of, posts, receiver_of, receives_by, sender_of, sends_by, stop_of, takes_part, waits as waits_spec, way_with};
 ghost use Rattle.sg_calls.specs.Roads.{AreOver, IsOver};
 ghost use Rattle.sg_calls.specs.kept.Acts.{Answers, CanCome, CanMeet, CanTakePart, Completes, Counts, Replies};
 ghost use Rattle.sg_calls.specs.kept.Sound.{setup_in, comes_in, IsComer, IsMade, IsSide, IsSound, StepsBy};
@@ -39,7 +39,8 @@ pub struct Comer {
     pub side: Side,
 }
 
-fn side_of(actor: ActorId, bytes: u64, msg: Msg, rate: u64) -> Side
+/// The side of an actor, with what it brings.
+pub(crate) fn side_of(actor: ActorId, bytes: u64, msg: Msg, rate: u64) -> Side
     ensures { result ≡ side_of actor.0 bytes msg rate }
 {
     Side {
@@ -57,7 +58,8 @@ pub(crate) fn bare_side(actor: ActorId) -> Side
     side_of(actor, 0, Msg::Empty, 0)
 }
 
-fn sends_by(side: Side, what: Call, waits: bool, mailbox: BoxId) -> Comer
+/// The side that comes to send.
+pub(crate) fn sends_by(side: Side, what: Call, waits: bool, mailbox: BoxId) -> Comer
     ensures { result ≡ sends_by side what waits mailbox }
 {
     Comer {
@@ -69,7 +71,8 @@ fn sends_by(side: Side, what: Call, waits: bool, mailbox: BoxId) -> Comer
     }
 }
 
-fn receives_by(actor: ActorId, what: Call, waits: bool, mailbox: BoxId) -> Comer
+/// The side that comes to receive.
+pub(crate) fn receives_by(actor: ActorId, what: Call, waits: bool, mailbox: BoxId) -> Comer
     ensures { result ≡ receives_by actor.0 what waits mailbox }
 {
     Comer {
@@ -78,25 +81,6 @@ fn receives_by(actor: ActorId, what: Call, waits: bool, mailbox: BoxId) -> Comer
         sends: false,
         waits,
         side: bare_side(actor),
-    }
-}
-
-/// The side that comes by this call, where it is one of a communication.
-pub(crate) fn comer_of(actor: ActorId, call: Call) -> Option<Comer>
-    ensures { result ≡ comer_of actor.0 call }
-{
-    match call {
-        Call::Send(mailbox, bytes, msg, rate) => {
-            let side = side_of(actor, bytes, msg, rate);
-            Some(sends_by(side, call, true, mailbox))
-        }
-        Call::ISend(mailbox, bytes, msg, rate) => {
-            let side = side_of(actor, bytes, msg, rate);
-            Some(sends_by(side, call, false, mailbox))
-        }
-        Call::Recv(mailbox) => Some(receives_by(actor, call, true, mailbox)),
-        Call::IRecv(mailbox) => Some(receives_by(actor, call, false, mailbox)),
-        _ => None,
     }
 }
 
