@@ -46,19 +46,19 @@ pub fn answer_call(
         Call::Sleep(ns) => sleep(fields, actor, ns),
         Call::Send(mailbox, bytes, msg, rate) => {
             let comer = sends_by(side_of(actor, bytes, msg, rate), call, true, mailbox);
-            return come(fields, router, links, comer);
+            return come(fields, router, links, &comer);
         }
         Call::Recv(mailbox) => {
             let comer = receives_by(actor, call, true, mailbox);
-            return come(fields, router, links, comer);
+            return come(fields, router, links, &comer);
         }
         Call::ISend(mailbox, bytes, msg, rate) => {
             let comer = sends_by(side_of(actor, bytes, msg, rate), call, false, mailbox);
-            return come(fields, router, links, comer);
+            return come(fields, router, links, &comer);
         }
         Call::IRecv(mailbox) => {
             let comer = receives_by(actor, call, false, mailbox);
-            return come(fields, router, links, comer);
+            return come(fields, router, links, &comer);
         }
         Call::Wait => wait(fields, actor),
         Call::Lock(mutex) => lock(fields, actor, mutex),

@@ -95,9 +95,9 @@ fn party_of(sends: bool) -> Party
 }
 
 // The actor of a call that is counted takes part in the communication of this serial; that takes the room of the call.
-fn take_part(fields: &mut Fields, comer: Comer, serial: Serial)
-    requires { CanTakePart fields.old comer serial.0 }
-    ensures { Completes (takes_part comer.waits comer serial.0) fields.old fields.new }
+fn take_part(fields: &mut Fields, comer: &Comer, serial: Serial)
+    requires { CanTakePart fields.old comer.now serial.0 }
+    ensures { Completes (takes_part comer.now.waits comer.now serial.0) fields.old fields.new }
 {
     let actor = comer.side.actor;
     let on = Await {
@@ -116,11 +116,11 @@ fn take_part(fields: &mut Fields, comer: Comer, serial: Serial)
 }
 
 // The side is posted, as a communication with the next serial.
-fn post(fields: &mut Fields, comer: Comer, found: Found)
-    requires comes { CanCome fields.old comer }
-    requires found { IsFound fields.old.boxes comer.mailbox comer.sends found }
-    requires alone { partner comer.sends (waiters fields.old.boxes comer.mailbox) ≡ None }
-    ensures { Answers (posts comer) fields.old fields.new }
+fn post(fields: &mut Fields, comer: &Comer, found: Found)
+    requires comes { CanCome fields.old comer.now }
+    requires found { IsFound fields.old.boxes comer.now.mailbox comer.now.sends found }
+    requires alone { partner comer.now.sends (waiters fields.old.boxes comer.now.mailbox) ≡ None }
+    ensures { Answers (posts comer.now) fields.old fields.new }
 {
     fields.events += 1;
     let serial = fields.doing.take_serial();
@@ -152,14 +152,14 @@ fn stop_of(from: PointId, to: PointId, fault: RouteFault) -> Stop
     }
 }
 
-fn sender_of(comer: Comer, other: Side) -> Side
-    ensures { result ≡ sender_of comer other }
+fn sender_of(comer: &Comer, other: Side) -> Side
+    ensures { result ≡ sender_of comer.now other }
 {
     if comer.sends { comer.side } else { other }
 }
 
-fn receiver_of(comer: Comer, other: Side) -> Side
-    ensures { result ≡ receiver_of comer other }
+fn receiver_of(comer: &Comer, other: Side) -> Side
+    ensures { result ≡ receiver_of comer.now other }
 {
     if comer.sends { other } else { comer.side }
 }
@@ -175,22 +175,22 @@ fn point_of(fields: &Fields, side: Side) -> PointId
 // Both sides are there, and the communication begins over these links.
 fn begin(
     fields: &mut Fields,
-    comer: Comer,
+    comer: &Comer,
     found: Found,
     met: (Serial, Side),
     links: &[LinkId],
     latency: u128,
 )
-    requires meets { CanMeet fields.old comer found met }
+    requires meets { CanMeet fields.old comer.now found met }
     requires route { IsOver fields.old.links
         (record { links = links.now; latency = latency }) }
     requires apart { AllPairs (λ a b. a ≢ b) links.now }
     requires on { is_cut fields.old.doing.under.on
         (way_with (record { links = links.now; latency = latency }) (setup_in fields.old)
-        comer met.1) ≡ false }
+        comer.now met.1) ≡ false }
     ensures { Answers
         (joins_with (record { links = links.now; latency = latency }) (setup_in fields.old)
-        comer met.0 met.1)
+        comer.now met.0 met.1)
         fields.old fields.new }
 {
     let (serial, other) = met;
@@ -218,10 +218,10 @@ fn begin(
 }
 
 // The actor of a call that is counted takes part in a communication that fails; that takes the room of the call.
-fn fail_comer(fields: &mut Fields, comer: Comer, serial: Serial, other: Side)
-    requires takes_part { CanTakePart fields.old comer serial.0 }
+fn fail_comer(fields: &mut Fields, comer: &Comer, serial: Serial, other: Side)
+    requires takes_part { CanTakePart fields.old comer.now serial.0 }
     requires other { IsSide (extent (setup_in fields.old)) other }
-    ensures { Completes (comer_fails comer serial.0 other) fields.old fields.new }
+    ensures { Completes (comer_fails comer.now serial.0 other) fields.old fields.new }
 {
     let date = fields.doing.date();
     if comer.waits {
@@ -235,12 +235,12 @@ fn fail_comer(fields: &mut Fields, comer: Comer, serial: Serial, other: Side)
 }
 
 // The side that waited is answered, where its communication fails.
-fn fail_other(fields: &mut Fields, comer: Comer, serial: Serial, other: Side)
-    requires comer { IsComer (extent (setup_in fields.old)) comer }
+fn fail_other(fields: &mut Fields, comer: &Comer, serial: Serial, other: Side)
+    requires comer { IsComer (extent (setup_in fields.old)) comer.now }
     requires other { IsSide (extent (setup_in fields.old)) other }
     requires sound { IsSound fields.old }
     requires small { fields.old.doing.under.date < 10 ^ 33 }
-    ensures known { StepsBy (other_fails comer serial.0 other) fields.old fields.new }
+    ensures known { StepsBy (other_fails comer.now serial.0 other) fields.old fields.new }
     ensures keeps { KeepsWhole fields.old fields.new }
 {
     if comer.sends {
@@ -252,9 +252,9 @@ fn fail_other(fields: &mut Fields, comer: Comer, serial: Serial, other: Side)
 }
 
 // Both sides are there, but something that they would use is off: the communication fails in the call.
-fn fail_at_once(fields: &mut Fields, comer: Comer, found: Found, met: (Serial, Side))
-    requires { CanMeet fields.old comer found met }
-    ensures { Answers (fails_with comer met.0 met.1) fields.old fields.new }
+fn fail_at_once(fields: &mut Fields, comer: &Comer, found: Found, met: (Serial, Side))
+    requires { CanMeet fields.old comer.now found met }
+    ensures { Answers (fails_with comer.now met.0 met.1) fields.old fields.new }
 {
     let (serial, other) = met;
     fields.events += 1;
@@ -275,19 +275,19 @@ fn fail_at_once(fields: &mut Fields, comer: Comer, found: Found, met: (Serial, S
 // Both sides are there: the communication begins over these links, unless something is off that it would use.
 fn meet(
     fields: &mut Fields,
-    comer: Comer,
+    comer: &Comer,
     found: Found,
     met: (Serial, Side),
     links: &[LinkId],
     latency: u128,
 )
-    requires meets { CanMeet fields.old comer found met }
+    requires meets { CanMeet fields.old comer.now found met }
     requires route { IsOver fields.old.links
         (record { links = links.now; latency = latency }) }
     requires apart { AllPairs (λ a b. a ≢ b) links.now }
     ensures { Answers
         (joins_on (record { links = links.now; latency = latency }) (setup_in fields.old)
-        comer met.0 met.1)
+        comer.now met.0 met.1)
         fields.old fields.new }
 {
     let (_, other) = met;
@@ -306,13 +306,13 @@ fn join(
     fields: &mut Fields,
     router: &mut Router,
     links: &mut ArrayVec<LinkId, 64>,
-    comer: Comer,
+    comer: &Comer,
     found: Found,
     met: (Serial, Side),
 ) -> Result<(), Stop>
-    requires meets { CanMeet fields.old comer found met }
+    requires meets { CanMeet fields.old comer.now found met }
     requires roads { AreOver fields.old.links router.old }
-    ensures replies { Replies (comes_in router.old comer fields.old)
+    ensures replies { Replies (comes_in router.old comer.now fields.old)
         fields.old fields.new result }
     ensures router { router.new ≡ router.old }
 {
@@ -333,11 +333,11 @@ pub(crate) fn come(
     fields: &mut Fields,
     router: &mut Router,
     links: &mut ArrayVec<LinkId, 64>,
-    comer: Comer,
+    comer: &Comer,
 ) -> Result<(), Stop>
-    requires comes { CanCome fields.old comer }
+    requires comes { CanCome fields.old comer.now }
     requires roads { AreOver fields.old.links router.old }
-    ensures replies { Replies (comes_in router.old comer fields.old)
+    ensures replies { Replies (comes_in router.old comer.now fields.old)
         fields.old fields.new result }
     ensures router { router.new ≡ router.old }
 {

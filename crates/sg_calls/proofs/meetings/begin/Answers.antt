@@ -28,7 +28,7 @@ enter-requires-clause-above c = λ other. waiting_below c.args.fields.now other 
 pub start_comm-requires-clause-serial : goal.start_comm-requires-clause-serial
 start_comm-requires-clause-serial c =
     let able = c.requires.meets.able in
-    let m = is_met c.args.fields.now c.args.comer c.args.met.0 c.args.met.1 (sym c.requires.meets.found.met ∙ c.requires.meets.met) able.whole.limited able.whole.meeting in
+    let m = is_met c.args.fields.now c.args.comer.now c.args.met.0 c.args.met.1 (sym c.requires.meets.found.met ∙ c.requires.meets.met) able.whole.limited able.whole.meeting in
     record {
       from = m.from;
       to = omega (arith, m.to, able.whole.sound.numbered);
@@ -40,23 +40,23 @@ pub point_of-from-requires : goal.point_of-from-requires
 point_of-from-requires c =
     let old = c.args.fields.now in
     let e = extent (setup_in old) in
-    let m = is_met old c.args.comer c.args.met.0 c.args.met.1 (sym c.requires.meets.found.met ∙ c.requires.meets.met) c.requires.meets.able.whole.limited c.requires.meets.able.whole.meeting in
-    (subst (IsSide e) (sym c.sender_of-sender.ensures) (sides_limited e c.args.comer c.args.met.1 c.requires.meets.comer.side m.limited).0).actor
+    let m = is_met old c.args.comer.now c.args.met.0 c.args.met.1 (sym c.requires.meets.found.met ∙ c.requires.meets.met) c.requires.meets.able.whole.limited c.requires.meets.able.whole.meeting in
+    (subst (IsSide e) (sym c.sender_of-sender.ensures) (sides_limited e c.args.comer.now c.args.met.1 c.requires.meets.comer.side m.limited).0).actor
 
 pub point_of-to-requires : goal.point_of-to-requires
 point_of-to-requires c =
     let old = c.args.fields.now in
     let e = extent (setup_in old) in
-    let m = is_met old c.args.comer c.args.met.0 c.args.met.1 (sym c.requires.meets.found.met ∙ c.requires.meets.met) c.requires.meets.able.whole.limited c.requires.meets.able.whole.meeting in
-    (subst (IsSide e) (sym c.receiver_of-receiver.ensures) (sides_limited e c.args.comer c.args.met.1 c.requires.meets.comer.side m.limited).1).actor
+    let m = is_met old c.args.comer.now c.args.met.0 c.args.met.1 (sym c.requires.meets.found.met ∙ c.requires.meets.met) c.requires.meets.able.whole.limited c.requires.meets.able.whole.meeting in
+    (subst (IsSide e) (sym c.receiver_of-receiver.ensures) (sides_limited e c.args.comer.now c.args.met.1 c.requires.meets.comer.side m.limited).1).actor
 
 pub start_comm-requires-clause-transfer : goal.start_comm-requires-clause-transfer
 start_comm-requires-clause-transfer c =
     let old = c.args.fields.now in
     let sound = c.requires.meets.able.whole.sound in
     let e = extent (setup_in old) in
-    let m = is_met old c.args.comer c.args.met.0 c.args.met.1 (sym c.requires.meets.found.met ∙ c.requires.meets.met) c.requires.meets.able.whole.limited c.requires.meets.able.whole.meeting in
-    let sides = sides_limited e c.args.comer c.args.met.1 c.requires.meets.comer.side m.limited in
+    let m = is_met old c.args.comer.now c.args.met.0 c.args.met.1 (sym c.requires.meets.found.met ∙ c.requires.meets.met) c.requires.meets.able.whole.limited c.requires.meets.able.whole.meeting in
+    let sides = sides_limited e c.args.comer.now c.args.met.1 c.requires.meets.comer.side m.limited in
     let sender = subst (IsSide e) (sym c.sender_of-sender.ensures) sides.0 in
     let receiver = subst (IsSide e) (sym c.receiver_of-receiver.ensures) sides.1 in
     let from = ap (λ (p : PointId). p.0) c.point_of-from.ensures in
@@ -74,10 +74,10 @@ start_comm-requires-clause-transfer c =
     }
 
 pub put-requires-clause-from : goal.put-requires-clause-from
-put-requires-clause-from c = (is_met c.args.fields.now c.args.comer c.args.met.0 c.args.met.1 (sym c.requires.meets.found.met ∙ c.requires.meets.met) c.requires.meets.able.whole.limited c.requires.meets.able.whole.meeting).from
+put-requires-clause-from c = (is_met c.args.fields.now c.args.comer.now c.args.met.0 c.args.met.1 (sym c.requires.meets.found.met ∙ c.requires.meets.met) c.requires.meets.able.whole.limited c.requires.meets.able.whole.meeting).from
 
 pub put-requires-clause-to : goal.put-requires-clause-to
-put-requires-clause-to c = (is_met c.args.fields.now c.args.comer c.args.met.0 c.args.met.1 (sym c.requires.meets.found.met ∙ c.requires.meets.met) c.requires.meets.able.whole.limited c.requires.meets.able.whole.meeting).to
+put-requires-clause-to c = (is_met c.args.fields.now c.args.comer.now c.args.met.0 c.args.met.1 (sym c.requires.meets.found.met ∙ c.requires.meets.met) c.requires.meets.able.whole.limited c.requires.meets.able.whole.meeting).to
 
 pub take_part-requires : goal.take_part-requires
 take_part-requires c = record {
@@ -85,14 +85,14 @@ take_part-requires c = record {
   comer = search rules;
   made =
       let old = c.args.fields.now in
-      let m = is_met old c.args.comer c.args.met.0 c.args.met.1 (sym c.requires.meets.found.met ∙ c.requires.meets.met) c.requires.meets.able.whole.limited c.requires.meets.able.whole.meeting in
+      let m = is_met old c.args.comer.now c.args.met.0 c.args.met.1 (sym c.requires.meets.found.met ∙ c.requires.meets.met) c.requires.meets.able.whole.limited c.requires.meets.able.whole.meeting in
       let w = Pair c.sender_of-sender.result c.receiver_of-receiver.result in
       (m.from, omega (arith, m.to, ap (λ (o : Owned). length o.whose) c.put.ensures, length-set old.whose.whose (c.args.met.0.0 - 1) w));
   room = search rules;
   few = search rules;
   whole =
       let old = c.args.fields.now in
-      let comer = c.args.comer in
+      let comer = c.args.comer.now in
       let serial = c.args.met.0 in
       let e = extent (setup_in old) in
       let counted = record old { events = old.events + 1 } in

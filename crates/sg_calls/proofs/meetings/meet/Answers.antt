@@ -18,15 +18,15 @@ pub point_of-sender-requires : goal.point_of-sender-requires
 point_of-sender-requires c =
     let old = c.args.fields.now in
     let e = extent (setup_in old) in
-    let m = is_met old c.args.comer c.args.met.0 c.args.met.1 (sym c.requires.meets.found.met ∙ c.requires.meets.met) c.requires.meets.able.whole.limited c.requires.meets.able.whole.meeting in
-    (subst (IsSide e) (sym c.sender_of.ensures) (sides_limited e c.args.comer c.args.met.1 c.requires.meets.comer.side m.limited).0).actor
+    let m = is_met old c.args.comer.now c.args.met.0 c.args.met.1 (sym c.requires.meets.found.met ∙ c.requires.meets.met) c.requires.meets.able.whole.limited c.requires.meets.able.whole.meeting in
+    (subst (IsSide e) (sym c.sender_of.ensures) (sides_limited e c.args.comer.now c.args.met.1 c.requires.meets.comer.side m.limited).0).actor
 
 pub point_of-receiver-requires : goal.point_of-receiver-requires
 point_of-receiver-requires c =
     let old = c.args.fields.now in
     let e = extent (setup_in old) in
-    let m = is_met old c.args.comer c.args.met.0 c.args.met.1 (sym c.requires.meets.found.met ∙ c.requires.meets.met) c.requires.meets.able.whole.limited c.requires.meets.able.whole.meeting in
-    (subst (IsSide e) (sym c.receiver_of.ensures) (sides_limited e c.args.comer c.args.met.1 c.requires.meets.comer.side m.limited).1).actor
+    let m = is_met old c.args.comer.now c.args.met.0 c.args.met.1 (sym c.requires.meets.found.met ∙ c.requires.meets.met) c.requires.meets.able.whole.limited c.requires.meets.able.whole.meeting in
+    (subst (IsSide e) (sym c.receiver_of.ensures) (sides_limited e c.args.comer.now c.args.met.1 c.requires.meets.comer.side m.limited).1).actor
 
 pub is_cut-requires-clause-links : goal.is_cut-requires-clause-links
 is_cut-requires-clause-links c = subst (λ n. All (λ (link : LinkId). link.0 < n) c.args.links.now) (sym c.requires.meets.able.whole.sound.links_counted) c.requires.route.exist
@@ -35,16 +35,16 @@ pub is_cut-requires-clause-sender : goal.is_cut-requires-clause-sender
 is_cut-requires-clause-sender c =
     let old = c.args.fields.now in
     let e = extent (setup_in old) in
-    let m = is_met old c.args.comer c.args.met.0 c.args.met.1 (sym c.requires.meets.found.met ∙ c.requires.meets.met) c.requires.meets.able.whole.limited c.requires.meets.able.whole.meeting in
-    let side = subst (IsSide e) (sym c.sender_of.ensures) (sides_limited e c.args.comer c.args.met.1 c.requires.meets.comer.side m.limited).0 in
+    let m = is_met old c.args.comer.now c.args.met.0 c.args.met.1 (sym c.requires.meets.found.met ∙ c.requires.meets.met) c.requires.meets.able.whole.limited c.requires.meets.able.whole.meeting in
+    let side = subst (IsSide e) (sym c.sender_of.ensures) (sides_limited e c.args.comer.now c.args.met.1 c.requires.meets.comer.side m.limited).0 in
     omega (arith, ap (λ (p : PointId). p.0) c.point_of-sender.ensures, home_exists old c.sender_of.result.actor c.requires.meets.able.whole.sound side.actor)
 
 pub is_cut-requires-clause-receiver : goal.is_cut-requires-clause-receiver
 is_cut-requires-clause-receiver c =
     let old = c.args.fields.now in
     let e = extent (setup_in old) in
-    let m = is_met old c.args.comer c.args.met.0 c.args.met.1 (sym c.requires.meets.found.met ∙ c.requires.meets.met) c.requires.meets.able.whole.limited c.requires.meets.able.whole.meeting in
-    let side = subst (IsSide e) (sym c.receiver_of.ensures) (sides_limited e c.args.comer c.args.met.1 c.requires.meets.comer.side m.limited).1 in
+    let m = is_met old c.args.comer.now c.args.met.0 c.args.met.1 (sym c.requires.meets.found.met ∙ c.requires.meets.met) c.requires.meets.able.whole.limited c.requires.meets.able.whole.meeting in
+    let side = subst (IsSide e) (sym c.receiver_of.ensures) (sides_limited e c.args.comer.now c.args.met.1 c.requires.meets.comer.side m.limited).1 in
     omega (arith, ap (λ (p : PointId). p.0) c.point_of-receiver.ensures, home_exists old c.receiver_of.result.actor c.requires.meets.able.whole.sound side.actor)
 
 pub begin-requires-clause-on : goal.begin-requires-clause-on
@@ -54,7 +54,7 @@ begin-requires-clause-on c =
     let route : Route = record { links = c.args.links.now; latency = c.args.latency } in
     let from = ap (λ (p : PointId). p.0) c.point_of-sender.ensures ∙ ap (λ (s : Side). host_of setup s.actor.0) c.sender_of.ensures in
     let to = ap (λ (p : PointId). p.0) c.point_of-receiver.ensures ∙ ap (λ (s : Side). host_of setup s.actor.0) c.receiver_of.ensures in
-    let way : c.is_cut.result ≡ is_cut old.doing.under.on (way_with route setup c.args.comer c.args.met.1) = c.is_cut.ensures ∙ ap₂ (λ (a b : ℕ). is_cut old.doing.under.on (record { links = c.args.links.now; sender = a; receiver = b })) from to in
+    let way : c.is_cut.result ≡ is_cut old.doing.under.on (way_with route setup c.args.comer.now c.args.met.1) = c.is_cut.ensures ∙ ap₂ (λ (a b : ℕ). is_cut old.doing.under.on (record { links = c.args.links.now; sender = a; receiver = b })) from to in
     sym way ∙ c.if-is_cut.false
 
 pub returns-then-is_cut : goal.returns-then-is_cut
@@ -65,12 +65,12 @@ returns-then-is_cut c = record {
       let route : Route = record { links = c.args.links.now; latency = c.args.latency } in
       let from = ap (λ (p : PointId). p.0) c.point_of-sender.ensures ∙ ap (λ (s : Side). host_of setup s.actor.0) c.sender_of.ensures in
       let to = ap (λ (p : PointId). p.0) c.point_of-receiver.ensures ∙ ap (λ (s : Side). host_of setup s.actor.0) c.receiver_of.ensures in
-      let way : c.is_cut.result ≡ is_cut old.doing.under.on (way_with route setup c.args.comer c.args.met.1) = c.is_cut.ensures ∙ ap₂ (λ (a b : ℕ). is_cut old.doing.under.on (record { links = c.args.links.now; sender = a; receiver = b })) from to in
+      let way : c.is_cut.result ≡ is_cut old.doing.under.on (way_with route setup c.args.comer.now c.args.met.1) = c.is_cut.ensures ∙ ap₂ (λ (a b : ℕ). is_cut old.doing.under.on (record { links = c.args.links.now; sender = a; receiver = b })) from to in
       let core = counted (core_of old) in
       let serial = c.args.met.0 in
       let other = c.args.met.1 in
       c.fail_at_once.ensures.known
-      ∙ sym (ap (λ b. after_call true (cond b (fails_with c.args.comer serial other core) (joins_with route setup c.args.comer serial other core)) (known_of old)) (sym way ∙ c.if-is_cut.true));
+      ∙ sym (ap (λ b. after_call true (cond b (fails_with c.args.comer.now serial other core) (joins_with route setup c.args.comer.now serial other core)) (known_of old)) (sym way ∙ c.if-is_cut.true));
   whole = search rules;
 }
 
@@ -82,11 +82,11 @@ returns-else-is_cut c = record {
       let route : Route = record { links = c.args.links.now; latency = c.args.latency } in
       let from = ap (λ (p : PointId). p.0) c.point_of-sender.ensures ∙ ap (λ (s : Side). host_of setup s.actor.0) c.sender_of.ensures in
       let to = ap (λ (p : PointId). p.0) c.point_of-receiver.ensures ∙ ap (λ (s : Side). host_of setup s.actor.0) c.receiver_of.ensures in
-      let way : c.is_cut.result ≡ is_cut old.doing.under.on (way_with route setup c.args.comer c.args.met.1) = c.is_cut.ensures ∙ ap₂ (λ (a b : ℕ). is_cut old.doing.under.on (record { links = c.args.links.now; sender = a; receiver = b })) from to in
+      let way : c.is_cut.result ≡ is_cut old.doing.under.on (way_with route setup c.args.comer.now c.args.met.1) = c.is_cut.ensures ∙ ap₂ (λ (a b : ℕ). is_cut old.doing.under.on (record { links = c.args.links.now; sender = a; receiver = b })) from to in
       let core = counted (core_of old) in
       let serial = c.args.met.0 in
       let other = c.args.met.1 in
       c.begin.ensures.known
-      ∙ sym (ap (λ b. after_call true (cond b (fails_with c.args.comer serial other core) (joins_with route setup c.args.comer serial other core)) (known_of old)) (sym way ∙ c.if-is_cut.false));
+      ∙ sym (ap (λ b. after_call true (cond b (fails_with c.args.comer.now serial other core) (joins_with route setup c.args.comer.now serial other core)) (known_of old)) (sym way ∙ c.if-is_cut.false));
   whole = search rules;
 }

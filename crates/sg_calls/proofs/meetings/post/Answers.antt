@@ -26,14 +26,14 @@ take_part-requires c = record {
   comer = search rules;
   made =
       let whose = c.args.fields.now.whose.whose in
-      let w = Posted c.args.comer.mailbox c.args.comer.sends c.args.comer.side in
+      let w = Posted c.args.comer.now.mailbox c.args.comer.now.sends c.args.comer.now.side in
       let many = ap (λ (o : Owned). length o.whose) c.push.ensures ∙ length-append whose (w ∷ []) in
       (omega (arith, c.take_serial-serial.ensures.serial), omega (arith, c.take_serial-serial.ensures.serial, many, c.requires.comes.able.whole.sound.numbered));
   room = search rules;
   few = search rules;
   whole =
       let old = c.args.fields.now in
-      let comer = c.args.comer in
+      let comer = c.args.comer.now in
       let e = extent (setup_in old) in
       let counted = record old { events = old.events + 1 } in
       let was = whole_counted old comer.side.actor.0 c.requires.comes.able in

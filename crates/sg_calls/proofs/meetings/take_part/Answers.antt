@@ -13,10 +13,10 @@ use Rattle.sg_calls.proofs.Moves.{moves_answered, moves_called, whole_moved}
 use Rattle.sg_calls.proofs.meetings.take_part.Goals as goal
 
 pub block-requires-clause-what : goal.block-requires-clause-what
-block-requires-clause-what c = states_tell c.args.fields.now c.args.comer.what c.requires.whole.sound c.requires.comer.what
+block-requires-clause-what c = states_tell c.args.fields.now c.args.comer.now.what c.requires.whole.sound c.requires.comer.what
 
 pub answer-requires-clause-what : goal.answer-requires-clause-what
-answer-requires-clause-what c = states_tell c.args.fields.now c.args.comer.what c.requires.whole.sound c.requires.comer.what
+answer-requires-clause-what c = states_tell c.args.fields.now c.args.comer.now.what c.requires.whole.sound c.requires.comer.what
 
 pub answer-requires-clause-date : goal.answer-requires-clause-date
 answer-requires-clause-date c =
@@ -28,7 +28,7 @@ returns-then-comer c = record {
   known = search rules;
   whole =
       let old = c.args.fields.now in
-      let comer = c.args.comer in
+      let comer = c.args.comer.now in
       let new = c.block.new.self in
       let on : Await = record { serial = c.args.serial; party = c.party_of.result } in
       let state = Blocked comer.what c.date-date.result (Some on) in
@@ -41,7 +41,7 @@ returns-else-comer c = record {
   known = search rules;
   whole =
       let old = c.args.fields.now in
-      let comer = c.args.comer in
+      let comer = c.args.comer.now in
       let was = c.requires.whole in
       let sound = was.sound in
       let new = c.answer.new.self in
