@@ -6,7 +6,7 @@ use Rattle.sg_edge.specs.declared.files.Part.{Part}
 use Rattle.sg_edge.specs.declared.sinks.Stream.{Stream}
 use Rattle.sg_edge.specs.Cause.{HasCause}
 use Rattle.sg_edge.specs.Files.{PartView, SomeBroke}
-use Rattle.simgrid_replay.specs.Outcome.{Outcome, HasOutcome, IsWhole}
+use Rattle.simgrid_replay.specs.Outcome.{Outcome, IsWhole, Prints}
 
 -- Where no write failed and memory was there, all that the definition has was written, with its status; and a run that
 -- completes by the definition says so, or that memory was wanting.
@@ -14,9 +14,9 @@ pub record IsWholeIfSound (want : Outcome) (how : Status) (faults : ℕ) (old ne
   pub whole : faults ≡ 0 → how ≢ status.Memory → IsWhole want how old new
   pub completed : faults ≡ 0 → want.status ≡ status.Completed → (how ≡ status.Completed) ⊎ (how ≡ status.Memory)
 
--- so it is of whatever has its outcome and its cause
+-- so it is of whatever prints its outcome and has its cause
 abbrev pub OutcomesAreWhole : Type 0
-OutcomesAreWhole = (want : Outcome) (how : Status) (had faults : ℕ) (old new : Stream → Option (List ℕ)) (start count : ℕ) (before after : Part → PartView)
-    → HasOutcome want how old new start count
+OutcomesAreWhole = (want : Outcome) (how : Status) (had faults : ℕ) (old new : Stream → Option (List ℕ)) (before after : Part → PartView)
+    → Prints want how old new
     → HasCause (how ≡ status.WriteFault) (how ≡ status.ReadFault) had faults (SomeBroke before after)
     → IsWholeIfSound want how faults old new

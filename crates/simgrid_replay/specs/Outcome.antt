@@ -1,5 +1,5 @@
 -- What a whole call writes, and its status, by what its three parts gave.
-use Rattle.std.specs.Prelude.{◌≡◌, ◌+◌, ◌≤◌, ℕ, List, [], Option, option_map, Result, Ok, Err, Bool, true, false, MatchBool, codes}
+use Rattle.std.specs.Prelude.{◌≡◌, ℕ, List, [], Option, option_map, Result, Ok, Err, Bool, true, false, MatchBool, codes}
 use Rattle.sg_base.specs.declared.status.Status.{Status}
 use Rattle.sg_base.specs.declared.status.Status.TheVariants as status
 use Rattle.sg_edge.specs.declared.sinks.Stream.{Stream}
@@ -21,7 +21,7 @@ use Rattle.simgrid_replay.specs.Requests.{has_script, show_of}
 use Rattle.simgrid_replay.specs.declared.refusal.Refusal.{Refusal}
 use Rattle.simgrid_replay.specs.declared.refusal.Refusal.TheVariants as refusal
 
--- What is written, the status, how many contexts the actors of the run take, the work: how many looks its fillings may
+-- What is written, and the status; how many contexts the actors of the run take, the work: how many looks its fillings may
 -- take; and the need: how many bytes of the script its Asks need.
 pub record Outcome : Type 0 where
   pub out : List ℕ
@@ -100,11 +100,6 @@ IsWhole want how old new = (want.status ≡ how) × GainsAll want.out want.err o
 -- the outcome is there whole, or it was cut off and fronts of its texts are there
 abbrev pub Prints : Outcome → Status → (Stream → Option (List ℕ)) → (Stream → Option (List ℕ)) → Type 0
 Prints want how old new = MatchBool (is_cut how) (GainsFronts want.out want.err old new) (IsWhole want how old new)
-
--- what a call has come to: what it printed, and that it counted no more than the work, also where it was cut off
-pub record HasOutcome (want : Outcome) (how : Status) (old new : Stream → Option (List ℕ)) (start count : ℕ) : Type 0 where
-  pub prints : Prints want how old new
-  pub counts : count ≤ start + want.work
 
 -- A text was told for one of these kinds: help and the version on Out, with the status of success; any other on Err.
 pub record ReportsWords (kinds : Kinds) (how : Status) (old new : Stream → Option (List ℕ)) : Type 0 where

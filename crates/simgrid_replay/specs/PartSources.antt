@@ -33,6 +33,10 @@ pub record PartsGive (request : Request) (old new : Part → PartView) (p d s : 
   pub texts : TextsGive request old new p d
   pub script : ScriptGives request old new s
 
+-- a fact for the job that the words ask for, and whatever its parts may have given
+abbrev pub ForJob : List Text → (Part → PartView) → (Part → PartView) → (Asked → Source → Source → Source → Type 0) → Type 0
+ForJob words old new P = (job : Asked) → AskFor words job → (p d s : Source) → PartsGive job.request old new p d s → P job p d s
+
 -- the name that the words have for a part, where they have one
 abbrev pub name_of : Request → Part → Option (List ℕ)
 name_of (replay p d s) part.Platform = Some p

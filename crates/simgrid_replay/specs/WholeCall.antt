@@ -1,5 +1,5 @@
--- What the whole call does: a job, or the refusal of words.
-use Rattle.std.specs.Prelude.{◌≡◌, ℕ, List, Option}
+-- What the whole call takes for a job, and what it does where words are refused.
+use Rattle.std.specs.Prelude.{◌≡◌, ◌+◌, ◌≤◌, ℕ, List, Option}
 use Rattle.sg_base.specs.declared.status.Status.{Status}
 use Rattle.sg_edge.specs.declared.files.Part.{Part}
 use Rattle.sg_edge.specs.declared.sinks.Stream.{Stream}
@@ -7,12 +7,12 @@ use Rattle.sg_edge.specs.Files.{PartView}
 use Rattle.sg_engine.specs.RunContract.{IsReadOnDemand}
 use Rattle.clap.specs.Words.{Kinds}
 use Rattle.simgrid_replay.specs.Contexts.{TakesContexts}
-use Rattle.simgrid_replay.specs.Outcome.{HasOutcome, Outcome, ReportsWords}
+use Rattle.simgrid_replay.specs.Outcome.{Outcome, ReportsWords}
 
--- What was written, the status and the count of looks are those of the outcome; of the script at most 4,095 bytes more were
--- taken than the Asks of the run need, and of the crew as many contexts as the outcome takes.
-pub record DoesJob {A : Type 0} (want : Outcome) (how : Status) (old new : Stream → Option (List ℕ)) (start count : ℕ) (before after : Part → PartView) (had has : List A) : Type 0 where
-  pub outcome : HasOutcome want how old new start count
+-- The looks counted are no more than the work of the outcome; of the script at most 4,095 bytes more were taken than the
+-- Asks of the run need; and of the crew as many contexts as the outcome takes, or no more where the call was cut off.
+pub record TakesForJob {A : Type 0} (want : Outcome) (how : Status) (start count : ℕ) (before after : Part → PartView) (had has : List A) : Type 0 where
+  pub counts : count ≤ start + want.work
   pub needed : IsReadOnDemand want.need before after
   pub taken : TakesContexts want how had has
 

@@ -1,16 +1,15 @@
 //! The exit status of the whole program.
-ghost use Rattle.std.specs.Prelude.{◌≡◌, ◌≢◌, [], length, map, All, None, string_bytes};
+ghost use Rattle.std.specs.Prelude.{◌≡◌, ◌≢◌, ◌+◌, ◌≤◌, [], length, map, All, None, string_bytes};
 ghost use Rattle.std.specs.Process.{exit_status};
 ghost use Rattle.sg_base.specs.Status.{status_code};
 ghost use Rattle.sg_edge.specs.Cause.{HasCause};
 ghost use Rattle.sg_edge.specs.declared.files.Part.{Part};
 ghost use Rattle.sg_edge.specs.declared.files.Stage.TheVariants.{Fresh};
 ghost use Rattle.sg_edge.specs.Files.{SomeBroke};
-ghost use Rattle.sg_edge.specs.Sources.{Source};
-ghost use Rattle.sg_words.specs.CommandLine.{Asked, refusals};
+ghost use Rattle.sg_words.specs.CommandLine.{refusals};
 ghost use Rattle.simgrid_replay.specs.Exit.{Exits};
-ghost use Rattle.simgrid_replay.specs.Outcome.{outcome, HasOutcome, ReportsWords};
-ghost use Rattle.simgrid_replay.specs.PartSources.{AskFor, PartsGive};
+ghost use Rattle.simgrid_replay.specs.Outcome.{outcome, Prints, ReportsWords};
+ghost use Rattle.simgrid_replay.specs.PartSources.{ForJob};
 
 use crate::host::Host;
 use crate::whole_call::simgrid;
@@ -40,10 +39,12 @@ pub fn exit_of<R: Threads + Sync, F: Files, O: Sinks, L: Ledger>(
 ) -> ExitCode
     requires fresh { (part : Part) → (F.shows files.old part).stage ≡ Fresh }
     requires blank { All (λ b. mind b ≡ None) crew.old.items }
-    ensures output { (job : Asked) → AskFor (map string_bytes words.now) job
-        → (p d s : Source) → PartsGive job.request (F.shows files.old) (F.shows files.new) p d s
-        → Exits (exit_status result) (λ how. HasOutcome (outcome job (length crew.old.items) p d s)
-        how (O.contents out.old) (O.contents out.new) steps.old steps.new) }
+    ensures output { ForJob (map string_bytes words.now) (F.shows files.old) (F.shows files.new)
+        (λ job p d s. Exits (exit_status result)
+        (λ how. Prints (outcome job (length crew.old.items) p d s) how
+        (O.contents out.old) (O.contents out.new))) }
+    ensures looks { ForJob (map string_bytes words.now) (F.shows files.old) (F.shows files.new)
+        (λ job p d s. steps.new ≤ steps.old + (outcome job (length crew.old.items) p d s).work) }
     ensures refused { refusals (map string_bytes words.now) ≢ []
         → Exits (exit_status result) (λ how. ReportsWords (refusals (map string_bytes words.now))
         how (O.contents out.old) (O.contents out.new)) }

@@ -7,13 +7,13 @@ ghost use Rattle.sg_edge.specs.Sources.{Source};
 ghost use Rattle.sg_words.specs.CommandLine.{Asked, refusals};
 ghost use Rattle.sg_words.specs.Views.{job_view};
 ghost use Rattle.sg_edge.specs.Cause.{HasCause};
-ghost use Rattle.simgrid_replay.specs.PartSources.{request_of, AskFor, PartsGive, TextsGive};
+ghost use Rattle.simgrid_replay.specs.PartSources.{request_of, AskFor, ForJob, PartsGive, TextsGive};
 ghost use Rattle.simgrid_replay.specs.PartOrder.{IsTextBroken, SparesRest, TakesParts};
 ghost use Rattle.simgrid_replay.specs.kept.Reading.{ComesTo, IsCallCause, IsStart, SeatsJob};
 ghost use Rattle.simgrid_replay.specs.Contexts.{TakesFirst, TakesFront};
-ghost use Rattle.simgrid_replay.specs.Outcome.{is_refusal, outcome};
+ghost use Rattle.simgrid_replay.specs.Outcome.{is_refusal, outcome, Prints};
 ghost use Rattle.simgrid_replay.specs.Settings.{setting};
-ghost use Rattle.simgrid_replay.specs.WholeCall.{DoesJob, RefusesWords};
+ghost use Rattle.simgrid_replay.specs.WholeCall.{RefusesWords, TakesForJob};
 
 use crate::host::Host;
 use crate::job_run::{JobSetup, run_job};
@@ -81,12 +81,18 @@ pub fn simgrid<R: Threads + Sync, F: Files, O: Sinks, L: Ledger>(
     ensures job { refusals (map string_bytes words.now) ≡ []
         → (job : Asked) × AskFor (map string_bytes words.now) job }
 
-    // What happened is what the definition has, for what the parts gave that were asked.
-    ensures output { (job : Asked) → AskFor (map string_bytes words.now) job
-        → (p d s : Source) → PartsGive job.request (F.shows files.old) (F.shows files.new) p d s
-        → DoesJob (outcome job (length crew.old.items) p d s) result
-        (O.contents out.old) (O.contents out.new) steps.old steps.new
-        (F.shows files.old) (F.shows files.new) crew.old.items crew.new.items }
+    // What is written, and the status, are those of the definition for what the parts gave that
+    // were asked; a call that was cut off has written a front of it.
+    ensures output { ForJob (map string_bytes words.now) (F.shows files.old) (F.shows files.new)
+        (λ job p d s. Prints (outcome job (length crew.old.items) p d s) result
+        (O.contents out.old) (O.contents out.new)) }
+
+    // The looks are no more than the work of the run; of the script less than a piece more is taken
+    // than its Asks need, and of the crew as many contexts as the definition takes.
+    ensures takes { ForJob (map string_bytes words.now) (F.shows files.old) (F.shows files.new)
+        (λ job p d s. TakesForJob (outcome job (length crew.old.items) p d s) result
+        steps.old steps.new (F.shows files.old) (F.shows files.new)
+        crew.old.items crew.new.items) }
 
     // Each part was begun under its name of the words, none behind one that is refused or can't be
     // read, and none that the job doesn't have.
@@ -106,11 +112,20 @@ pub fn simgrid<R: Threads + Sync, F: Files, O: Sinks, L: Ledger>(
         (O.contents out.old) (O.contents out.new) files.old files.new
         crew.old.items crew.new.items steps.old steps.new }
 
-    // The same of the status alone, also of parts that don't tell their bytes.
+    // The status of refused words is given to no others. This and what follows holds also of
+    // parts that don't tell their bytes.
     ensures words { result ≡ Status.Words → refusals (map string_bytes words.now) ≢ [] }
+
+    // Behind a platform or a deployment whose refusal the status tells nothing was done.
     ensures rest { SparesRest result (F.shows files.old) (F.shows files.new) }
+
+    // Where the status tells a refusal nobody has taken a context.
     ensures unseated { IsTrue (is_refusal result) → crew.new.items ≡ crew.old.items }
+
+    // Nor has anybody where the platform or the deployment couldn't be begun or read.
     ensures broken_text { IsTextBroken (F.shows files.new) → crew.new.items ≡ crew.old.items }
+
+    // Of the crew the first contexts were taken, if any.
     ensures front { TakesFront crew.old.items crew.new.items }
 
     // The causes of a failed write and of a failed read.

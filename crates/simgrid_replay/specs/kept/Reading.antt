@@ -15,7 +15,7 @@ use Rattle.sg_words.specs.CommandLine.{Asked, Request}
 use Rattle.simgrid_replay.specs.PartOrder.{IsTextBroken}
 use Rattle.simgrid_replay.specs.PartSources.{IsNamedBy, TextsGive}
 use Rattle.simgrid_replay.specs.Contexts.{TakesFirst, TakesFront}
-use Rattle.simgrid_replay.specs.Outcome.{Outcome, HasOutcome, is_cut, is_refusal}
+use Rattle.simgrid_replay.specs.Outcome.{Outcome, Prints, is_cut, is_refusal}
 use Rattle.simgrid_replay.specs.Settings.{platform_given, setting}
 use Rattle.simgrid_replay.specs.Requests.{has_script}
 use Rattle.simgrid_replay.specs.declared.refusal.Refusal.{Refusal}
@@ -35,10 +35,11 @@ IsCallCause how had faults broke = HasCause (how ≡ status.WriteFault) (how ≡
 abbrev pub LeavesContexts : ℕ → Status → ℕ → ℕ → Type 0
 LeavesContexts want how crew left = MatchBool (is_cut how) (crew ≤ left + want) (crew ≡ left + want)
 
--- What a call has come to: its outcome, with so many contexts of the crew left, and less than a piece more of the script
--- taken than its Asks need.
+-- What a call has come to: it printed its outcome, with no more looks than its work, so many contexts of the crew left, and
+-- less than a piece more of the script taken than its Asks need.
 pub record ComesTo (want : Outcome) (how : Status) (old new : Stream → Option (List ℕ)) (crew left start count : ℕ) (before after : Part → PartView) : Type 0 where
-  pub outcome : HasOutcome want how old new start count
+  pub prints : Prints want how old new
+  pub counts : count ≤ start + want.work
   pub contexts : LeavesContexts want.contexts how crew left
   pub needed : IsReadOnDemand want.need before after
 

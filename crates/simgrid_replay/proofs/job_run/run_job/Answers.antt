@@ -20,10 +20,8 @@ returns-clause-output g c = λ s gives.
     let asked = c.terms_for-terms.ensures in
     let run = c.run-ended.ensures.output s (λ scripted. begun_gives _ _ _ s c.begin_script.ensures.left (gives (subst (λ (b : Bool). IsTrue b) c.requires.setup.script scripted))) in
     record {
-      outcome = record {
-        prints = run_prints_on job crew on c.args.on.setup.script terms.budget terms.show s c.run-ended.result c.status.result _ _ c.requires.setup.script asked.budget asked.show c.status.ensures.is run.ends;
-        counts = run_counts_on job crew on c.args.on.setup.script terms.budget terms.show s _ _ c.requires.setup.script asked.budget asked.show run.work;
-      };
+      prints = run_prints_on job crew on c.args.on.setup.script terms.budget terms.show s c.run-ended.result c.status.result _ _ c.requires.setup.script asked.budget asked.show c.status.ensures.is run.ends;
+      counts = run_counts_on job crew on c.args.on.setup.script terms.budget terms.show s _ _ c.requires.setup.script asked.budget asked.show run.work;
       contexts = run_leaves_on job crew on c.args.on.setup.script terms.budget terms.show s c.run-ended.result c.status.result crew (length c.run-ended.new.crew.items) c.requires.setup.script asked.budget asked.show c.status.ensures.is run.contexts;
       needed = run_needs_on job crew on c.args.on.setup.script terms.budget terms.show s _ _ _ c.requires.setup.script asked.budget asked.show c.begin_script.ensures.left run.needed;
     }

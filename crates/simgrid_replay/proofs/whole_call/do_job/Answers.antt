@@ -29,10 +29,8 @@ returns-in-Ok-clause-output g c = λ p d s gives.
     let is = ap (λ (n : ℕ). setting (request_of c.args.job.now) n p d) (sym contexts) ∙ c.in-Ok.ensures.given p d before in
     let run = c.run_job.ensures.output s (script_after (request_of c.args.job.now) old mid new s c.prepare.ensures.read.unbegun gives.script) in
     record {
-      outcome = record {
-        prints = setting_prints (job_view c.args.job.now) (length c.args.crew.now.items) s _ (setting_in c.in-Ok.setup) c.run_job.result (g.O.Sinks.contents c.args.out.now) (g.O.Sinks.contents c.run_job.new.out) is run.outcome.prints;
-        counts = setting_counts (job_view c.args.job.now) (length c.args.crew.now.items) s _ (setting_in c.in-Ok.setup) _ _ is run.outcome.counts;
-      };
+      prints = setting_prints (job_view c.args.job.now) (length c.args.crew.now.items) s _ (setting_in c.in-Ok.setup) c.run_job.result (g.O.Sinks.contents c.args.out.now) (g.O.Sinks.contents c.run_job.new.out) is run.prints;
+      counts = setting_counts (job_view c.args.job.now) (length c.args.crew.now.items) s _ (setting_in c.in-Ok.setup) _ _ is run.counts;
       contexts = setting_leaves (job_view c.args.job.now) (length c.args.crew.now.items) s _ (setting_in c.in-Ok.setup) c.run_job.result (length c.args.crew.now.items) (length c.run_job.new.crew.items) is run.contexts;
       needed = setting_needs (job_view c.args.job.now) (length c.args.crew.now.items) s _ (setting_in c.in-Ok.setup) (old Script) (mid Script) (new Script) is c.prepare.ensures.read.unbegun run.needed;
     }
@@ -41,12 +39,10 @@ pub returns-in-Err-clause-output : goal.returns-in-Err-clause-output
 returns-in-Err-clause-output g c = λ p d s gives.
     let contexts : c.len.result ≡ length c.args.crew.now.items = search rules in
     record {
-      outcome = record {
-        prints = refusal_prints (λ r. or_refused (job_view c.args.job.now) (length c.args.crew.now.items) s r) (setting (request_of c.args.job.now) (length c.args.crew.now.items) p d)
-            c.in-Err.why c.refuse.result _ _ (λ r. refl)
-            (λ told. sym (ap (λ (n : ℕ). setting (request_of c.args.job.now) n p d) (sym contexts) ∙ c.in-Err.ensures.given p d gives.texts (λ e. told (cc)))) c.refuse.ensures.prints;
-        counts = omega (arith);
-      };
+      prints = refusal_prints (λ r. or_refused (job_view c.args.job.now) (length c.args.crew.now.items) s r) (setting (request_of c.args.job.now) (length c.args.crew.now.items) p d)
+          c.in-Err.why c.refuse.result _ _ (λ r. refl)
+          (λ told. sym (ap (λ (n : ℕ). setting (request_of c.args.job.now) n p d) (sym contexts) ∙ c.in-Err.ensures.given p d gives.texts (λ e. told (cc)))) c.refuse.ensures.prints;
+      counts = omega (arith);
       contexts = refusal_leaves (λ r. or_refused (job_view c.args.job.now) (length c.args.crew.now.items) s r) (setting (request_of c.args.job.now) (length c.args.crew.now.items) p d)
           c.in-Err.why c.refuse.result (length c.args.crew.now.items) (λ r. refl)
           (λ told. sym (ap (λ (n : ℕ). setting (request_of c.args.job.now) n p d) (sym contexts) ∙ c.in-Err.ensures.given p d gives.texts (λ e. told (cc)))) c.refuse.ensures.memory;

@@ -3,11 +3,11 @@ use Rattle.std.specs.Prelude.{string_bytes}
 use Rattle.sg_words.specs.CommandLine.{Asked, asked_of, refusals}
 use Rattle.sg_words.specs.Views.{job_view}
 use Rattle.simgrid_replay.specs.Contexts.{TakesFirst}
-use Rattle.simgrid_replay.specs.Outcome.{is_cut, outcome}
+use Rattle.simgrid_replay.specs.Outcome.{is_cut, outcome, Prints}
 use Rattle.simgrid_replay.specs.PartOrder.{TakesParts}
 use Rattle.simgrid_replay.specs.PartSources.{PartsGive, TextsGive}
 use Rattle.simgrid_replay.specs.Settings.{setting}
-use Rattle.simgrid_replay.specs.WholeCall.{DoesJob}
+use Rattle.simgrid_replay.specs.WholeCall.{TakesForJob}
 use Rattle.simgrid_replay.proofs.PartLemmas.{nameless_by, takes_none}
 use Rattle.simgrid_replay.proofs.TopLemmas.{prints_nothing, takes_contexts}
 use Rattle.simgrid_replay.proofs.WordLemmas.{fault_is, job_is}
@@ -18,14 +18,23 @@ returns-in-Ok-clause-output g c = λ job asks p d s gives.
     let same : job_view c.in-Ok.job ≡ job = job_is _ _ c.read_words.result c.in-Ok.job job c.read_words.ensures c.in-Ok.is asks.job in
     let old = g.F.Files.shows c.args.files.now in
     let new = g.F.Files.shows c.do_job.new.files in
+    subst (λ (j : Asked). PartsGive j.request old new p d s →
+    Prints (outcome j (length c.args.crew.now.items) p d s) c.do_job.result (g.O.Sinks.contents c.args.out.now) (g.O.Sinks.contents c.do_job.new.out)) same
+    (λ given. (c.do_job.ensures.output p d s given).prints) gives
+
+pub returns-in-Ok-clause-takes : goal.returns-in-Ok-clause-takes
+returns-in-Ok-clause-takes g c = λ job asks p d s gives.
+    let same : job_view c.in-Ok.job ≡ job = job_is _ _ c.read_words.result c.in-Ok.job job c.read_words.ensures c.in-Ok.is asks.job in
+    let old = g.F.Files.shows c.args.files.now in
+    let new = g.F.Files.shows c.do_job.new.files in
     let had = c.args.crew.now.items in
     let has = c.do_job.new.crew.items in
     subst (λ (j : Asked). PartsGive j.request old new p d s →
-    DoesJob (outcome j (length had) p d s) c.do_job.result (g.O.Sinks.contents c.args.out.now) (g.O.Sinks.contents c.do_job.new.out) c.args.steps.now c.do_job.new.steps old new had has) same
+    TakesForJob (outcome j (length had) p d s) c.do_job.result c.args.steps.now c.do_job.new.steps old new had has) same
     (λ given.
     let done = c.do_job.ensures.output p d s given in
     record {
-      outcome = done.outcome;
+      counts = done.counts;
       needed = done.needed;
       taken = takes_contexts (setting (job_view c.in-Ok.job).request (length had) p d) (outcome (job_view c.in-Ok.job) (length had) p d s) c.do_job.result had has
           (c.do_job.ensures.crew.first p d given.texts) done.contexts;
@@ -34,11 +43,13 @@ returns-in-Ok-clause-output g c = λ job asks p d s gives.
 pub returns-in-Err-clause-output : goal.returns-in-Err-clause-output
 returns-in-Err-clause-output g c = λ job asks p d s gives.
     let silent = c.report_words.ensures.silent (asked_of (map string_bytes c.args.words.now)) (fault_is _ _ (asked_of (map string_bytes c.args.words.now)) c.read_words.result c.in-Err.fault c.read_words.ensures c.in-Err.is asks.accepted) in
+    prints_nothing (outcome job (length c.args.crew.now.items) p d s) c.report_words.result _ _ silent.1
+
+pub returns-in-Err-clause-takes : goal.returns-in-Err-clause-takes
+returns-in-Err-clause-takes g c = λ job asks p d s gives.
+    let silent = c.report_words.ensures.silent (asked_of (map string_bytes c.args.words.now)) (fault_is _ _ (asked_of (map string_bytes c.args.words.now)) c.read_words.result c.in-Err.fault c.read_words.ensures c.in-Err.is asks.accepted) in
     record {
-      outcome = record {
-        prints = prints_nothing (outcome job (length c.args.crew.now.items) p d s) c.report_words.result _ _ silent.1;
-        counts = omega (arith);
-      };
+      counts = omega (arith);
       needed = takes_none _ _ _ refl;
       taken = record {
         taken = 0;
