@@ -1,9 +1,8 @@
 -- Calls that are answered one after another.
 use Rattle.std.proofs.Common.{◌≡◌, ◌≢◌, ◌∙◌, sym, ap, ap₂, subst, refl, ℕ, ◌+◌, ◌==◌, ◌<◌, ◌≤◌, Bool, true, false, cond, List, [], ◌++◌, length, get_or, drop, Option, None, Some, Result, Ok, append_assoc, arith}
-use Rattle.std.specs.Prelude.{option_map, MatchResult, ◌&&◌}
+use Rattle.std.specs.Prelude.{option_map, MatchResult}
 use Rattle.std.proofs.lemmas.List.{append-nil, at_drop_more, at_drop_all}
 use Rattle.sg_base.specs.declared.call.Action.{Action}
-use Rattle.sg_base.specs.declared.call.Call.{Call}
 use Rattle.sg_base.specs.declared.trace_record.Record.{Record}
 use Rattle.sg_base.specs.Mind.{Mind}
 use Rattle.sg_edge.specs.Files.{PartView}
@@ -11,7 +10,7 @@ use Rattle.sg_edge.specs.declared.files.Stage.TheVariants.{Fresh, Broken}
 use Rattle.sg_setup.specs.Setup.{Setup}
 use Rattle.sg_calls.specs.World.{Core}
 use Rattle.sg_engine.specs.World.{World}
-use Rattle.sg_calls.specs.Calls.{answered, told}
+use Rattle.sg_calls.specs.Calls.{told}
 use Rattle.sg_calls.specs.Steps.{Step}
 use Rattle.sg_calls.specs.Known.{Known, after}
 use Rattle.sg_rows.specs.Deployment.{Deployed}
@@ -28,7 +27,7 @@ use Rattle.sg_engine.specs.declared.actor_call.ActorCall.{ActorCall}
 use Rattle.sg_engine.specs.declared.ended.Ended.{Ended}
 use Rattle.sg_engine.specs.declared.ended.Ended.TheVariants as ended
 use Rattle.sg_engine.specs.kept.CallList.{calls_of}
-use Rattle.sg_engine.specs.Run.{Scene, scene, Answering, Progress, at_world, and_then, ended_by, in_world, with_front, ask_step, is_ask, answer_step, other_call, unless_killed}
+use Rattle.sg_engine.specs.Run.{Scene, scene, Answering, Progress, at_world, and_then, ended_by, in_world, with_front, ask_step, answer_step, unless_killed}
 use Rattle.sg_engine.specs.kept.Moments.{Cast, Moment, moment, moment_of, Fits, StandsFor, IsStretch, LacksMemory, ending, script_part}
 use Rattle.sg_engine.proofs.Asked.{ask_made, asks_rise}
 use Rattle.sg_engine.proofs.Runs.{ask_keeps, calls_keep_behind, contexts_fall}
@@ -125,21 +124,15 @@ cut_asked names taken cast part part' kept kept' known world actor stands unused
   contexts = λ source goes. omega (arith, ask_keeps contexts_fall known.setup (answer_of names source) actor world, ap (λ (c : Cast). c.contexts) stands.cast);
 }
 
--- ---- who answers
--- the script answers an Ask
-pub script_answers : {E : Type 0} (script : Bool) (names : Names) (roads : Roads) (setup : Setup) (firsts : List Mind) (actor : ℕ) (what : Call) (taken : List ℕ) (cast : Cast) (world : World) (part part' : PartView) (reader reader' : Script) (old new : Known) (result : Result (Option Ended) E) →
-    (script && is_ask what) ≡ true →
-    (StandsFor names taken cast (moment part (kept_of reader) old) world → MatchResult result (λ how. IsStretch world.work names (λ answers. ask_step setup answers actor world) (ending how) taken cast (moment part (kept_of reader) old) (moment part' (kept_of reader') new)) (λ _. LacksMemory names (λ answers. ask_step setup answers actor world) taken cast.contexts part part')) →
+-- ---- the script
+-- what the script is asked leads on in the run, where there is a script
+pub script_answers : {E : Type 0} (script : Bool) (names : Names) (whole other : Answering → Progress) (taken : List ℕ) (cast : Cast) (world : World) (part part' : PartView) (reader reader' : Script) (old new : Known) (result : Result (Option Ended) E) →
+    script ≡ true → ((answers : Answering) → other answers ≡ whole answers) →
+    (StandsFor names taken cast (moment part (kept_of reader) old) world → MatchResult result (λ how. IsStretch world.work names whole (ending how) taken cast (moment part (kept_of reader) old) (moment part' (kept_of reader') new)) (λ _. LacksMemory names whole taken cast.contexts part part')) →
     StandsFor names taken cast (moment_of script part reader old) world →
-    MatchResult result (λ how. IsStretch world.work names (λ answers. other_call (scene roads setup firsts script) answers actor what world) (ending how) taken cast (moment_of script part reader old) (moment_of script part' reader' new)) (λ _. LacksMemory names (λ answers. other_call (scene roads setup firsts script) answers actor what world) taken cast.contexts (script_part script part) (script_part script part'))
-script_answers true names roads setup firsts actor what taken cast world part part' reader reader' old new result is step stands =
-    matched_as world.work result names (λ answers. ask_step setup answers actor world) (λ answers. other_call (scene roads setup firsts true) answers actor what world) taken cast _ _
-    (λ answers. ap (λ (b : Bool). cond b (ask_step setup answers actor world) (in_world world (answered roads setup world.core actor what))) is) (step stands)
-script_answers false names roads setup firsts actor what taken cast world part part' reader reader' old new result is step stands = absurd (cc is)
-
-pub is_scripted : (script asks : Bool) → (script && asks) ≡ true → script ≡ true
-is_scripted true asks is = refl
-is_scripted false asks is = absurd (cc is)
+    MatchResult result (λ how. IsStretch world.work names other (ending how) taken cast (moment_of script part reader old) (moment_of script part' reader' new)) (λ _. LacksMemory names other taken cast.contexts (script_part script part) (script_part script part'))
+script_answers true names whole other taken cast world part part' reader reader' old new result is same step stands = matched_as world.work result names whole other taken cast _ _ same (step stands)
+script_answers false names whole other taken cast world part part' reader reader' old new result is same step stands = absurd (cc is)
 
 pub fits_scripted : (script : Bool) (deployed : Deployed) (part : PartView) (reader : Script) (known : Known) → script ≡ true → Fits deployed (moment part (kept_of reader) known) → Fits deployed (moment_of script part reader known)
 fits_scripted true deployed part reader known is fits = fits

@@ -6,10 +6,12 @@ use Rattle.std.proofs.lemmas.Bool.Decides.{nat_tests}
 use Rattle.std.proofs.lemmas.List.{append-nil, map-set, length-set, length-map}
 use Rattle.sg_actor.specs.Seats.{SeatView}
 use Rattle.sg_base.specs.declared.call.Call.{Call}
+use Rattle.sg_base.specs.declared.call.Call.TheVariants as call
 use Rattle.sg_base.specs.declared.ids.ActorId.{ActorId}
 use Rattle.sg_base.specs.Mind.{Mind}
 use Rattle.sg_edge.specs.Files.{PartView}
 use Rattle.sg_edge.specs.declared.files.Stage.TheVariants.{Fresh}
+use Rattle.sg_calls.specs.Calls.{answered}
 use Rattle.sg_calls.specs.Known.{Known, after}
 use Rattle.sg_calls.specs.Lives.{created}
 use Rattle.sg_calls.specs.Steps.{Step}
@@ -28,7 +30,7 @@ use Rattle.sg_states.specs.declared.state.State.TheVariants.{Unstarted, Ready, B
 use Rattle.sg_engine.specs.World.{World}
 use Rattle.sg_engine.specs.declared.ended.Ended.TheVariants as ended
 use Rattle.sg_engine.specs.Roles.{firsts_from, mind_at}
-use Rattle.sg_engine.specs.Run.{Scene, Answering, Progress, at_world, created_by, creates, ended_by, if_given, in_world, is_given, minds_if, one_call, other_call, unless_killed}
+use Rattle.sg_engine.specs.Run.{Scene, Answering, Progress, ask_step, at_world, created_by, creates, ended_by, if_given, in_world, is_ask, is_given, minds_if, one_call, other_call, unless_killed}
 use Rattle.sg_engine.specs.kept.Invariant.{unstarted, AreSeatsOf}
 use Rattle.sg_engine.specs.kept.Moments.{Cast, moment, IsFree, IsStretch, LacksMemory, StandsFor, ending}
 use Rattle.sg_engine.specs.kept.SeatRules.{mind_in, minds_of, IsSeated}
@@ -170,7 +172,7 @@ ready_free (Ready answer) ready = refl
 ready_free (Blocked what since on) ready = absurd (cc ready)
 ready_free Ended ready = absurd (cc ready)
 
-pub not_ended : (state : State) → is_alive state ≡ true → is_ended state ≡ false
+not_ended : (state : State) → is_alive state ≡ true → is_ended state ≡ false
 not_ended Unstarted alive = refl
 not_ended (Ready answer) alive = refl
 not_ended (Blocked what since on) alive = refl
@@ -179,17 +181,29 @@ not_ended Ended alive = absurd (cc alive)
 pub as_killed : (at : Scene) (answers : Answering) (actor : ℕ) (what : Call) (world : World) → is_ended (state_of world.core actor) ≡ true → unless_killed at answers actor what world ≡ at_world None world
 as_killed at answers actor what world over = ap (λ (b : Bool). cond b (at_world None world) (one_call at answers actor what world)) over
 
-as_called : (at : Scene) (answers : Answering) (actor : ℕ) (what : Call) (target : Option ActorId) (world : World) → is_ended (state_of world.core actor) ≡ false → created_by what ≡ target →
-    unless_killed at answers actor what world ≡ option_map_or (λ t. creates at.firsts at.setup.budget actor t world) target (other_call at answers actor what world)
-as_called at answers actor what target world alive is =
-    ap (λ (b : Bool). cond b (at_world None world) (one_call at answers actor what world)) alive
-    ∙ ap (λ (o : Option ActorId). option_map_or (λ t. creates at.firsts at.setup.budget actor t world) o (other_call at answers actor what world)) is
+as_called : (at : Scene) (answers : Answering) (actor : ℕ) (what : Call) (core : Core) (world : World) → core ≡ world.core → is_alive (state_of core actor) ≡ true → unless_killed at answers actor what world ≡ one_call at answers actor what world
+as_called at answers actor what core world same alive =
+    ap (λ (b : Bool). cond b (at_world None world) (one_call at answers actor what world)) (ap (λ (c : Core). is_ended (state_of c actor)) (sym same) ∙ not_ended (state_of core actor) alive)
 
-pub as_created : (at : Scene) (answers : Answering) (actor : ℕ) (what : Call) (target : ActorId) (world : World) → is_ended (state_of world.core actor) ≡ false → created_by what ≡ Some target → unless_killed at answers actor what world ≡ creates at.firsts at.setup.budget actor target world
-as_created at answers actor what target world alive is = as_called at answers actor what (Some target) world alive is
+pub as_created : (at : Scene) (answers : Answering) (actor : ℕ) (what : Call) (target : ActorId) (core : Core) (world : World) → core ≡ world.core → is_alive (state_of core actor) ≡ true → what ≡ call.Create target →
+    unless_killed at answers actor what world ≡ creates at.firsts at.setup.budget actor target world
+as_created at answers actor what target core world same alive is = as_called at answers actor what core world same alive ∙ ap (λ (w : Call). one_call at answers actor w world) is
 
-pub as_other : (at : Scene) (answers : Answering) (actor : ℕ) (what : Call) (world : World) → is_ended (state_of world.core actor) ≡ false → created_by what ≡ None → unless_killed at answers actor what world ≡ other_call at answers actor what world
-as_other at answers actor what world alive is = as_called at answers actor what None world alive is
+-- an Ask, where there is a script
+pub as_asked : (at : Scene) (answers : Answering) (actor : ℕ) (what : Call) (core : Core) (world : World) → core ≡ world.core → is_alive (state_of core actor) ≡ true → at.script ≡ true → what ≡ call.Ask →
+    unless_killed at answers actor what world ≡ ask_step at.setup answers actor world
+as_asked at answers actor what core world same alive scripted is =
+    as_called at answers actor what core world same alive
+    ∙ ap (λ (w : Call). one_call at answers actor w world) is
+    ∙ ap (λ (b : Bool). cond (b && true) (ask_step at.setup answers actor world) (in_world world (answered at.roads at.setup world.core actor call.Ask))) scripted
+
+-- any other call
+pub as_answered : (at : Scene) (answers : Answering) (actor : ℕ) (what : Call) (core : Core) (world : World) → core ≡ world.core → is_alive (state_of core actor) ≡ true → created_by what ≡ None → (at.script && is_ask what) ≡ false →
+    unless_killed at answers actor what world ≡ in_world world (answered at.roads at.setup world.core actor what)
+as_answered at answers actor what core world same alive none other =
+    as_called at answers actor what core world same alive
+    ∙ ap (λ (o : Option ActorId). option_map_or (λ t. creates at.firsts at.setup.budget actor t world) o (other_call at answers actor what world)) none
+    ∙ ap (λ (b : Bool). cond b (ask_step at.setup answers actor world) (in_world world (answered at.roads at.setup world.core actor what))) other
 
 pub free_may : (core : Core) (actor : ℕ) → MayCall core actor → IsFree core actor
 free_may core actor may = record { is = record { from = may.from; to = may.to }; free = ready_free (state_of core actor) may.ready }

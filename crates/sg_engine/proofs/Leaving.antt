@@ -1,7 +1,7 @@
 -- Nobody is blocked by the call of another, and nobody goes back to before its beginning.
 use Rattle.std.proofs.Common.{◌≡◌, ◌≢◌, ◌∙◌, sym, ap, subst, refl, inl, inr, ℕ, zero, suc, ◌+◌, ◌-◌, ◌==◌, ◌<◌, ◌≤◌, Bool, true, false, cond, IsTrue, List, [], ◌∷◌, length, get_or, set, Option, None, Some, Result, Ok, Err, arith}
 use Rattle.std.specs.List.{count_by}
-use Rattle.std.specs.Prelude.{◌||◌}
+use Rattle.std.specs.Prelude.{◌||◌, All}
 use Rattle.std.proofs.lemmas.Bool.{cases_eq, cases_lt}
 use Rattle.std.proofs.lemmas.List.{get_or_default, length-set, get_or-set_other}
 use Rattle.std.proofs.lemmas.List.Sums.{sum_by-set}
@@ -17,6 +17,7 @@ use Rattle.sg_base.specs.declared.call.Answer.TheVariants as answer
 use Rattle.sg_base.specs.declared.call.Call.{Call}
 use Rattle.sg_base.specs.declared.call.Call.TheVariants as call
 use Rattle.sg_base.specs.declared.ids.ActorId.{ActorId}
+use Rattle.sg_base.specs.Mind.{Mind}
 use Rattle.sg_edge.specs.Files.{PartView}
 use Rattle.sg_calls.specs.declared.meetings.Comer.{Comer}
 use Rattle.sg_states.specs.declared.state.Actor.{Actor}
@@ -24,7 +25,7 @@ use Rattle.sg_states.specs.declared.state.Blocking.{Blocking}
 use Rattle.sg_states.specs.declared.state.State.{State}
 use Rattle.sg_states.specs.declared.state.State.TheVariants.{Ready, Ended}
 use Rattle.sg_calls.specs.declared.stop.Stop.{Stop}
-use Rattle.sg_calls.specs.Known.{Known, after}
+use Rattle.sg_calls.specs.Known.{Known, after, after_call}
 use Rattle.sg_owners.specs.declared.owners.How.{How}
 use Rattle.sg_owners.specs.declared.owners.How.TheVariants as how
 use Rattle.sg_calls.specs.Answers.{answers, answers_by, answers_side, bare_side, finishes, for_receiver, is_on, with_over}
@@ -52,8 +53,11 @@ use Rattle.sg_script.specs.Stands.{Kept}
 use Rattle.sg_sync.specs.declared.outcome.Outcome.{Outcome}
 use Rattle.sg_sync.specs.declared.outcome.Outcome.TheVariants.{GoesOn, Waits, Refused}
 use Rattle.sg_sync.specs.Objects.{Done}
-use Rattle.sg_engine.specs.kept.Invariant.{has_not_begun, unstarted}
+use Rattle.sg_engine.specs.declared.simulation.Simulation.{Simulation}
+use Rattle.sg_engine.specs.kept.Invariant.{has_not_begun, places_in, unstarted, IsManned, KeepsOthers}
 use Rattle.sg_engine.specs.kept.Moments.{moment, Fits, LeavesFree}
+use Rattle.sg_engine.specs.kept.SeatRules.{IsSeated}
+use Rattle.sg_engine.proofs.Crews.{crew_same}
 
 -- an actor that has an answer or has ended isn't blocked
 abbrev is_free : Actor → Bool
@@ -381,14 +385,6 @@ free_by actor old new leaves other isnt is = record {
   free = leaves.free other is.is.from is.is.to isnt is.free;
 }
 
-pub answered_free : (roads : Roads) (old new : Known) (actor : ℕ) (what : Call) (room : ℕ) → 0 < actor → new ≡ record (after (answered roads old.setup old.core actor what) old) { room = room } → LeavesFree actor old.core new.core
-answered_free roads old new actor what room from is =
-    free_by actor old new (by_step actor old new (answered roads old.setup old.core actor what) room is (answered_leaves roads old.setup old.core actor what from))
-
-pub answered_begun : (roads : Roads) (old new : Known) (actor : ℕ) (what : Call) (room : ℕ) → 0 < actor → new ≡ record (after (answered roads old.setup old.core actor what) old) { room = room } → unstarted new.core ≤ unstarted old.core
-answered_begun roads old new actor what room from is =
-    (by_step actor old new (answered roads old.setup old.core actor what) room is (answered_leaves roads old.setup old.core actor what from)).begun
-
 pub created_free : (given : Bool) (old new : Known) (actor : ℕ) (target : ActorId) (room : ℕ) → 0 < actor → new ≡ record (after (created given actor target old.core) old) { room = room } → LeavesFree actor old.core new.core
 created_free given old new actor target room from is =
     free_by actor old new (by_step actor old new (created given actor target old.core) room is (creating given actor target old.core from))
@@ -415,3 +411,30 @@ pub answered_fits : (deployed : Deployed) (part : PartView) (kept : Kept) (roads
     Fits deployed (moment part kept old) → Fits deployed (moment part kept new)
 answered_fits deployed part kept roads old new actor what room from is fits =
     fits_by deployed part kept actor old new (answered roads old.setup old.core actor what) room is (answered_leaves roads old.setup old.core actor what from) fits
+
+-- but for the kernel nothing of the simulation has changed
+room_left : (b : Bool) (old new : Known) (step : Step) → new ≡ after_call b step old → old.room ≤ new.room + 1
+room_left true old new step is = omega (arith, ap (λ (k : Known). k.room) is)
+room_left false old new step is = omega (arith, ap (λ (k : Known). k.room) is)
+
+pub answered_others : {A : Type 0} (mind : A → Option Mind) (roads : Roads) (sim : Simulation A) (new : Known) (actor : ℕ) (what : Call) (b : Bool) → 0 < actor → IsManned mind sim → new ≡ after_call b (answered roads sim.kernel.setup sim.kernel.core actor what) sim.kernel →
+    KeepsOthers mind actor false sim (record sim { kernel = new })
+answered_others mind roads sim new actor what b from manned is =
+    let old = sim.kernel in
+    let step = answered roads old.setup old.core actor what in
+    let leaves : Leaves actor old.core.actors new.core.actors = by_step actor old new step _ is (answered_leaves roads old.setup old.core actor what from) in
+    let setup : new.setup ≡ old.setup = ap (λ (k : Known). k.setup) is in
+    record {
+      setup = setup;
+      room = room_left b old new step is;
+      free = free_by actor old new leaves;
+      seats = refl;
+      manned = record {
+        number = manned.number ∙ sym leaves.number;
+        seated = subst (λ (s : Setup). All (IsSeated (extent s)) (places_in mind sim)) (sym setup) manned.seated;
+        blank = manned.blank;
+      };
+      crew = crew_same sim (record sim { kernel = new }) refl leaves.begun;
+      calls = refl;
+      buffer = refl;
+    }

@@ -1,5 +1,5 @@
 //! The answers of a round: its calls are answered in rising id.
-ghost use Rattle.std.specs.Prelude.{◌≡◌, ◌≢◌, ◌&&◌, ◌+◌, ◌<◌, ◌≤◌, IfOk, None, Ok, Some, length, All, AllPairs, false};
+ghost use Rattle.std.specs.Prelude.{◌≡◌, ◌≢◌, ◌+◌, ◌<◌, ◌≤◌, IfOk, None, Ok, Some, length, All, AllPairs, false};
 ghost use Rattle.std.specs.Result.{is_err};
 ghost use Rattle.sg_base.specs.Limits.{IsActorIn, IsCall};
 ghost use Rattle.sg_edge.specs.Files.{Only, PartView};
@@ -8,8 +8,8 @@ ghost use Rattle.sg_calls.specs.World.{MayCall, extent};
 ghost use Rattle.sg_calls.specs.Roads.{AreOver};
 ghost use Rattle.sg_engine.specs.declared.actor_call.ActorCall.{ActorCall};
 ghost use Rattle.sg_engine.specs.kept.Invariant.{at_moment, cast_in, may_be_given, unstarted, CanAnswer, CanCreate, FitsNow, GoesOn, KeepsOthers, LeadsTo};
-ghost use Rattle.sg_engine.specs.kept.Moments.{cuts, moment_in, script_moment, call_at, calls_at, created_at, other_at, FitsIn, FitsScript, IsFree, IsReadFrom, LeavesFree, Leads, LeadsCalls, UsesScript};
-ghost use Rattle.sg_engine.specs.Run.{created_by, is_ask, ask_step};
+ghost use Rattle.sg_engine.specs.kept.Moments.{cuts, script_moment, call_at, calls_at, created_at, FitsScript, IsFree, IsReadFrom, LeavesFree, Leads, LeadsCalls, UsesScript};
+ghost use Rattle.sg_engine.specs.Run.{ask_step};
 
 use crate::actor_call::ActorCall;
 use crate::ended::{Ended, end_of};
@@ -54,58 +54,6 @@ fn answer_ask<F: Files>(
         Err(ScriptFault::Line(number, kind)) => Ok(Some(Ended::Script(number, kind))),
         Err(ScriptFault::Read) => Ok(Some(Ended::ReadFault)),
         Err(ScriptFault::Memory) => Err(Memory),
-    }
-}
-
-// Whether the script answers a call.
-fn asks_script(script: bool, call: Call) -> bool
-    ensures { result ≡ (script && is_ask call) }
-{
-    match call {
-        Call::Ask => script,
-        _ => false,
-    }
-}
-
-// Answers a call that creates nobody.
-fn answer_other<F: Files>(
-    plan: &Plan<'_>,
-    router: &mut Router,
-    kernel: &mut Kernel,
-    script: &mut Script,
-    files: &mut F,
-    made: ActorCall,
-) -> Result<Option<Ended>, Memory>
-    requires caller { MayCall kernel.old.core made.actor.0 }
-    requires call { IsCall (extent kernel.old.setup) made.call }
-    requires room { 0 < kernel.old.room }
-    requires roads { AreOver kernel.old.setup.links router.old }
-    requires fits { FitsIn plan.now (F.shows files.old) script.old kernel.old }
-    ensures step { LeadsCalls plan.now (other_at plan.now router.old kernel.old made) result
-        (moment_in plan.now (F.shows files.old) script.old kernel.old)
-        (moment_in plan.now (F.shows files.new) script.new kernel.new) }
-    ensures fits { FitsIn plan.now (F.shows files.new) script.new kernel.new }
-    ensures script { UsesScript F.shows plan.now.script result files.old files.new
-        router.old router.new }
-    ensures setup { kernel.new.setup ≡ kernel.old.setup }
-    ensures room { kernel.old.room ≤ kernel.new.room + 1 }
-    ensures free { LeavesFree made.actor.0 kernel.old.core kernel.new.core }
-    ensures begun { unstarted kernel.new.core ≤ unstarted kernel.old.core }
-{
-    if asks_script(plan.script, made.call) {
-        answer_ask(plan, kernel, script, files, made.actor)
-    } else {
-        Ok(end_of(kernel.answer(made.actor, made.call, router)))
-    }
-}
-
-// The actor that a call creates.
-fn created(call: Call) -> Option<ActorId>
-    ensures { result ≡ created_by call }
-{
-    match call {
-        Call::Create(target) => Some(target),
-        _ => None,
     }
 }
 
@@ -189,9 +137,12 @@ fn answer_one<F: Files>(
     if !sim.kernel.alive(made.actor) {
         return Ok(None);
     }
-    match created(made.call) {
-        Some(target) => answer_create(plan, sim, made.actor, target),
-        None => answer_other(plan, router, &mut sim.kernel, &mut sim.script, files, made),
+    match made.call {
+        Call::Create(target) => answer_create(plan, sim, made.actor, target),
+        Call::Ask if plan.script => {
+            answer_ask(plan, &mut sim.kernel, &mut sim.script, files, made.actor)
+        }
+        call => Ok(end_of(sim.kernel.answer(made.actor, call, router))),
     }
 }
 

@@ -27,7 +27,7 @@ use Rattle.sg_route.specs.Roads.{Roads}
 use Rattle.sg_engine.specs.declared.actor_call.ActorCall.{ActorCall}
 use Rattle.sg_engine.specs.declared.ended.Ended.TheVariants as ended
 use Rattle.sg_engine.specs.kept.CallList.{calls_of}
-use Rattle.sg_engine.specs.Run.{Scene, scene, Answering, Progress, at_world, creates, with_front, other_call, unless_killed, round, round_or_pass}
+use Rattle.sg_engine.specs.Run.{Scene, scene, Answering, Progress, at_world, creates, with_front, unless_killed, round, round_or_pass}
 use Rattle.sg_engine.specs.Roles.{firsts_of}
 
 -- a moment of a run: what the part of the script shows, what its reader keeps, and what the kernel knows
@@ -128,12 +128,9 @@ names_of plan = known_in plan.deployment.now
 abbrev pub scene_at : Plan → Roads → Known → Scene
 scene_at plan roads kernel = scene roads kernel.setup (firsts_of plan.deployment.now) plan.script
 
--- a call of an actor, in a round, and one that creates nobody; a create
+-- a call of an actor, in a round; a create
 abbrev pub call_at : Plan → Roads → Known → ActorCall → Answering → World → Progress
 call_at plan roads kernel made answers world = unless_killed (scene_at plan roads kernel) answers made.actor.0 made.call world
-
-abbrev pub other_at : Plan → Roads → Known → ActorCall → Answering → World → Progress
-other_at plan roads kernel made answers world = other_call (scene_at plan roads kernel) answers made.actor.0 made.call world
 
 abbrev pub created_at : Plan → Known → ActorId → ActorId → Answering → World → Progress
 created_at plan kernel actor target answers world = creates (firsts_of plan.deployment.now) kernel.setup.budget actor.0 target world
@@ -152,14 +149,11 @@ part_at plan roads kernel answers world = round_or_pass (scene_at plan roads ker
 abbrev pub script_in : Plan → (Part → PartView) → PartView
 script_in plan shows = script_part plan.script (shows Script)
 
--- a moment of the run of a plan, and that the parts of the run are of its deployment there
+-- a moment of the run of a plan
 abbrev pub moment_in : Plan → (Part → PartView) → Reader → Known → Moment
 moment_in plan shows reader kernel = moment_of plan.script (shows Script) reader kernel
 
-abbrev pub FitsIn : Plan → (Part → PartView) → Reader → Known → Type 0
-FitsIn plan shows reader kernel = Fits plan.deployment.now (moment_in plan shows reader kernel)
-
--- the same where the script is asked
+-- the same where the script is asked, and that the parts of the run are of its deployment there
 abbrev pub script_moment : (Part → PartView) → Reader → Known → Moment
 script_moment shows reader kernel = moment (shows Script) (kept_of reader) kernel
 
