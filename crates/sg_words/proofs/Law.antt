@@ -6,7 +6,7 @@ use Rattle.clap.specs.Takes.{value_passes}
 use Rattle.clap.specs.Walk.{answers_to, nothing_held, rows_after, walk, walk_from}
 use Rattle.clap.specs.Simple.{argument_words, built_leaf, entered, filled, help_shape, inherited, label_of, names_of, with_index}
 use Rattle.clap.specs.Faults.{entered_fault, level_fault}
-use Rattle.sg_words.specs.CommandLine.{Asked, Request, actors_rule, asked_at, budget_rule, churn, churn_app, churn_at, is_quiet, name_rule, number_at, parts_at, program_app, replay, replay_app, request_at, run, run_app, seed_rule, steps_rule, threads_rule, with_value}
+use Rattle.sg_words.specs.CommandLine.{Asked, Request, actors_rule, asked_at, budget_rule, churn, churn_app, churn_at, is_quiet, name_rule, number_at, parts_at, program_app, replay, replay_app, request_at, run, run_app, seed_rule, steps_rule, workers_rule, with_value}
 use Rattle.sg_words.proofs.Accepted.{Owns, nil_both}
 use Rattle.sg_words.proofs.Ends.{owns_of, text_of}
 use Rattle.sg_words.proofs.Level.{Taken, default_first, entered_level, find_four, level_taken, required_first}
@@ -57,12 +57,12 @@ number_read rule rows got =
     let passes : value_passes rule got.0 ≡ true = got.2 in
     rw got.1 (rw passes refl)
 
-asked_some : (name : Text) (rows : List Row) → is_some (request_at name rows) ≡ true → is_some (number_at threads_rule rows) ≡ true
+asked_some : (name : Text) (rows : List Row) → is_some (request_at name rows) ≡ true → is_some (number_at workers_rule rows) ≡ true
     → is_some (number_at budget_rule rows) ≡ true → is_some (asked_at (name, rows)) ≡ true
 asked_some name rows r w b =
-    let make : Request → ℕ → ℕ → Asked = λ request threads budget. record { request = request; threads = threads; budget = budget; quiet = is_quiet rows } in
-    value_some (with_value (option_map make (request_at name rows)) (number_at threads_rule rows)) (number_at budget_rule rows)
-    (value_some (option_map make (request_at name rows)) (number_at threads_rule rows) (map_some make (request_at name rows) r) w) b
+    let make : Request → ℕ → ℕ → Asked = λ request workers budget. record { request = request; workers = workers; budget = budget; quiet = is_quiet rows } in
+    value_some (with_value (option_map make (request_at name rows)) (number_at workers_rule rows)) (number_at budget_rule rows)
+    (value_some (option_map make (request_at name rows)) (number_at workers_rule rows) (map_some make (request_at name rows) r) w) b
 
 parts_some : {X : Type 0} (make : Text → Text → X) (rows : List Row) → is_some (first_of (codes "platform") rows) ≡ true → is_some (first_of (codes "deployment") rows) ≡ true
     → is_some (parts_at make rows) ≡ true
@@ -84,7 +84,7 @@ replay_some words t =
     let parts : is_some (parts_at make rows) ≡ true = parts_some make rows (some_of _ _ p.1) (some_of _ _ d.1) in
     let request : is_some (with_value (parts_at make rows) (first_of (codes "script") rows)) ≡ true =
     value_some (parts_at make rows) (first_of (codes "script") rows) parts (some_of _ _ s.1) in
-    asked_some (codes "replay") rows request (number_read threads_rule rows w) (number_read budget_rule rows b)
+    asked_some (codes "replay") rows request (number_read workers_rule rows w) (number_read budget_rule rows b)
 
 run_some : (words : List Text) → Taken run_shape [] words false [] → is_some (asked_at (codes "run", rows_after run_shape.rules [] words)) ≡ true
 run_some words t =
@@ -95,7 +95,7 @@ run_some words t =
     let b = default_first run_shape [] words false [] (codes "budget") t refl in
     let make : Text → Text → Request = λ p d. run p d in
     let request : is_some (parts_at make rows) ≡ true = parts_some make rows (some_of _ _ p.1) (some_of _ _ d.1) in
-    asked_some (codes "run") rows request (number_read threads_rule rows w) (number_read budget_rule rows b)
+    asked_some (codes "run") rows request (number_read workers_rule rows w) (number_read budget_rule rows b)
 
 churn_some : (words : List Text) → Taken churn_shape [] words false [] → is_some (asked_at (codes "churn", rows_after churn_shape.rules [] words)) ≡ true
 churn_some words t =
@@ -110,7 +110,7 @@ churn_some words t =
     value_some (with_value (option_map make (number_at seed_rule rows)) (number_at actors_rule rows)) (number_at steps_rule rows)
     (value_some (option_map make (number_at seed_rule rows)) (number_at actors_rule rows)
     (map_some make (number_at seed_rule rows) (number_read seed_rule rows s)) (number_read actors_rule rows a)) (number_read steps_rule rows n) in
-    asked_some (codes "churn") rows request (number_read threads_rule rows w) (number_read budget_rule rows b)
+    asked_some (codes "churn") rows request (number_read workers_rule rows w) (number_read budget_rule rows b)
 
 abbrev IsCommand : Shape → Type 0
 IsCommand s = ((s ≡ replay_shape) ⊎ (s ≡ run_shape)) ⊎ (s ≡ churn_shape)

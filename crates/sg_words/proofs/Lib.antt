@@ -6,4 +6,3 @@ pub mod Numbers
 pub mod Refusals
 pub mod Stops
 pub mod TwoRules
-pub mod Written

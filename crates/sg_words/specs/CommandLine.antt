@@ -8,7 +8,6 @@ use Rattle.clap.specs.Takes.{value_passes}
 use Rattle.clap.specs.declared.builder.action.ArgAction.TheVariants.{SetTrue}
 use Rattle.clap.specs.declared.builder.value_parser.ValueParser.{ValueParser}
 use Rattle.clap.specs.declared.builder.value_parser.ValueParser.TheVariants as vp
-use Rattle.sg_words.specs.Budgets.{in_digits}
 
 -- ---- the definition
 
@@ -34,15 +33,15 @@ abbrev pub number_rule : Text → ℕ → ℕ → Text → Rule
 number_rule id least most default =
     record (new_rule id) { long = Some id; parser = Some (vp.Unsigned least most); defaults = default ∷ []; value_names = 1 }
 
-abbrev pub threads_rule : Rule
-threads_rule = number_rule (codes "nthreads") 1 64 (codes "1")
+abbrev pub workers_rule : Rule
+workers_rule = number_rule (codes "nthreads") 1 64 (codes "1")
 
 abbrev pub budget_rule : Rule
 budget_rule = number_rule (codes "budget") 1 1000000000 (codes "1000000")
 
 -- the options of every command
 abbrev pub with_common_options : App → App
-with_common_options a = with_rule (with_rule a threads_rule) budget_rule
+with_common_options a = with_rule (with_rule a workers_rule) budget_rule
 
 -- the options of a command that prints a line for each action
 abbrev pub with_options : App → App
@@ -70,9 +69,9 @@ bare_app = record {
 abbrev pub program_app : App
 program_app = with_subcommand (with_subcommand (with_subcommand bare_app replay_app.top) run_app.top) churn_app.top
 
--- the kinds of refusal that the words may have, none where the definition accepts them once their budgets are in digits
+-- the kinds of refusal that the words may have, none where the definition accepts them
 abbrev pub refusals : List Text → Kinds
-refusals words = fault_of program_app (in_digits words)
+refusals words = fault_of program_app words
 
 -- ---- the job
 
@@ -85,7 +84,7 @@ pub data Request : Type 0 where
 
 pub record Asked : Type 0 where
   pub request : Request
-  pub threads : ℕ
+  pub workers : ℕ
   pub budget : ℕ
   pub quiet : Bool
 
@@ -119,12 +118,12 @@ is_quiet rows = option_map_or (λ text. bytes_eq text (codes "true")) (first_of 
 -- what the command of a name is asked to do, by the values that were found for its arguments
 abbrev pub asked_at : Text × List Row → Option Asked
 asked_at command = with_value (with_value (option_map
-    (λ request threads budget. record { request = request; threads = threads; budget = budget; quiet = is_quiet command.1 })
-    (request_at command.0 command.1)) (number_at threads_rule command.1)) (number_at budget_rule command.1)
+    (λ request workers budget. record { request = request; workers = workers; budget = budget; quiet = is_quiet command.1 })
+    (request_at command.0 command.1)) (number_at workers_rule command.1)) (number_at budget_rule command.1)
 
 -- what the words ask for, where the definition accepts them
 abbrev pub asked_of : List Text → Option Asked
-asked_of words = option_and_then asked_at (subcommand_of program_app (in_digits words))
+asked_of words = option_and_then asked_at (subcommand_of program_app words)
 
 -- words that aren't refused ask for a job
 abbrev pub AcceptedWordsHaveJobs : Type 0

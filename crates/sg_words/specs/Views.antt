@@ -18,7 +18,7 @@ request_view (Run platform deployment) = line.run platform.now deployment.now
 request_view (Churn n) = line.churn n.seed n.actors n.steps
 
 abbrev pub asked_view : Asked → line.Asked
-asked_view a = record { request = request_view a.request; threads = a.threads; budget = a.budget; quiet = a.quiet }
+asked_view a = record { request = request_view a.request; workers = a.workers; budget = a.budget; quiet = a.quiet }
 
 abbrev pub command_view : Command → line.Request
 command_view (Command.Replay platform deployment script) = line.replay platform deployment script
@@ -26,7 +26,7 @@ command_view (Command.Run platform deployment) = line.run platform deployment
 command_view (Command.Churn seed actors steps) = line.churn seed actors steps
 
 abbrev pub job_view : Job → line.Asked
-job_view job = record { request = command_view job.command; threads = job.threads; budget = job.budget; quiet = job.quiet }
+job_view job = record { request = command_view job.command; workers = job.workers; budget = job.budget; quiet = job.quiet }
 
 -- help, or the version, was asked for
 abbrev pub IsHelp : ErrorKind → Type 0

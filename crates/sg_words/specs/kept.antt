@@ -1,4 +1,3 @@
--- How the definition of the command line is built, how words are written out, and how numbers are read off rows.
+-- How the definition of the command line is built, and how numbers are read off rows.
 pub mod Building
-pub mod Digits
 pub mod Ranged

@@ -3,7 +3,7 @@ ghost use Rattle.std.specs.Prelude.{◌≡◌, IfOk, Some, codes, false};
 ghost use Rattle.clap.specs.Words.{app_of, new_rule, rule_of, with_rule, with_subcommand};
 ghost use Rattle.clap.specs.declared.builder.action.ArgAction.TheVariants.{SetTrue};
 ghost use Rattle.sg_words.specs.kept.Building.{IsArg, IsLocal, Builds};
-ghost use Rattle.sg_words.specs.CommandLine.{name_rule, parsed_rule, seed_rule, actors_rule, steps_rule, threads_rule, budget_rule, with_common_options, with_options, with_parts, replay_app, run_app, churn_app, bare_app, program_app};
+ghost use Rattle.sg_words.specs.CommandLine.{name_rule, parsed_rule, seed_rule, actors_rule, steps_rule, workers_rule, budget_rule, with_common_options, with_options, with_parts, replay_app, run_app, churn_app, bare_app, program_app};
 
 use crate::help;
 use clap::builder::ValueParser;
@@ -53,15 +53,15 @@ fn steps_arg<'a>(alloc: Global) -> Arg<'a>
     number_arg(alloc, "steps", "STEPS", parser, help::STEPS)
 }
 
-fn threads_arg<'a>(alloc: Global) -> Arg<'a>
-    ensures { IsArg threads_rule result }
+fn workers_arg<'a>(alloc: Global) -> Arg<'a>
+    ensures { IsArg workers_rule result }
 {
     Arg::new(alloc, "nthreads")
         .long("nthreads")
         .value_name("N")
         .value_parser(value_parser!(u64).range(1..=64))
         .default_value("1")
-        .help(help::THREADS)
+        .help(help::WORKERS)
 }
 
 fn budget_arg<'a>(alloc: Global) -> Arg<'a>
@@ -114,7 +114,7 @@ fn with_common_options<'a>(alloc: Global, command: Command<'a>) -> Result<Comman
     requires { IsLocal command }
     ensures { Builds (with_common_options (app_of command.entry)) result }
 {
-    let command = with_arg(command, threads_arg(alloc))?;
+    let command = with_arg(command, workers_arg(alloc))?;
     with_arg(command, budget_arg(alloc))
 }
 

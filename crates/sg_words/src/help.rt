@@ -32,9 +32,9 @@ pub const DEPLOYMENT: &str =
 pub const SCRIPT: &str =
     "The script, a text file: one action on each line, like 'p0 compute 1e9 3', at priority 3, or 'p0 send p1 1e6 2MBps', at that rate at most; - is standard input";
 
-pub const THREADS: &str = "Worker threads, 1 to 64; the output is the same for every number";
+pub const WORKERS: &str = "Worker threads, 1 to 64; the output is the same for every number";
 
-pub const BUDGET: &str = "Events after which the run is stopped, 1 to 1000000000, also as 1e6";
+pub const BUDGET: &str = "Events after which the run is stopped, 1 to 1000000000";
 
 pub const QUIET: &str = "Prints no line for each action, only how the run ended";
 
@@ -51,17 +51,3 @@ pub const STATUSES: &str = "Exit status:
   10  the platform, the deployment or the script could not be read
   11  the output could not be written
   12  there was no memory left";
-
-/// How what is said of `churn --quiet` begins: the option that reads most like it is no help.
-pub const MISLED: &str = "error: unexpected argument '--quiet' found
-
-  tip: a similar argument exists: '--budget'";
-
-pub const NEEDS_NO_QUIET: &str = "error: unexpected argument '--quiet' found
-
-  tip: 'churn' prints no line for each action as it is
-
-Usage: simgrid_replay churn [OPTIONS] <SEED> <ACTORS> <STEPS>
-
-For more information, try '--help'.
-";

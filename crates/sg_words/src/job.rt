@@ -26,16 +26,16 @@ pub enum Command {
     },
 }
 
-/// A command line that was accepted: the command, how many threads there are, after how many events the run
+/// A command line that was accepted: the command, how many worker threads there are, after how many events the run
 /// is stopped, and whether the actions are left out of what is printed.
 #[derive(Drop)]
 pub struct Job {
     pub command: Command,
-    pub threads: u32,
+    pub workers: u32,
     pub budget: u64,
     pub quiet: bool,
     ghost command_in_range: { IsInRange command } by { IsInRange-prop command },
-    ghost threads_in_range: { (1 ≤ threads) × (threads ≤ 64) },
+    ghost workers_in_range: { (1 ≤ workers) × (workers ≤ 64) },
     ghost budget_in_range: { (1 ≤ budget) × (budget ≤ 1000000000) },
 }
 
@@ -60,9 +60,9 @@ pub(crate) enum Request<'a> {
 #[derive(Clone, Copy)]
 pub(crate) struct Asked<'a> {
     pub(crate) request: Request<'a>,
-    pub(crate) threads: u32,
+    pub(crate) workers: u32,
     pub(crate) budget: u64,
     pub(crate) quiet: bool,
-    ghost threads_in_range: { (1 ≤ threads) × (threads ≤ 64) },
+    ghost workers_in_range: { (1 ≤ workers) × (workers ≤ 64) },
     ghost budget_in_range: { (1 ≤ budget) × (budget ≤ 1000000000) },
 }

@@ -3,7 +3,6 @@
 //! It stands on `sg_base`, and on clap.
 #![tactic(auto)]
 
-mod budgets;
 mod definition;
 mod fault;
 mod help;

@@ -104,12 +104,12 @@ fn asked_at<'a>(name: &str, matches: &ArgMatches<'a>) -> Option<Asked<'a>>
     ensures { option_map asked_view result ≡ asked_at (name.now, rows_in matches.now) }
 {
     let request = request_at(name, matches)?;
-    let threads = number_at(matches, "nthreads", 1, 64)? as u32;
+    let workers = number_at(matches, "nthreads", 1, 64)? as u32;
     let budget = number_at(matches, "budget", 1, 1_000_000_000)?;
     let quiet = is_quiet(matches);
     Some(Asked {
         request,
-        threads,
+        workers,
         budget,
         quiet,
     })
@@ -151,7 +151,7 @@ pub(crate) fn job_of(alloc: Global, asked: Asked<'_>) -> Result<Job, Memory>
 {
     Ok(Job {
         command: command_of(alloc, asked.request)?,
-        threads: asked.threads,
+        workers: asked.workers,
         budget: asked.budget,
         quiet: asked.quiet,
     })

@@ -1,13 +1,11 @@
 //! The job that the words of a command line ask for.
-ghost use Rattle.std.specs.Prelude.{◌≡◌, IfOk, map, option_and_then, string_bytes};
+ghost use Rattle.std.specs.Prelude.{◌≡◌, IfOk, map, string_bytes};
 ghost use Rattle.clap.specs.Words.{FailsBy, fault_of, kind_of, subcommand_of, subcommand_rows_of};
-ghost use Rattle.sg_words.specs.CommandLine.{asked_at, asked_of, program_app, refusals};
+ghost use Rattle.sg_words.specs.CommandLine.{asked_of, program_app, refusals};
 ghost use Rattle.sg_words.specs.Views.{Answers, IsFaultOf};
 
-use crate::budgets::in_digits;
 use crate::definition::program;
 use crate::fault::WordsFault;
-use crate::help;
 use crate::job::Job;
 use crate::reading::{asked_in, job_of};
 use clap::error::ErrorKind;
@@ -15,22 +13,13 @@ use clap::{ArgMatches, Error};
 use sg_base::{Memory, Text};
 use std::alloc::Global;
 
-// The values of the words, whose budgets are in digits, where the definition accepts them.
+// The values of the words, where the definition accepts them.
 fn parsed<'a>(alloc: Global, words: &'a [String]) -> Result<ArgMatches<'a>, Error>
     ensures kinds { FailsBy (fault_of program_app (map string_bytes words.entry.now)) result }
     ensures matches { IfOk result (λ m. subcommand_rows_of m
         ≡ subcommand_of program_app (map string_bytes words.entry.now)) }
 {
     program(alloc)?.try_get_matches_from(words)
-}
-
-// The text of a refusal, but where its tip misleads.
-fn told(text: &str) -> &str {
-    if text.starts_with(help::MISLED) {
-        help::NEEDS_NO_QUIET
-    } else {
-        text
-    }
 }
 
 // What the error of a parse is told as.
@@ -41,7 +30,7 @@ fn fault_from(alloc: Global, error: Error) -> Result<WordsFault, Memory>
     if kind == ErrorKind::OutOfMemory {
         return Ok(WordsFault::Memory);
     }
-    let text = Text::new(alloc, told(error.to_string(alloc)?.as_str()))?;
+    let text = Text::new(alloc, error.to_string(alloc)?.as_str())?;
     if kind == ErrorKind::DisplayHelp || kind == ErrorKind::DisplayVersion {
         Ok(WordsFault::Help(text))
     } else {
@@ -49,23 +38,7 @@ fn fault_from(alloc: Global, error: Error) -> Result<WordsFault, Memory>
     }
 }
 
-// The job that words ask for whose budgets are in digits.
-fn read_plain(alloc: Global, words: &[String]) -> Result<Job, WordsFault>
-    ensures { Answers (fault_of program_app (map string_bytes words.now))
-        (option_and_then asked_at (subcommand_of program_app (map string_bytes words.now)))
-        result }
-{
-    let matches = match parsed(alloc, words) {
-        Ok(matches) => matches,
-        Err(error) => return Err(fault_from(alloc, error)?),
-    };
-    match asked_in(&matches) {
-        Some(asked) => Ok(job_of(alloc, asked)?),
-        None => unreachable!(),
-    }
-}
-
-/// The job that the words ask for, the first of which is the program's name. A budget may have a power of ten, as `1e6`.
+/// The job that the words ask for, the first of which is the program's name.
 ///
 /// # Errors
 ///
@@ -75,6 +48,12 @@ pub fn read_words(alloc: Global, words: &[String]) -> Result<Job, WordsFault>
     ensures { Answers (refusals (map string_bytes words.now))
         (asked_of (map string_bytes words.now)) result }
 {
-    let words = in_digits(alloc, words)?;
-    read_plain(alloc, words.as_slice())
+    let matches = match parsed(alloc, words) {
+        Ok(matches) => matches,
+        Err(error) => return Err(fault_from(alloc, error)?),
+    };
+    match asked_in(&matches) {
+        Some(asked) => Ok(job_of(alloc, asked)?),
+        None => unreachable!(),
+    }
 }

@@ -34,12 +34,12 @@ fn show(job: &Job) -> Show
 
 // The terms of a job's run.
 fn terms_for(job: &Job) -> Terms
-    ensures threads { result.threads ≡ job.now.threads }
+    ensures threads { result.threads ≡ job.now.workers }
     ensures budget { result.budget ≡ job.now.budget }
     ensures show { result.show ≡ show_of (request_of job.now) job.now.quiet }
 {
     Terms {
-        threads: job.threads,
+        threads: job.workers,
         budget: job.budget,
         show: show(job),
     }
