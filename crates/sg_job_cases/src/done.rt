@@ -57,13 +57,13 @@ impl Done {
             && case.out.starts_with(self.out.held(Stream::Out))
     }
 
-    // Whether Out has what the case writes. Where contexts wait for one another that isn't looked at.
+    // Whether Out has what the case writes.
     fn has_out(&self, case: &Case) -> bool {
         let out = self.out.held(Stream::Out);
         if !case.back.is_empty() {
             return out.starts_with(&case.out) && out.ends_with(&case.back);
         }
-        case.meeting.wanted > 0 || out == case.out.as_slice()
+        out == case.out.as_slice()
     }
 
     // Whether no more of the script was taken than the case allows: less than a piece more than is needed.

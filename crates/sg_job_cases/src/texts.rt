@@ -223,6 +223,9 @@ const SIX: &str = "actor = [
 ]
 ";
 
+/// Two actors on one host.
+const PAIR: &str = "actor = [%0%2%{name = 'p#', host = 'h1', function = 'replay'}, %]";
+
 /// Three actors on one host.
 const BESIDE: &str = "actor = [%0%3%{name = 'p#', host = 'h1', function = 'replay'}, %]";
 
@@ -367,6 +370,7 @@ pub fn text_named(name: &str) -> &'static str {
         "THREE" => THREE,
         "FOUR" => FOUR,
         "SIX" => SIX,
+        "PAIR" => PAIR,
         "BESIDE" => BESIDE,
         "CROWD" => CROWD,
         "EIGHT" => EIGHT,

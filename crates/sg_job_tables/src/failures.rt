@@ -47,6 +47,12 @@ err cannot read the script
 ends 10
 job simgrid_replay replay p d s
 over FAST ONE
+unended p0 compute 1e9
+failing_call 9
+err cannot read the script
+ends 10
+job simgrid_replay replay p d s
+over FAST ONE
 script p0 compute 1e9
 unended p0 comp
 failing_call 9

@@ -49,6 +49,23 @@ err platform: over a limit (table 5, row 1, key 3)
 ends 3
 job simgrid_replay replay p d s
 over - ONE
+platform zone = [{id = 'z', routing = 'Full'}] | host = [{id = 'h1', zone = 'z', speed = '1Gf'}, {id = 'h2', zone = 'z', speed = '1Gf'}] | link = [{id = 'l', bandwidth = '1MBps', latency = '10ms'}] | route = [{src = 'h1', dst = 'h2', links = ['q']}]
+err platform: unknown name (table 5, row 1, key 3)
+ends 3
+-- A SPLITDUPLEX link has no name of its own in a list.
+job simgrid_replay replay p d s
+over - ONE
+platform zone = [{id = 'z', routing = 'Full'}] | host = [{id = 'h1', zone = 'z', speed = '1Gf'}, {id = 'h2', zone = 'z', speed = '1Gf'}] | link = [{id = 'd', bandwidth = '1MBps', latency = '10ms', sharing_policy = 'SPLITDUPLEX'}] | route = [{src = 'h1', dst = 'h2', links = ['d']}]
+err platform: unknown name (table 5, row 1, key 3)
+ends 3
+-- The name of a row is judged before its cores.
+job simgrid_replay replay p d s
+over - ONE
+platform zone = [{id = 'z', routing = 'Full'}] | host = [{id = 'h1', zone = 'z', speed = '1Gf'}, {id = 'h1', zone = 'z', speed = '1Gf', core = 0}]
+err platform: duplicate (table 2, row 2, key 1)
+ends 3
+job simgrid_replay replay p d s
+over - ONE
 err platform: no root zone (table 1, row 0, key 0)
 ends 3
 job simgrid_replay replay p d s
@@ -59,6 +76,12 @@ ends 3
 job simgrid_replay replay p d s
 over - ONE
 platform zone = [{id = 'a', routing = 'Full'}, {id = 'b', parent = 'b', routing = 'Full'}]
+err platform: zone cycle (table 1, row 2, key 2)
+ends 3
+-- Two zones that name each other, beside a root.
+job simgrid_replay replay p d s
+over - ONE
+platform zone = [{id = 'a', routing = 'Full'}, {id = 'b', parent = 'c', routing = 'Full'}, {id = 'c', parent = 'b', routing = 'Full'}]
 err platform: zone cycle (table 1, row 2, key 2)
 ends 3
 job simgrid_replay replay p d s
@@ -109,6 +132,12 @@ ends 4
 job simgrid_replay replay p d s
 over FAST
 deployment actor = [{name = 'p0', host = 'h9', function = 'replay'}]
+err deployment: unknown name (table 1, row 1, key 2)
+ends 4
+-- A router is no host.
+job simgrid_replay replay p d s
+platform zone = [{id = 'z', routing = 'Full'}] | host = [{id = 'h1', zone = 'z', speed = '1Gf'}] | router = [{id = 'r1', zone = 'z'}]
+deployment actor = [{name = 'p0', host = 'r1', function = 'replay'}]
 err deployment: unknown name (table 1, row 1, key 2)
 ends 4
 job simgrid_replay replay p d s

@@ -44,6 +44,30 @@ out [h1:p0:(1) 1.010000000] send p1 1000000 1.010000000
 out [h2:p1:(2) 1.010000000] recv p0 1000000 1.010000000
 out Simulation time 1.010000000
 ends 0
+job p replay p d s --nthreads 1
+over SLOW BESIDE
+script p0 compute 10 | p1 compute 10 | p2 compute 10
+out [h1:p0:(1) 3.333333334] compute 10 3.333333334
+out [h1:p1:(2) 3.333333334] compute 10 3.333333334
+out [h1:p2:(3) 3.333333334] compute 10 3.333333334
+out Simulation time 3.333333334
+ends 0
+job p replay p d s --nthreads 2
+over SLOW BESIDE
+script p0 compute 10 | p1 compute 10 | p2 compute 10
+out [h1:p0:(1) 3.333333334] compute 10 3.333333334
+out [h1:p1:(2) 3.333333334] compute 10 3.333333334
+out [h1:p2:(3) 3.333333334] compute 10 3.333333334
+out Simulation time 3.333333334
+ends 0
+job p replay p d s --nthreads 64
+over SLOW BESIDE
+script p0 compute 10 | p1 compute 10 | p2 compute 10
+out [h1:p0:(1) 3.333333334] compute 10 3.333333334
+out [h1:p1:(2) 3.333333334] compute 10 3.333333334
+out [h1:p2:(3) 3.333333334] compute 10 3.333333334
+out Simulation time 3.333333334
+ends 0
 job p run p d
 over LINE MASTER
 out [h1:m:(1) 1.010000000] send w1 1000000 1.010000000
@@ -75,6 +99,14 @@ job p churn 7 3 2
 out 3 actors, 45 events
 out Simulation time 3.827152185
 ends 0
+job p churn 7 3 2 --nthreads 1
+out 3 actors, 45 events
+out Simulation time 3.827152185
+ends 0
+job p churn 7 3 2 --nthreads 2
+out 3 actors, 45 events
+out Simulation time 3.827152185
+ends 0
 job p churn 7 3 2 --nthreads 64
 out 3 actors, 45 events
 out Simulation time 3.827152185
@@ -102,6 +134,11 @@ job p churn 3 3 2
 out 3 actors, 45 events
 out Simulation time 5.372317252
 ends 0
+job p churn 7 1 2
+err error: invalid value '1' for '<ACTORS>': 1 is not in 2..=4096
+err
+err For more information, try '--help'.
+ends 2
 job p replay --budget 0 p d s
 over FAST ONE
 script p0 compute 1e9
@@ -234,33 +271,56 @@ ends 0
 ";
 
 /// As many turns run side by side as there are threads: so many contexts wait for one another, in one of their turns.
-/// What is written isn't looked at.
 pub const MEETINGS: &str = "\
 job p replay p d s --nthreads 2
-over LINE TWO
+over FAST PAIR
 meeting 2 2 1
+script p0 compute 1e9 | p1 compute 1e9
+out [h1:p0:(1) 2.000000000] compute 1000000000 2.000000000
+out [h1:p1:(2) 2.000000000] compute 1000000000 2.000000000
+out Simulation time 2.000000000
 ends 0
 job p replay p d s --nthreads 3
 over LINE BESIDE
 meeting 3 3 1
+out Simulation time 0.000000000
 ends 0
 job p replay p d s --nthreads 8
 over LINE EIGHT
 meeting 8 8 1
+out Simulation time 0.000000000
 ends 0
 job p replay p d s --nthreads 8
 over LINE EIGHT
 meeting 8 4 3
 script p0 sleep 1 | p2 sleep 1 | p5 sleep 1 | p7 sleep 1
+out [h1:p0:(1) 1.000000000] sleep 1.000000000
+out [h1:p2:(3) 1.000000000] sleep 1.000000000
+out [h1:p5:(6) 1.000000000] sleep 1.000000000
+out [h1:p7:(8) 1.000000000] sleep 1.000000000
+out Simulation time 1.000000000
 ends 0
+-- A task has a byte and a flop, so its message takes a microsecond beside the latency, and it a nanosecond.
 job p run p d --nthreads 3
 over LINE TWO_WORKERS
 meeting 3 3 1
+out [h1:m:(1) 0.010001000] send w1 1 0.010001000
+out [h2:w1:(2) 0.010001000] recv w1 1 0.010001000
+out [h2:w1:(2) 0.010001001] compute 1 0.000000001
+out [h1:m:(1) 0.020001001] send w1 0 0.010000001
+out [h2:w1:(2) 0.020001001] recv w1 0 0.010000000
+out [h1:m:(1) 0.030001001] send w2 0 0.010000000
+out [h2:w2:(3) 0.030001001] recv w2 0 0.030001001
+out Simulation time 0.030001001
 ends 0
 job p churn 7 3 0 --nthreads 3
 meeting 3 3 1
+out 3 actors, 3 events
+out Simulation time 0.000000000
 ends 0
 job p churn 7 8 0 --nthreads 8
 meeting 8 8 1
+out 8 actors, 8 events
+out Simulation time 0.000000000
 ends 0
 ";

@@ -25,6 +25,16 @@ job simgrid_replay replay p d s
 over FOREIGN_GATEWAY
 err platform: gateway outside (table 6, row 1, key 3)
 ends 3
+-- A zone lies 16 deep at most.
+job simgrid_replay replay p d s
+platform zone = [ | {id = 'a1', routing = 'Full'}, | {id = 'a2', parent = 'a1', routing = 'Full'}, | {id = 'a3', parent = 'a2', routing = 'Full'}, | {id = 'a4', parent = 'a3', routing = 'Full'}, | {id = 'a5', parent = 'a4', routing = 'Full'}, | {id = 'a6', parent = 'a5', routing = 'Full'}, | {id = 'a7', parent = 'a6', routing = 'Full'}, | {id = 'a8', parent = 'a7', routing = 'Full'}, | {id = 'a9', parent = 'a8', routing = 'Full'}, | {id = 'a10', parent = 'a9', routing = 'Full'}, | {id = 'a11', parent = 'a10', routing = 'Full'}, | {id = 'a12', parent = 'a11', routing = 'Full'}, | {id = 'a13', parent = 'a12', routing = 'Full'}, | {id = 'a14', parent = 'a13', routing = 'Full'}, | {id = 'a15', parent = 'a14', routing = 'Full'}, | {id = 'a16', parent = 'a15', routing = 'Full'}, | ]
+out Simulation time 0.000000000
+ends 0
+-- There are 16,384 hosts at most.
+job simgrid_replay replay p d s
+platform zone = [{id = 'z', routing = 'Full'}] | host = [%0%16385%{id = 'h#', zone = 'z', speed = '1f'}, %]
+err platform: over a limit (table 2, row 0, key 0)
+ends 3
 -- A line has 4,096 bytes at most.
 job p replay p d s --quiet
 over FAST ONE
@@ -87,6 +97,12 @@ job p churn 7 4096 0
 crew both 4096
 out 4096 actors, 4096 events
 out Simulation time 0.000000000
+ends 0
+-- One step of all of them is within the budget of a run without the option. The time is that of an independent program.
+job p churn 7 4096 1
+crew both 4096
+out 4096 actors, 32768 events
+out Simulation time 11.431634660
 ends 0
 ";
 

@@ -191,6 +191,16 @@ script p0 acquire s1
 out deadlock at 0.000000000
 out blocked [h1:p0:(1)] acquire s1
 ends 6
+-- The way back leads over the other half of a SPLITDUPLEX link alone, so two messages share nothing.
+job simgrid_replay replay p d s
+over DUPLEX FOUR
+script p0 send p1 1e6 | p1 recv p0 | p3 send p2 1e6 | p2 recv p3
+out [h1:p0:(1) 1.010000000] send p1 1000000 1.010000000
+out [h2:p1:(2) 1.010000000] recv p0 1000000 1.010000000
+out [h2:p3:(4) 1.010000000] send p2 1000000 1.010000000
+out [h1:p2:(3) 1.010000000] recv p3 1000000 1.010000000
+out Simulation time 1.010000000
+ends 0
 ";
 
 /// Replays on hosts alone.
@@ -225,7 +235,7 @@ over FAST ONE
 out Simulation time 0.000000000
 ends 0
 job simgrid_replay replay p d s
-over FAST BESIDE
+over FAST PAIR
 script p0 compute 1e9 | p1 compute 1e9
 out [h1:p0:(1) 2.000000000] compute 1000000000 2.000000000
 out [h1:p1:(2) 2.000000000] compute 1000000000 2.000000000
