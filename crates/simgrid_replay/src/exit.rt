@@ -1,5 +1,5 @@
 //! The exit status of the whole program.
-ghost use Rattle.std.specs.Prelude.{◌≡◌, ◌≢◌, ◌+◌, ◌≤◌, [], length, map, All, None, string_bytes};
+ghost use Rattle.std.specs.Prelude.{◌≡◌, ◌≢◌, ◌+◌, ◌≤◌, [], length, map, All, None, OnErr, OnOk, string_bytes};
 ghost use Rattle.std.specs.Process.{exit_status};
 ghost use Rattle.sg_base.specs.Status.{status_code};
 ghost use Rattle.sg_edge.specs.Cause.{HasCause};
@@ -15,7 +15,7 @@ use crate::host::Host;
 use crate::whole_call::simgrid;
 use sg_actor::Actor;
 use sg_base::{Status, Steps};
-use sg_edge::{Files, Sinks};
+use sg_edge::{Failed, Files, Sinks};
 use std::process::ExitCode;
 use std::sync::ledger::Ledger;
 use std::thread::Threads;
@@ -25,6 +25,18 @@ pub fn exit_code(status: Status) -> ExitCode
     ensures { exit_status result ≡ status_code status }
 {
     ExitCode::from(status.code())
+}
+
+/// What the program tells the system in the end: as it was told, or that a write failed, where what waited to be
+/// written couldn't be.
+pub fn last_code(told: ExitCode, finished: Result<(), Failed>) -> ExitCode
+    ensures written { OnOk finished (exit_status result ≡ exit_status told) }
+    ensures failed { OnErr finished (exit_status result ≡ status_code Status.WriteFault) }
+{
+    match finished {
+        Ok(()) => told,
+        Err(Failed) => exit_code(Status::WriteFault),
+    }
 }
 
 /// Does what the words ask for, as `simgrid` does, and tells the exit status: that of the definition where the parts told

@@ -28,9 +28,10 @@ ghost use Rattle.std.specs.Prelude.{◌≡◌, ◌<◌, [], length, All, None, I
 ghost use Rattle.std.specs.Process.{exit_status};
 ghost use Rattle.std.specs.Vec.Iter.{into_iter_items};
 ghost use Rattle.sg_base.specs.Status.{status_code};
+ghost use Rattle.sg_edge.specs.Sinks.{one_if};
 ghost use Rattle.simgrid_replay.specs.Exit.{IsExit};
 
-use exit::{exit_code, exit_of};
+use exit::{exit_code, exit_of, last_code};
 use host::Host;
 use real_files::RealFiles;
 use real_sinks::RealSinks;
@@ -74,14 +75,21 @@ fn words_of(alloc: Global, args: io::Result<Args>) -> Result<Vec<String>, Memory
     }
 }
 
+// Whether each line is to go out as it comes: who feeds the script over standard input may wait for it.
+fn is_live(words: &[String]) -> bool {
+    words.iter().any(|word| word.as_str() == "-")
+}
+
 // The program over the real files and streams, with a counter of its own.
 fn start<R: Threads + Sync, L: Ledger>(
     rt: &R,
     host: HostRuntime,
     words: &[String],
+    mut out: RealSinks,
     crew: &mut Vec<Box<dyn Actor + Send>>,
     blank: Blank,
 ) -> ExitCode
+    requires sound { one_if out.broken ≡ 0 }
     requires contexts { length crew.old.items ≡ 4096 }
     requires blank { All (λ b. mind b ≡ None) crew.old.items }
     requires name { blank.name ≡ L.name }
@@ -90,17 +98,17 @@ fn start<R: Threads + Sync, L: Ledger>(
     ensures { IsExit (exit_status result) }
 {
     let mut files = RealFiles::new(host);
-    let mut out = RealSinks::new(host);
     let mut steps = Steps::<L>::new(blank);
     let alloc = host.alloc();
-    exit_of(
+    let told = exit_of(
         &Host { rt, alloc },
         words,
         &mut files,
         &mut out,
         crew,
         &mut steps,
-    )
+    );
+    last_code(told, out.finish())
 }
 
 // The program with the words of its command line, and contexts of both kinds in turn.
@@ -109,6 +117,7 @@ fn program<R: Threads + Sync>(rt: &R, host: HostRuntime) -> Result<ExitCode, Mem
 {
     let alloc = host.alloc();
     let words = words_of(alloc, env::args(&host))?;
+    let out = RealSinks::new(host, is_live(&words))?;
     let mut crew: Vec<Box<dyn Actor + Send>> = Vec::new(alloc);
     for _pair in 0..PAIRS {
         crew.push(Box::new(alloc, PlainContext::new(alloc))?)?;
@@ -118,7 +127,7 @@ fn program<R: Threads + Sync>(rt: &R, host: HostRuntime) -> Result<ExitCode, Mem
     if !all_blank(crew.as_slice()) {
         return Err(Memory);
     }
-    Ok(start::<R, Brand>(rt, host, &words, &mut crew, Blank::new(1)))
+    Ok(start::<R, Brand>(rt, host, &words, out, &mut crew, Blank::new(1)))
 }
 
 // What the system is told at the end: want of memory too, before there was a call.

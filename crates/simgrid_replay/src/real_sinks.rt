@@ -1,10 +1,14 @@
-//! The real outputs: calls are passed on to std, and no contract can say what they hold.
-ghost use Rattle.std.specs.Prelude.{◌≡◌, ◌<◌, ◌≤◌, length, IfOk, None};
+//! The real outputs: calls are passed on to std, in front of which lines wait, and no contract can say what they hold.
+ghost use Rattle.std.specs.Prelude.{◌≡◌, ◌<◌, ◌≤◌, length, IfOk, IsErr, IsTrue, None};
 ghost use Rattle.std.specs.Io.KnownBytes.{WriteAppends};
 ghost use Rattle.sg_edge.specs.Sinks.{one_if};
 
+use sg_base::Memory;
 use sg_edge::{Failed, Sinks, Stream};
-use std::io::Write;
+use std::io::{BufWriter, IsTerminal, Stdout, Write};
+
+/// The bytes of the buffer in front of standard output.
+const ROOM: usize = 8192;
 
 // Passes a piece on to a writer, which takes a byte or fails.
 fn write_to<W: Write>(to: &mut W, piece: &[u8]) -> Result<usize, Failed>
@@ -18,39 +22,73 @@ fn write_to<W: Write>(to: &mut W, piece: &[u8]) -> Result<usize, Failed>
     }
 }
 
-// Passes a piece on to that one of two writers.
-fn write_on<A: Write, B: Write>(
-    stream: Stream,
-    out: &mut A,
-    err: &mut B,
-    piece: &[u8],
-) -> Result<usize, Failed>
-    requires { 0 < length piece.now }
-    ensures count { IfOk result (λ n. (0 < n) × (n ≤ length piece.now)) }
-    ensures out { stream ≡ Stream.Out
-        → WriteAppends (A.contents out.old) (A.contents out.new) result piece.now }
-    ensures err { stream ≡ Stream.Err
-        → WriteAppends (B.contents err.old) (B.contents err.new) result piece.now }
-{
-    match stream {
-        Stream::Out => write_to(out, piece),
-        Stream::Err => write_to(err, piece),
-    }
-}
-
-/// Standard output and standard error.
+/// Standard output and standard error. What is written to standard output waits in a buffer, unless whoever reads it
+/// may wait for it; it is written before anything goes to standard error, so that the order on one device stays.
 #[derive(Drop)]
 pub struct RealSinks {
     rt: HostRuntime,
+    out: BufWriter<Stdout>,
     broken: bool,
 }
 
 impl RealSinks {
-    /// Two streams on which no write has failed.
-    pub fn new(rt: HostRuntime) -> RealSinks
-        ensures { one_if result.broken ≡ 0 }
+    /// Two streams on which no write has failed. With `at_once`, or where standard output is a terminal, each write goes
+    /// out as it comes, since a buffer without room keeps nothing.
+    ///
+    /// # Errors
+    ///
+    /// No memory for the buffer.
+    pub fn new(rt: HostRuntime, at_once: bool) -> Result<RealSinks, Memory>
+        ensures { IfOk result (λ sinks. one_if sinks.broken ≡ 0) }
     {
-        RealSinks { rt, broken: false }
+        let stdout = rt.stdout();
+        let room = if at_once || stdout.is_terminal() {
+            0
+        } else {
+            ROOM
+        };
+        match BufWriter::with_capacity(rt.alloc(), room, stdout) {
+            Ok(out) => Ok(RealSinks {
+                rt,
+                out,
+                broken: false,
+            }),
+            Err(_) => Err(Memory),
+        }
+    }
+
+    // Writes what waits, and then passes the piece on to standard error.
+    fn write_error(&mut self, piece: &[u8]) -> Result<usize, Failed>
+        requires { 0 < length piece.now }
+        ensures count { IfOk result (λ n. (0 < n) × (n ≤ length piece.now)) }
+        ensures broken { self.new.broken ≡ self.old.broken }
+    {
+        match self.out.flush() {
+            Ok(()) => write_to(&mut self.rt.stderr(), piece),
+            Err(_) => Err(Failed),
+        }
+    }
+
+    /// Writes what waits. Where a write has failed before, nothing more is written.
+    ///
+    /// # Errors
+    ///
+    /// A write has failed, now or before.
+    pub fn finish(self) -> Result<(), Failed>
+        ensures { IsTrue self.broken → IsErr result }
+    {
+        let RealSinks { rt: _, out, broken } = self;
+        if broken {
+            let (_, _) = out.into_parts();
+            return Err(Failed);
+        }
+        match out.into_inner() {
+            Ok(_) => Ok(()),
+            Err(unwritten) => {
+                let (_, _) = unwritten.into_inner().into_parts();
+                Err(Failed)
+            }
+        }
     }
 }
 
@@ -60,7 +98,10 @@ impl Sinks for RealSinks {
     ghost faults = { λ m. one_if m.broken };
 
     fn write(&mut self, to: Stream, piece: &[u8]) -> Result<usize, Failed> {
-        let done = write_on(to, &mut self.rt.stdout(), &mut self.rt.stderr(), piece);
+        let done = match to {
+            Stream::Out => write_to(&mut self.out, piece),
+            Stream::Err => self.write_error(piece),
+        };
         if done.is_err() {
             self.broken = true;
         }
