@@ -155,7 +155,7 @@ fn a_text_has_16_mib_at_most(rt: HostRuntime) -> Result<(), Fail> {
 }
 
 #[test]
-fn turns_run_side_by_side(rt: HostRuntime) -> Result<(), Fail> {
+fn two_flags(rt: HostRuntime) -> Result<(), Fail> {
     hold(rt.alloc(), MEETINGS, |alloc, case| done(&rt, alloc, case))
 }
 
