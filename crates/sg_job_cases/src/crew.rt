@@ -1,5 +1,5 @@
 //! What contexts a job has.
-use sg_actor::Meeter;
+use crate::meeter::Meeter;
 use sg_base::Memory;
 use std::alloc::Global;
 use std::sync::Arc;

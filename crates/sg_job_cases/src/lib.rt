@@ -10,6 +10,7 @@ mod crew;
 mod done;
 mod failing;
 mod literal;
+mod meeter;
 mod texts;
 
 pub use case::Case;
@@ -17,3 +18,4 @@ pub use cases::hold;
 pub use crew::Kind;
 pub use done::Done;
 pub use failing::hold_failing;
+pub use meeter::Meeter;

@@ -2,8 +2,9 @@
 ghost use Rattle.std.specs.Prelude.{◌≡◌, ◌<◌, All, IsTrue};
 ghost use Rattle.sg_actor.specs.Seats.{CanTurn, seat_views, seat_view};
 
-use sg_actor::{Actor, Meeter, PlainContext, Role, Seat, TapeContext, all_blank, run_round};
+use sg_actor::{Actor, PlainContext, Role, Seat, TapeContext, all_blank, run_round};
 use sg_base::{ActorId, Answer, Call, Memory};
+use sg_job_cases::Meeter;
 use std::alloc::Global;
 use std::process::Abort;
 use std::sync::Arc;

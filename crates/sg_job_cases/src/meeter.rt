@@ -1,9 +1,7 @@
 //! An actor for tests of threads.
 ghost use Rattle.std.specs.Prelude.{◌≡◌, None};
 
-use crate::actor::Actor;
-use crate::plain_context::PlainContext;
-use crate::role::Role;
+use sg_actor::{Actor, PlainContext, Role};
 use sg_base::{Answer, Call, Memory};
 use std::alloc::Global;
 use std::marker::Model;
