@@ -14,6 +14,8 @@ mod plain_context;
 mod role;
 mod seat;
 mod tape_context;
+#[cfg(test)]
+mod tests;
 mod turns;
 
 pub use actor::Actor;
