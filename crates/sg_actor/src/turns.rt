@@ -1,8 +1,7 @@
 //! The turns of a round: one of each actor that is ready.
-ghost use Rattle.std.specs.Prelude.{◌≡◌, ◌<◌, length, reverse, All, map};
-ghost use Rattle.std.specs.List.{list_any};
+ghost use Rattle.std.specs.Prelude.{◌≡◌, ◌<◌, length, All, map};
 ghost use Rattle.std.specs.Thread.{IsSync, IsSend};
-ghost use Rattle.sg_actor.specs.kept.Chunks.{chunk_size, is_ready, seats_before_middle};
+ghost use Rattle.sg_actor.specs.kept.Chunks.{chunk_size, seats_before_middle};
 ghost use Rattle.sg_actor.specs.Seats.{after, seat_view, seat_views, CanTurn};
 
 use crate::actor::Actor;
@@ -12,32 +11,33 @@ use std::thread::{Threads, join_mut};
 /// Each actor whose seat is ready takes one turn on its inbox, and its call goes into its outbox. Every other seat
 /// stays as it is.
 ///
-/// The seats are cut into chunks, one for each thread where there are enough seats, and chunks in which nobody is ready
-/// begin no thread; which thread has which seats can't be told afterwards. It takes no memory.
-pub fn run_round<R: Threads + Sync>(rt: &R, seats: &mut [Seat], threads: u32)
-    requires some { 0 < threads }
+/// The seats are cut into chunks, one for each worker where there are enough seats, and each is run in a thread of its
+/// own; which worker has which seats can't be told afterwards. It takes no memory.
+pub fn run_round<R: Threads + Sync>(rt: &R, seats: &mut [Seat], workers: u32)
+    requires some { 0 < workers }
     requires ready { All CanTurn (seat_views (λ b. mind b) seats.old) }
     ensures { seat_views (λ b. mind b) seats.new ≡ map after (seat_views (λ b. mind b) seats.old) }
 {
-    if seats.is_empty() {
+    if workers == 1 || seats.len() <= 1 {
+        run_in_turn(seats);
         return;
     }
-    let size = chunk_size(seats.len(), threads);
+    let size = chunk_size(seats.len(), workers);
     run_chunks(rt, size, seats);
 }
 
 // How many seats each chunk has but the last, which may have fewer.
-fn chunk_size(seats: usize, threads: u32) -> usize
+fn chunk_size(seats: usize, workers: u32) -> usize
     requires seats { 0 < seats }
-    requires threads { 0 < threads }
-    ensures size { result ≡ chunk_size seats threads }
+    requires workers { 0 < workers }
+    ensures size { result ≡ chunk_size seats workers }
     ensures some { 0 < result }
 {
-    seats.div_ceil(threads as usize)
+    seats.div_ceil(workers as usize)
 }
 
-// The same, in a thread for each chunk of so many seats in which somebody is ready, since a thread costs more than to
-// look for one who is. The chunks are halved at each step, so the stack grows with the logarithm of their number.
+// The same, in a thread for each chunk of so many seats. The chunks are halved at each step, so the stack grows with the
+// logarithm of their number.
 #[cycle(halves)]
 fn run_chunks<R: Threads + Sync, A: Actor + Send>(rt: &R, size: usize, seats: &mut [Seat<A>])
     requires size { 0 < size }
@@ -50,28 +50,7 @@ fn run_chunks<R: Threads + Sync, A: Actor + Send>(rt: &R, size: usize, seats: &m
     }
     let mid = middle(seats.len(), size);
     let (front, back) = seats.split_at_mut(mid);
-    if !is_any_ready(front) {
-        run_chunks(rt, size, back);
-    } else if !is_any_ready_behind(back) {
-        run_chunks(rt, size, front);
-    } else {
-        run_halves(rt, size, front, back);
-    }
-}
-
-// Whether somebody there is to take a turn.
-fn is_any_ready<A>(seats: &[Seat<A>]) -> bool
-    ensures { result ≡ list_any is_ready seats.now }
-{
-    seats.iter().any(|seat| seat.ready)
-}
-
-// The same, looked for from the last seat to the first: where the first and the last are ready, neither half of them
-// is walked through.
-fn is_any_ready_behind<A>(seats: &[Seat<A>]) -> bool
-    ensures { result ≡ list_any is_ready (reverse seats.now) }
-{
-    seats.iter().rev().any(|seat| seat.ready)
+    run_halves(rt, size, front, back);
 }
 
 // The same of two halves. In a function of its own, so that what the closures ask is what it asks.
