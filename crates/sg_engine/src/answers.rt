@@ -105,7 +105,7 @@ fn answer_create(
     ensures others { KeepsOthers (λ b. mind b) actor.0 (is_err result) sim.old sim.new }
     ensures script { sim.new.script ≡ sim.old.script }
 {
-    match sim.kernel.may_create(target) {
+    match sim.kernel.may_create(actor, target) {
         Ok(fresh) => {
             let given = fresh && !sim.crew.is_empty();
             create(plan, sim, actor, target, given)

@@ -159,9 +159,10 @@ impl Kernel {
         Ok(())
     }
 
-    /// Whether a create of this actor may let it begin: where it hasn't started.
-    pub fn may_create(&self, target: ActorId) -> Result<bool, Stop>
-        requires { IsActor self.now.core target.0 }
+    /// Whether an actor's create of another may let that one begin: where it hasn't started.
+    pub fn may_create(&self, actor: ActorId, target: ActorId) -> Result<bool, Stop>
+        requires caller { MayCall self.now.core actor.0 }
+        requires target { IsActor self.now.core target.0 }
         ensures { result ≡ (if self.now.core.events == self.now.setup.budget then Err stop.Budget
             else Ok (is_unstarted (state_of self.now.core target.0))) }
     {
