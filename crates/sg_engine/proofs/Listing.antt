@@ -1,8 +1,8 @@
 -- The calls of a round, with those that weren't made and without.
 use Rattle.std.proofs.Common.{◌≡◌, ◌≢◌, ◌∙◌, sym, ap, subst, refl, ℕ, zero, suc, ◌+◌, ◌-◌, ◌<◌, ◌≤◌, Bool, true, false, cond, List, [], ◌∷◌, ◌++◌, length, map, get_or, take, Option, None, Some, IsTrue, arith}
-use Rattle.std.specs.Prelude.{All, AllPairs, IfSome}
+use Rattle.std.specs.Prelude.{All, AllPairs}
 use Rattle.std.proofs.lemmas.List.{get_or_default, take_all}
-use Rattle.std.proofs.lemmas.List.Elements.{All-append, All-nil, All-cons}
+use Rattle.std.proofs.lemmas.List.Elements.{All-nil, All-cons}
 use Rattle.std.proofs.lemmas.List.Kept.{AllPairs-cons}
 use Rattle.sg_actor.specs.Seats.{SeatView, KeepsLimits}
 use Rattle.sg_base.specs.Limits.{Extent, IsCall}
@@ -120,15 +120,6 @@ calls_limited extent actor (place ∷ places) limited =
     all_one (λ (made : ActorCall). IsCall extent made.call) actor (call_in place) (call_list (actor + 1) (map call_in places))
     (λ made is. call_limited extent place made (limited 0 place (omega arith)) is)
     (calls_limited extent (actor + 1) places (λ k d within. limited (suc k) d (omega (arith, within))))
-
--- so does one more
-one_limited : (extent : Extent) (actor : ℕ) (call : Option Call) → IfSome call (IsCall extent) → All (λ (made : ActorCall). IsCall extent made.call) (with_call actor call [])
-one_limited extent actor None is = All-nil (λ (made : ActorCall). IsCall extent made.call)
-one_limited extent actor (Some what) is = All-cons (λ (made : ActorCall). IsCall extent made.call) (record { actor = record { 0 = actor }; call = what }) [] is (All-nil (λ (made : ActorCall). IsCall extent made.call))
-
-pub more_limited : (extent : Extent) (items items' : List ActorCall) (actor : ℕ) (call : Option Call) → items' ≡ items ++ with_call actor call [] → IfSome call (IsCall extent) → All (λ (made : ActorCall). IsCall extent made.call) items → All (λ (made : ActorCall). IsCall extent made.call) items'
-more_limited extent items items' actor call added is limited =
-    subst (All (λ (made : ActorCall). IsCall extent made.call)) (sym added) (All-append (λ (made : ActorCall). IsCall extent made.call) items (with_call actor call []) limited (one_limited extent actor call is))
 
 -- ---- call by call
 none_listed : (actor : ℕ) (calls : List (Option Call)) (c : ℕ) → ((j : ℕ) → j < c → get_or calls j None ≡ None) → call_list actor (take c calls) ≡ []

@@ -6,8 +6,8 @@ use Rattle.std.proofs.lemmas.List.{get_or-map, length-map}
 use Rattle.std.proofs.lemmas.List.Elements.{All-nil, All-cons, All-head, All-map, All-tail}
 use Rattle.sg_base.specs.declared.call.Answer.{Answer}
 use Rattle.sg_base.specs.declared.call.Call.{Call}
-use Rattle.sg_base.specs.Limits.{Extent, IsAnswer, IsCall}
-use Rattle.sg_base.specs.Mind.{Mind, IsMind}
+use Rattle.sg_base.specs.Limits.{Extent, IsAnswer}
+use Rattle.sg_base.specs.Mind.{Mind}
 use Rattle.sg_base.specs.Turn.{turn}
 use Rattle.sg_actor.specs.Seats.{SeatView, after, with_turn, CanTurn, KeepsLimits}
 use Rattle.sg_states.specs.declared.state.Actor.{Actor}
@@ -15,7 +15,7 @@ use Rattle.sg_states.specs.declared.state.State.{State}
 use Rattle.sg_states.specs.declared.state.State.TheVariants.{Unstarted, Ready, Blocked, Ended}
 use Rattle.sg_states.specs.Actors.{answer_in, inbox_of, is_answered, not_suspended}
 use Rattle.sg_engine.specs.Run.{zip_with, mind_after, call_after}
-use Rattle.sg_engine.specs.kept.SeatRules.{mind_in, minds_of, AreQueued, IsSeated, with_answer, call_in, at_rest, behind_turn}
+use Rattle.sg_engine.specs.kept.SeatRules.{mind_in, minds_of, AreQueued, IsSeated, with_answer, call_in, at_rest}
 
 pub length-zip_with : {X Y Z : Type 0} (f : X → Y → Z) (xs : List X) (ys : List Y) → length ys ≡ length xs → length (zip_with f xs ys) ≡ length xs
 length-zip_with f [] ys same = refl
@@ -183,36 +183,3 @@ minds_turned extent p0 p1 p2 p3 answers is turned rest seated = ap minds_of (res
 
 pub calls_made : (extent : Extent) (p0 p1 p2 : List SeatView) (answers : List (Option Answer)) → p1 ≡ zip_with with_answer p0 answers → p2 ≡ map after p1 → All (IsSeated extent) p0 → map call_in p2 ≡ zip_with call_after (minds_of p0) answers
 calls_made extent p0 p1 p2 answers is turned seated = ap (map call_in) (turned ∙ ap (map after) is) ∙ calls_round extent p0 answers seated
-
--- ---- a turn without its steps
--- an actor that has begun is left with the mind of its turn, and makes its call
-pub begun_mind : (old new : Option Mind) (answer : Answer) → IsSome old → IfSome old (λ m. new ≡ Some (turn m answer).mind) → new ≡ mind_after old (Some answer)
-begun_mind None new answer some is = absurd (cc some)
-begun_mind (Some m) new answer some is = is
-
-pub begun_call : (old : Option Mind) (call : Call) (answer : Answer) → IsSome old → IfSome old (λ m. call ≡ (turn m answer).call) → Some call ≡ call_after old (Some answer)
-begun_call None call answer some is = absurd (cc some)
-begun_call (Some m) call answer some is = ap Some is
-
--- behind a turn all is at rest in the seat, and the call keeps to the limits
-pub record KeepsTurn (extent : Extent) (place : SeatView) (made : Option Call) : Type 0 where
-  pub seated : IsSeated extent place
-  pub call : IfSome made (IsCall extent)
-
-kept_by : (extent : Extent) (place : SeatView) (answer : Answer) (m : Option Mind) → ((seat : SeatView) → KeepsLimits extent seat → KeepsLimits extent (after seat)) → place.mind ≡ m → IsSeated extent place → IsAnswer extent answer →
-    KeepsTurn extent (record place { mind = option_map (λ mind. (turn mind answer).mind) m }) (option_map (λ mind. (turn mind answer).call) m)
-kept_by extent place answer None law is seated limited = record { seated = record { limited = (tt, seated.limited.1, seated.limited.2); rests = seated.rests }; call = tt }
-kept_by extent place answer (Some m) law is seated limited =
-    let before : SeatView = record { mind = Some m; inbox = answer; outbox = place.outbox; ready = true } in
-    let held : IsMind extent m = subst (λ (o : Option Mind). IfSome o (IsMind extent)) is seated.limited.0 in
-    let next : KeepsLimits extent (after before) = law before (held, limited, seated.limited.2) in
-    record { seated = record { limited = (next.0, seated.limited.1, seated.limited.2); rests = seated.rests }; call = next.2 }
-
-pub turn_kept : (extent : Extent) (place : SeatView) (answer : Option Answer) → ((seat : SeatView) → KeepsLimits extent seat → KeepsLimits extent (after seat)) → IsSeated extent place → IfSome answer (IsAnswer extent) → KeepsTurn extent (behind_turn place answer) (call_after (mind_in place) answer)
-turn_kept extent place None law seated limited = record { seated = seated; call = tt }
-turn_kept extent place (Some answer) law seated limited = kept_by extent place answer place.mind law refl seated limited
-
-pub minds_behind : (places : List SeatView) (answers : List (Option Answer)) → minds_of (zip_with behind_turn places answers) ≡ zip_with mind_after (minds_of places) answers
-minds_behind [] answers = refl
-minds_behind (place ∷ places) [] = refl
-minds_behind (place ∷ places) (answer ∷ answers) = ap (λ (l : List (Option Mind)). mind_after place.mind answer ∷ l) (minds_behind places answers)

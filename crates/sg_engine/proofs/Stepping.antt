@@ -8,7 +8,6 @@ use Rattle.sg_base.specs.declared.call.Answer.{Answer}
 use Rattle.sg_base.specs.declared.call.Answer.TheVariants.{Start}
 use Rattle.sg_base.specs.declared.call.Call.{Call}
 use Rattle.sg_base.specs.declared.call.Call.TheVariants.{Ask}
-use Rattle.sg_base.specs.Mind.{Mind}
 use Rattle.sg_actor.specs.Seats.{SeatView, after}
 use Rattle.sg_states.specs.declared.state.Actor.{Actor}
 use Rattle.sg_states.specs.declared.state.State.{State}
@@ -17,8 +16,8 @@ use Rattle.sg_states.specs.Queue.{IsQueue}
 use Rattle.sg_states.specs.Actors.{answer_in, inbox_of, is_answered, is_ready, not_suspended}
 use Rattle.sg_engine.specs.declared.actor_call.ActorCall.{ActorCall}
 use Rattle.sg_engine.specs.kept.CallList.{call_list, with_call}
-use Rattle.sg_engine.specs.Run.{zip_with, call_after}
-use Rattle.sg_engine.specs.kept.SeatRules.{mind_in, minds_of, AreQueued, behind_turn, call_in}
+use Rattle.sg_engine.specs.Run.{zip_with}
+use Rattle.sg_engine.specs.kept.SeatRules.{AreQueued, call_in}
 use Rattle.sg_engine.proofs.Listing.{calls_next, skipped_calls, all_listed}
 use Rattle.sg_engine.proofs.Merging.{merged, merged_all, skipped, was, placed, mapped_on}
 use Rattle.sg_engine.proofs.Queues.{last_id, last_at, last_before, last_next, last_within, not_true, quiet, quiet_end}
@@ -149,25 +148,6 @@ pub all_called : (places : List SeatView) (states : List Actor) (queue : List Ac
     call_list 1 (take (last_id queue k) (map call_in places)) ≡ call_list 1 (map call_in places)
 all_called places states queue k is within past ready same = row_end (map call_in places) states queue k is within past (length-map places call_in ∙ same) (none_called places states no_place ready same)
 
--- those that are made on the answers
-none_made : (minds : List (Option Mind)) (states : List Actor) → length states ≡ length minds → IdleCall states (zip_with call_after minds (map inbox_of states))
-none_made minds states same j within idle = inbox_at call_after minds states j None None same within ∙ ap (call_after (get_or minds j None)) (none_for (get_or states j (not_suspended Ended)) idle)
-
-minds_number : (places : List SeatView) (states : List Actor) → length places ≡ length states → length states ≡ length (minds_of places)
-minds_number places states same = sym (length-map places mind_in ∙ same)
-
-pub made_on : (places : List SeatView) (states : List Actor) (queue : List ActorId) (k : ℕ) (items items' : List ActorCall) (call : Option Call) → IsQueue states queue → k < length queue → length places ≡ length states → let row = zip_with call_after (minds_of places) (map inbox_of states) in
-    items ≡ call_list 1 (take (last_id queue k) row) → items' ≡ items ++ with_call (id_at queue k) call [] → call ≡ get_or row (id_at queue k - 1) None → items' ≡ call_list 1 (take (last_id queue (k + 1)) row)
-made_on places states queue k items items' call is within same before added made =
-    let minds = minds_number places states same in
-    row_next (zip_with call_after (minds_of places) (map inbox_of states)) states queue k items items' call is within (answers_number call_after (minds_of places) states minds ∙ sym minds) (none_made (minds_of places) states minds) before added made
-
-pub all_made : (places : List SeatView) (states : List Actor) (queue : List ActorId) (k : ℕ) → IsQueue states queue → k ≤ length queue → length queue ≤ k → length places ≡ length states → let row = zip_with call_after (minds_of places) (map inbox_of states) in
-    call_list 1 (take (last_id queue k) row) ≡ call_list 1 row
-all_made places states queue k is within past same =
-    let minds = minds_number places states same in
-    row_end (zip_with call_after (minds_of places) (map inbox_of states)) states queue k is within past (answers_number call_after (minds_of places) states minds ∙ sym minds) (none_made (minds_of places) states minds)
-
 -- ---- as the loops have it, where a seat is read and then written
 pub answer_next : {S : Type 0} (see : S → SeatView) (f : SeatView → Option Answer → SeatView) → ((place : SeatView) → f place None ≡ place) → (old now : List S) (states : List Actor) (queue : List ActorId) (k : ℕ) (r s : S) (answer : Option Answer) → IsQueue states queue → k < length queue → length old ≡ length states →
     map see now ≡ merged (last_id queue k) (zip_with f (map see old) (map inbox_of states)) (map see old) → answer ≡ inbox_of (get_or states (id_at queue k - 1) (not_suspended Ended)) → see s ≡ f (see (get_or now (id_at queue k - 1) r)) answer →
@@ -189,21 +169,6 @@ answers_end see f stays old now states queue k is within past number inv =
     let places = map see old in
     let long : length places ≡ length states = length-map old see ∙ number in
     inv ∙ all_stepped states queue k (zip_with f places (map inbox_of states)) places no_place is within past long (answers_number f places states (sym long)) (answers_stay f stays places states no_place (sym long))
-
--- the call that such a seat's actor makes on its answer, when its turn comes
-pub made_at : {S : Type 0} (see : S → SeatView) (old now : List S) (states : List Actor) (queue : List ActorId) (k : ℕ) (r : S) (call : Option Call) (answer : Option Answer) → IsQueue states queue → k < length queue → length old ≡ length states →
-    map see now ≡ merged (last_id queue k) (zip_with behind_turn (map see old) (map inbox_of states)) (map see old) → answer ≡ inbox_of (get_or states (id_at queue k - 1) (not_suspended Ended)) → call ≡ call_after (mind_in (see (get_or now (id_at queue k - 1) r))) answer →
-    call ≡ get_or (zip_with call_after (minds_of (map see old)) (map inbox_of states)) (id_at queue k - 1) None
-made_at see old now states queue k r call answer is within number inv has made =
-    let places = map see old in
-    let long : length places ≡ length states = length-map old see ∙ number in
-    let ids = is.ids k (record { 0 = 0 }) within in
-    let i = id_at queue k - 1 in
-    let mine : see (get_or now i r) ≡ get_or places i (see r) =
-    was_at see states queue k now (zip_with behind_turn places (map inbox_of states)) places r is within long (answers_number behind_turn places states (sym long)) (answers_stay behind_turn (λ place. refl) places states (see r) (sym long)) inv in
-    made
-    ∙ ap₂ call_after (ap mind_in mine ∙ sym (get_or-map mind_in places i (see r) None (omega (arith, ids.0, ids.1, long)))) has
-    ∙ sym (inbox_at call_after (minds_of places) states i None None (minds_number places states long) (omega (arith, ids.0, ids.1)))
 
 -- a change of each place, by which those that aren't ready stay
 pub change_next : {S : Type 0} (see : S → SeatView) (f : SeatView → SeatView) → ((place : SeatView) → place.ready ≡ false → f place ≡ place) → (old now : List S) (states : List Actor) (queue : List ActorId) (k : ℕ) (r s : S) → IsQueue states queue → k < length queue → length old ≡ length states → AreQueued (map see old) states →

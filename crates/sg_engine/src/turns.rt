@@ -1,12 +1,12 @@
 //! The turns of a round.
-ghost use Rattle.std.specs.Prelude.{◌≡◌, ◌+◌, ◌<◌, ◌≤◌, ◌++◌, [], length, map, take, drop, All, Some, vec_capacity};
+ghost use Rattle.std.specs.Prelude.{◌≡◌, ◌+◌, ◌<◌, ◌≤◌, ◌++◌, [], length, map, take, drop, All, vec_capacity};
 ghost use Rattle.std.specs.Option.{is_some};
 ghost use Rattle.sg_actor.specs.Seats.{after, CanTurn, KeepsLimits, seat_view, seat_views};
 ghost use Rattle.sg_calls.specs.World.{extent};
 ghost use Rattle.sg_engine.specs.kept.CallList.{call_list, with_call};
-ghost use Rattle.sg_engine.specs.kept.SeatRules.{at_rest, behind_turn, call_in, mind_in, with_answer, AreQueued};
+ghost use Rattle.sg_engine.specs.kept.SeatRules.{at_rest, call_in, with_answer, AreQueued};
 ghost use Rattle.sg_engine.specs.kept.Turns.{CanTakeTurns, TakesTurns};
-ghost use Rattle.sg_engine.specs.Run.{zip_with, mind_after, call_after, inboxes};
+ghost use Rattle.sg_engine.specs.Run.{zip_with, inboxes};
 
 use crate::actor_call::ActorCall;
 use sg_actor::{Actor, Seat, run_round, seats_keep_limits};
@@ -54,8 +54,8 @@ fn offer<A: Actor>(kernel: &Kernel, seats: &mut [Seat<A>])
 }
 
 // The turns of those who sit from one place to another.
-fn turn_some<R: Threads + Sync>(rt: &R, seats: &mut [Seat], from: usize, to: usize, threads: u32)
-    requires threads { 0 < threads }
+fn turn_some<R: Threads + Sync>(rt: &R, seats: &mut [Seat], from: usize, to: usize, workers: u32)
+    requires workers { 0 < workers }
     requires range { (from ≤ to) × (to ≤ length seats.old) }
     requires ready { All CanTurn (seat_views (λ b. mind b) seats.old) }
     ensures { let places = seat_views (λ b. mind b) seats.old in seat_views (λ b. mind b) seats.new
@@ -63,24 +63,53 @@ fn turn_some<R: Threads + Sync>(rt: &R, seats: &mut [Seat], from: usize, to: usi
 {
     let (_, rest) = seats.split_at_mut(from);
     let (some, _) = rest.split_at_mut(to - from);
-    run_round(rt, some, threads);
+    run_round(rt, some, workers);
 }
 
-// The turns of all who are ready: those who sit from the first in the queue to the last take them in one go.
-fn turn_all<R: Threads + Sync>(rt: &R, kernel: &Kernel, seats: &mut [Seat], threads: u32)
-    requires threads { 0 < threads }
+// Where the run of neighbours ends that begins at this place of a queue.
+fn end_of_run(queue: &[ActorId], from: usize) -> usize
+    requires { from < length queue.now }
+    ensures { (from < result) × (result ≤ length queue.now) }
+{
+    for next in from + 1..queue.len() {
+        if queue[next].0 as u64 != queue[next - 1].0 as u64 + 1 {
+            return next;
+        }
+    }
+    queue.len()
+}
+
+// How far one round of seats reaches that begins at this place of a queue.
+fn end_of_turns(queue: &[ActorId], from: usize, workers: u32) -> usize
+    requires { from < length queue.now }
+    ensures { (from < result) × (result ≤ length queue.now) }
+{
+    if workers == 1 {
+        end_of_run(queue, from)
+    } else {
+        queue.len()
+    }
+}
+
+// The turns of all who are ready. One worker is lent each run of neighbours in the queue, one run after the other, so
+// that the seats between cost nothing; more are lent all seats from the first in the queue to the last, so that turns
+// can run side by side.
+fn turn_all<R: Threads + Sync>(rt: &R, kernel: &Kernel, seats: &mut [Seat], workers: u32)
+    requires workers { 0 < workers }
     requires number { length seats.old ≡ length kernel.now.core.actors }
     requires queued { AreQueued (seat_views (λ b. mind b) seats.old) kernel.now.core.actors }
     requires can { All CanTurn (seat_views (λ b. mind b) seats.old) }
     ensures { seat_views (λ b. mind b) seats.new ≡ map after (seat_views (λ b. mind b) seats.old) }
 {
     let queue = kernel.run_queue();
-    if queue.is_empty() {
-        return;
+    let mut from = 0;
+    while from < queue.len() {
+        let to = end_of_turns(queue, from, workers);
+        let first = queue[from].0 as usize - 1;
+        let end = queue[to - 1].0 as usize;
+        turn_some(rt, seats, first, end, workers);
+        from = to;
     }
-    let first = queue[0].0 as usize - 1;
-    let end = queue[queue.len() - 1].0 as usize;
-    turn_some(rt, seats, first, end, threads);
 }
 
 // Keeps a call, where there is one.
@@ -124,80 +153,22 @@ fn collect<A: Actor>(kernel: &Kernel, seats: &mut [Seat<A>], calls: &mut Vec<Act
     }
 }
 
-// The turns of a round, side by side: answers lie in the seats, then turns are taken there, and then calls lie there.
-fn turn_side_by_side<R: Threads + Sync>(
-    rt: &R,
-    kernel: &Kernel,
-    seats: &mut [Seat],
-    calls: &mut Vec<ActorCall>,
-    threads: u32,
-)
-    requires threads { 0 < threads }
-    requires can { CanTakeTurns (λ b. mind b) kernel.now seats.old calls.old }
-    ensures { TakesTurns (λ b. mind b) kernel.now seats.old seats.new calls.old calls.new }
-{
-    seats_keep_limits();
-    offer(kernel, seats);
-    turn_all(rt, kernel, seats, threads);
-    collect(kernel, seats, calls);
-}
-
-// The turn of an actor on an answer, if it has begun: its call.
-fn turn_begun<A: Actor>(actor: &mut A, answer: Answer) -> Option<Call>
-    ensures mind { A.mind actor.new ≡ mind_after (A.mind actor.old) (Some answer) }
-    ensures call { result ≡ call_after (A.mind actor.old) (Some answer) }
-{
-    if actor.is_blank() {
-        return None;
-    }
-    Some(actor.turn(answer))
-}
-
-// The turn of a seat's actor on an answer, if there is one: its call. The seat keeps neither of them.
-fn turn_on<A: Actor>(seat: &mut Seat<A>, answer: Option<Answer>) -> Option<Call>
-    ensures seat { seat_view A.mind seat.new ≡ behind_turn (seat_view A.mind seat.old) answer }
-    ensures call { result ≡ call_after (mind_in (seat_view A.mind seat.old)) answer }
-{
-    match answer {
-        Some(answer) => match &mut seat.actor {
-            Some(actor) => turn_begun(actor, answer),
-            None => None,
-        },
-        None => None,
-    }
-}
-
-// The turns of a round, one by one: each actor is handed its answer, and its call is kept.
-fn turn_one_by_one<A: Actor>(kernel: &Kernel, seats: &mut [Seat<A>], calls: &mut Vec<ActorCall>)
-    requires { CanTakeTurns A.mind kernel.now seats.old calls.old }
-    ensures { TakesTurns A.mind kernel.now seats.old seats.new calls.old calls.new }
-{
-    seats_keep_limits();
-    calls.clear();
-    let queue = kernel.run_queue();
-    for actor in queue {
-        let answer = kernel.inbox(*actor);
-        let call = turn_on(&mut seats[actor.0 as usize - 1], answer);
-        keep(calls, *actor, call);
-    }
-}
-
 /// Each ready actor takes its turn on the answer that it has. Their calls take the place of those before, in rising
-/// id. It costs the actors in the kernel's queue, and not the others.
+/// id. The answers lie in the seats first, then turns are taken there, and then the calls are collected. It costs the
+/// actors in the kernel's queue, and with one worker not the others.
 pub fn take_turns<R: Threads + Sync>(
     rt: &R,
     kernel: &Kernel,
     seats: &mut [Seat],
     calls: &mut Vec<ActorCall>,
-    threads: u32,
+    workers: u32,
 )
-    requires threads { 0 < threads }
+    requires workers { 0 < workers }
     requires can { CanTakeTurns (λ b. mind b) kernel.now seats.old calls.old }
     ensures { TakesTurns (λ b. mind b) kernel.now seats.old seats.new calls.old calls.new }
 {
-    if threads == 1 || kernel.run_queue().len() == 1 {
-        turn_one_by_one(kernel, seats, calls);
-    } else {
-        turn_side_by_side(rt, kernel, seats, calls, threads);
-    }
+    seats_keep_limits();
+    offer(kernel, seats);
+    turn_all(rt, kernel, seats, workers);
+    collect(kernel, seats, calls);
 }

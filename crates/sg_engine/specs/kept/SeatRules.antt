@@ -8,7 +8,6 @@ use Rattle.sg_base.specs.Mind.{Mind}
 use Rattle.sg_actor.specs.Seats.{SeatView, KeepsLimits}
 use Rattle.sg_states.specs.Actors.{is_ready, not_suspended}
 use Rattle.sg_states.specs.declared.state.State.TheVariants.{Ended}
-use Rattle.sg_engine.specs.Run.{mind_after}
 use Rattle.sg_states.specs.declared.state.Actor.{Actor}
 
 -- what the actor of a place has in mind
@@ -39,7 +38,3 @@ call_in place = if place.ready then Some place.outbox else None
 -- the place behind the round
 abbrev pub at_rest : SeatView → SeatView
 at_rest place = record place { ready = false }
-
--- the place behind the turn of its actor on an answer, if there is one, where it keeps neither the answer nor the call
-abbrev pub behind_turn : SeatView → Option Answer → SeatView
-behind_turn place answer = record place { mind = mind_after place.mind answer }

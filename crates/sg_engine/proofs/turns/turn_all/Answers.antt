@@ -1,23 +1,27 @@
-use Rattle.std.proofs.Common.{◌≡◌, ◌<◌, arith, length, refl}
-use Rattle.std.proofs.lemmas.Bool.Decides.{nat_tests}
-use Rattle.sg_actor.specs.Seats.{after}
+use Rattle.std.proofs.Common.{arith, refl, subst, sym}
+use Rattle.std.specs.Prelude.{All}
+use Rattle.sg_actor.specs.Seats.{after, CanTurn}
+use Rattle.sg_engine.proofs.Merging.{all_merged}
 use Rattle.sg_engine.proofs.Queues.{last_id}
-use Rattle.sg_engine.proofs.SeatSteps.{idle_stays}
+use Rattle.sg_engine.proofs.SeatSteps.{all_after_can, idle_stays}
 use Rattle.sg_engine.proofs.Stepping.{changes_end, turns_next}
 use Rattle.sg_engine.proofs.turns.turn_all.Goals as goal
 
-pub returns-then-is_empty : goal.returns-then-is_empty
+pub loop-from-init : goal.loop-from-init
 unfolding last_id
-returns-then-is_empty g c =
-    let queue = c.run_queue-queue.result.now in
-    let none : length queue ≡ 0 = grind (arith, nat_tests, c.is_empty.ensures, c.if-is_empty.true) in
-    changes_end _ after idle_stays c.args.seats.now c.args.seats.now c.args.kernel.now.core.actors queue 0 c.run_queue-queue.ensures (omega arith) (omega (arith, none)) c.requires.number c.requires.queued refl
+loop-from-init g c = record { turned = refl; within = omega arith }
+
+pub turn_some-requires-clause-ready : goal.turn_some-requires-clause-ready
+turn_some-requires-clause-ready g c κs within =
+    subst (All CanTurn) (sym c.loop-from.invariant.turned) (all_merged CanTurn _ _ _ (all_after_can _ c.requires.can) c.requires.can)
+
+pub loop-from-preserved : goal.loop-from-preserved
+loop-from-preserved g c = record {
+  turned = turns_next _ c.args.seats.now c.loop-from.seats c.turn_some.new.seats c.args.kernel.now.core.actors c.run_queue-queue.result.now c.loop-from.from c.end_of_turns-to.result c.run_queue-queue.ensures c.end_of_turns-to.ensures.0 c.end_of_turns-to.ensures.1 c.requires.number c.requires.queued
+      c.loop-from.invariant.turned c.turn_some.ensures;
+  within = c.end_of_turns-to.ensures.1;
+}
 
 pub returns : goal.returns
-unfolding last_id
 returns g c =
-    let queue = c.run_queue-queue.result.now in
-    let states = c.args.kernel.now.core.actors in
-    let some : 0 < length queue = grind (arith, nat_tests, c.is_empty.ensures, c.if-is_empty.false) in
-    changes_end _ after idle_stays c.args.seats.now c.turn_some.new.seats states queue (length queue) c.run_queue-queue.ensures (omega arith) (omega arith) c.requires.number c.requires.queued
-    (turns_next _ c.args.seats.now c.args.seats.now c.turn_some.new.seats states queue 0 (length queue) c.run_queue-queue.ensures some (omega arith) c.requires.number c.requires.queued refl c.turn_some.ensures)
+    changes_end _ after idle_stays c.args.seats.now c.loop-from.seats c.args.kernel.now.core.actors c.run_queue-queue.result.now c.loop-from.from c.run_queue-queue.ensures c.loop-from.invariant.within c.loop-from-test.false c.requires.number c.requires.queued c.loop-from.invariant.turned

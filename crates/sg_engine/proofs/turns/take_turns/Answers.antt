@@ -7,7 +7,7 @@ use Rattle.sg_engine.specs.declared.actor_call.ActorCall.{ActorCall}
 use Rattle.sg_engine.specs.kept.CallList.{call_list}
 use Rattle.sg_engine.proofs.Listing.{calls_limited}
 use Rattle.sg_engine.proofs.SeatSteps.{calls_made, can_offered, limited_turned, minds_turned, queued_offered, queued_turned, seated_again}
-use Rattle.sg_engine.proofs.turns.turn_side_by_side.Goals as goal
+use Rattle.sg_engine.proofs.turns.take_turns.Goals as goal
 
 pub offer-requires-clause-limited : goal.offer-requires-clause-limited
 offer-requires-clause-limited g c = λ k d within. (c.requires.can.seated k d within).limited
