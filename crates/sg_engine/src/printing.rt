@@ -18,7 +18,7 @@ use sg_base::{ActorId, PointId, Record};
 use sg_edge::{Failed, Sinks};
 use sg_kernel::Kernel;
 use sg_rows::HostRow;
-use sg_trace::{Last, ending_line, line};
+use sg_trace::{Last, ending_lines, line};
 
 // Puts the trace line of a record into the buffer.
 fn put_record<O: Sinks>(
@@ -88,7 +88,7 @@ pub fn put_last<O: Sinks>(
     ensures { Puts (buffer.old ++ ending_in plan.now last) buffer.new result
         (O.contents out.old) (O.contents out.new) (O.faults out.old) (O.faults out.new) }
 {
-    let text = ending_line(&last, plan.platform, plan.deployment);
+    let text = ending_lines(&last, plan.platform, plan.deployment);
     buffer.put(text.as_bytes(), out)
 }
 

@@ -106,7 +106,7 @@ fn push_last(line: &mut Line, last: Last, platform: &PlatformText, deployment: &
 }
 
 /// A line that tells how the run ended, with its newline. It takes no memory.
-pub fn ending_line(last: &Last, platform: &PlatformText, deployment: &Deployment) -> Line
+pub fn ending_lines(last: &Last, platform: &PlatformText, deployment: &Deployment) -> Line
     requires last { IsLastOf platform.now deployment.now last.now }
     requires deployed { IsDeployedOn platform.now deployment.now }
     ensures { result.bytes ≡ ending_of last.now platform.now deployment.now }
