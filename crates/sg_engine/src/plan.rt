@@ -6,13 +6,13 @@ use crate::show::Show;
 use sg_rows::{Deployment, PlatformText};
 use std::alloc::Global;
 
-/// How a run is made: on up to so many threads at once, with so many events at most, and how much is written.
+/// How a run is made: by up to so many workers at once, with so many events at most, and how much is written.
 #[derive(Clone, Copy)]
 pub struct Terms {
-    pub threads: u32,
+    pub workers: u32,
     pub budget: u64,
     pub show: Show,
-    ghost some: { 0 < threads },
+    ghost some: { 0 < workers },
     ghost few: { budget ≤ 1000000000 },
 }
 

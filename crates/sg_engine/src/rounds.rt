@@ -30,9 +30,9 @@ fn round<R: Threads + Sync, F: Files>(
     ensures goes { GoesOn (λ b. mind b) engine.now.plan F.shows result files.old files.new
         router.old router.new sim.old sim.new }
 {
-    let threads = engine.plan.terms.threads;
+    let workers = engine.plan.terms.workers;
     let seats = sim.seats.as_mut_slice();
-    take_turns(engine.rt, &sim.kernel, seats, &mut sim.calls, threads);
+    take_turns(engine.rt, &sim.kernel, seats, &mut sim.calls, workers);
     answer_calls(&engine.plan, router, sim, files)
 }
 

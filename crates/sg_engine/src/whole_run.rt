@@ -145,7 +145,7 @@ fn run_plan<R: Threads + Sync, F: Files, O: Sinks, L: Ledger>(
 /// Runs the actors of a setup to the end of the run, and writes its lines.
 ///
 /// Each actor that starts takes a context of the crew, the first one the first, and each that is created the next; the
-/// crew has those that aren't taken afterwards. Each round takes its turns on up to so many threads at once; how many
+/// crew has those that aren't taken afterwards. Each round takes its turns by up to so many workers at once; how many
 /// can't be seen in anything that is written. The script is read while the run goes on, and only as far as an actor asks
 /// for its lines. `budget` is the most events that there may be, and `steps` counts the looks at uses of hosts and
 /// links. What the setup stands for stays as it was.
@@ -160,14 +160,14 @@ pub fn run<R: Threads + Sync, F: Files, O: Sinks, L: Ledger>(
     setup: &mut Setup,
     files: &mut F,
     crew: &mut Vec<Box<dyn Actor + Send>>,
-    threads: u32,
+    workers: u32,
     budget: u64,
     show: Show,
     out: &mut O,
     steps: &mut Steps<L>,
 ) -> Ended
     requires budget { budget ≤ 1000000000 }
-    requires threads { 0 < threads }
+    requires workers { 0 < workers }
     requires begun { IsTrue setup.old.script → (F.shows files.old Part.Script).stage ≢ Fresh }
     requires crew { HasContexts (λ b. mind b) crew.old.items setup.old.deployment }
     ensures output { ForSources setup.old.script (F.shows files.old) (F.shows files.new)
@@ -185,7 +185,7 @@ pub fn run<R: Threads + Sync, F: Files, O: Sinks, L: Ledger>(
         deployment: &setup.deployment,
         script: setup.script,
         terms: Terms {
-            threads,
+            workers,
             budget,
             show,
         },

@@ -34,12 +34,12 @@ fn show(job: &Job) -> Show
 
 // The terms of a job's run.
 fn terms_for(job: &Job) -> Terms
-    ensures threads { result.threads ≡ job.now.workers }
+    ensures workers { result.workers ≡ job.now.workers }
     ensures budget { result.budget ≡ job.now.budget }
     ensures show { result.show ≡ show_of (request_of job.now) job.now.quiet }
 {
     Terms {
-        threads: job.workers,
+        workers: job.workers,
         budget: job.budget,
         show: show(job),
     }
@@ -107,7 +107,7 @@ pub fn run_job<R: Threads + Sync, F: Files, O: Sinks, L: Ledger>(
         &mut setup,
         files,
         crew,
-        terms.threads,
+        terms.workers,
         terms.budget,
         terms.show,
         out,
