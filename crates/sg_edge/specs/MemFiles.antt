@@ -1,5 +1,5 @@
 -- What parts in memory show, and when their calls fail.
-use Rattle.std.specs.Prelude.{◌≡◌, ◌≢◌, ◌+◌, ◌==◌, ◌&&◌, ℕ, Bool, not, List, [], length, min, Option, None, unwrap_or, is_some, codes, bytes_eq, string_bytes}
+use Rattle.std.specs.Prelude.{◌≡◌, ◌≢◌, ◌+◌, ◌==◌, ◌&&◌, ℕ, Bool, not, List, [], length, min, Option, None, Some, unwrap_or, is_some}
 use Rattle.std.specs.List.{list_any}
 use Rattle.sg_edge.specs.declared.files.Part.{Part}
 use Rattle.sg_edge.specs.declared.files.Part.TheVariants.{Platform, Deployment, Script}
@@ -7,7 +7,7 @@ use Rattle.sg_edge.specs.declared.files.Stage.TheVariants.{Fresh, Over}
 use Rattle.sg_edge.specs.declared.mem_part.MemPart.{MemPart}
 use Rattle.sg_edge.specs.declared.mem_files.MemFiles.{MemFiles}
 use Rattle.sg_edge.specs.Files.{PartView, NoneLeft, fresh_view}
-use Rattle.sg_edge.specs.kept.Parts.{part_view, part_left, greatest_count, part_over, part_unnamed}
+use Rattle.sg_edge.specs.kept.Parts.{part_name, part_view, part_left, takes_name, greatest_count, part_over, part_unnamed}
 
 abbrev pub mem_part : MemFiles → Part → MemPart
 mem_part m Platform = m.platform
@@ -25,15 +25,9 @@ mem_left m part = part_left (mem_part m part)
 abbrev pub is_there : MemFiles → Part → Bool
 is_there m part = (mem_part m part).there
 
--- the only name under which a part can be begun
-abbrev pub name_of : MemFiles → Part → List ℕ
-name_of m part = string_bytes (mem_part m part).name
-
--- that name where nobody has given it another
-abbrev pub first_name : Part → List ℕ
-first_name Platform = codes "p"
-first_name Deployment = codes "d"
-first_name Script = codes "s"
+-- the only name under which a part can be begun, if it was given one
+abbrev pub name_of : MemFiles → Part → Option (List ℕ)
+name_of m part = part_name (mem_part m part)
 
 -- the greatest count that one read of a part gives
 abbrev pub piece_of : MemFiles → Part → ℕ
@@ -55,17 +49,17 @@ failing_of m = m.failing.items
 abbrev pub call_fails : MemFiles → Bool
 call_fails m = list_any (λ n. n == calls_of m + 1) (failing_of m)
 
--- a part can be begun under this name: it is there, that is its name, and the call is none of those
--- that are to fail
+-- a part can be begun under this name: it is there, that is its name or it has none, and the call
+-- is none of those that are to fail
 abbrev pub can_begin : MemFiles → Part → List ℕ → Bool
-can_begin m part name = is_there m part && (bytes_eq (name_of m part) name && not (call_fails m))
+can_begin m part name = is_there m part && (takes_name (name_of m part) name && not (call_fails m))
 
--- the part holds these bytes, or none, under its first name, a read gives as many as there are, and
+-- the part holds these bytes, or none, and has no name, a read gives as many as there are, and
 -- nothing was done to it
 pub record StartsAs (part : Part) (bytes : Option (List ℕ)) (m : MemFiles) : Type 0 where
   pub shows : mem_view m part ≡ fresh_view (unwrap_or bytes [])
   pub there : is_there m part ≡ is_some bytes
-  pub name : name_of m part ≡ first_name part
+  pub unnamed : name_of m part ≡ None
   pub piece : piece_of m part ≡ greatest_count
 
 -- one call more was made, and all that decides which calls fail, and how much they give, stays
@@ -85,7 +79,7 @@ pub record MakesNoCall (old new : MemFiles) : Type 0 where
 
 -- the part has this name now, and all else stays
 pub record Renames (part : Part) (name : List ℕ) (old new : MemFiles) : Type 0 where
-  pub name_is : name_of new part ≡ name
+  pub name_is : name_of new part ≡ Some name
   pub others : (q : Part) → q ≢ part → name_of new q ≡ name_of old q
   pub pieces : (q : Part) → piece_of new q ≡ piece_of old q
   pub rest : MakesNoCall old new

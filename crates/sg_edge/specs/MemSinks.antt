@@ -33,15 +33,14 @@ writes_of m = m.calls
 abbrev pub failing_of : MemSinks → List ℕ
 failing_of m = m.failing.items
 
--- none is counted behind one that failed
+-- no write follows one that failed
 abbrev pub mem_faults : MemSinks → ℕ
 mem_faults m = one_if m.broken
 
--- a write has failed, the next one is among those that are to fail, or its stream is full
+-- the next write is among those that are to fail, or its stream is full
 abbrev pub write_fails : MemSinks → Stream → Bool
 write_fails m to =
-    m.broken || (list_any (λ n. n == writes_of m + 1) (failing_of m)
-    || (room_of m to == length (mem_text m to)))
+    list_any (λ n. n == writes_of m + 1) (failing_of m) || (room_of m to == length (mem_text m to))
 
 -- how many bytes of a piece of so many a write takes that doesn't fail
 abbrev pub most_taken : MemSinks → Stream → ℕ → ℕ

@@ -21,7 +21,7 @@ pub record IsWritten (text rest : List ℕ) (old new : Option (List ℕ)) : Type
 abbrev pub GainsFront : List ℕ → Option (List ℕ) → Option (List ℕ) → Type 0
 GainsFront text old new = (rest : List ℕ) × IsWritten text rest old new
 
--- a count of the writes that have failed, by whether one has
+-- how many writes have failed where one has or none, since no write follows one that failed
 abbrev pub one_if : Bool → ℕ
 one_if false = 0
 one_if true = 1

@@ -1,5 +1,5 @@
 //! Three parts in memory, whose calls fail where they are told to.
-ghost use Rattle.std.specs.Prelude.{◌≡◌, ◌+◌, ◌<◌, ◌≤◌, length, take, not, is_ok, bytes_eq, IfOk, OnOk, OnErr};
+ghost use Rattle.std.specs.Prelude.{◌≡◌, ◌+◌, ◌<◌, ◌≤◌, length, take, not, is_ok, IfOk, OnOk, OnErr};
 ghost use Rattle.std.specs.Option.{option_copied};
 ghost use Rattle.sg_edge.specs.declared.files.Stage.TheVariants.{Fresh, Begun};
 ghost use Rattle.sg_edge.specs.Files.{Begins, Breaks, Takes, Only};
@@ -13,9 +13,10 @@ use std::alloc::Global;
 
 /// Three parts in memory, some of them maybe not there, whose calls fail where they are told to.
 ///
-/// A call fails exactly where its number is among those to fail, or it begins a part that isn't there, or under
-/// another name than its own. The names are `p`, `d` and `s` at first. Calls of `begin` and `read` are counted
-/// together from 1. A read gives as many bytes as there are, the buffer holds, and one read of that part gives.
+/// A call fails exactly where its number is among those to fail, or it begins a part that isn't there. Calls of `begin`
+/// and `read` are counted together from 1. Parts have no names at first: each can be begun under any, and doesn't tell
+/// which. One that `rename` gave a name can be begun under that alone, and tells it. A read gives as many bytes as there
+/// are, the buffer holds, and one read of that part gives.
 #[derive(Drop)]
 pub struct MemFiles {
     platform: MemPart,
@@ -28,7 +29,7 @@ pub struct MemFiles {
 }
 
 impl MemFiles {
-    ghost use Rattle.sg_edge.specs.MemFiles.{calls_of, failing_of, mem_left, mem_view, name_of, Renames, SetsPiece, StartsAs};
+    ghost use Rattle.sg_edge.specs.MemFiles.{calls_of, failing_of, mem_left, mem_view, Renames, SetsPiece, StartsAs};
 
     /// Parts with these bytes, or none, and the numbers of the calls that are to fail.
     pub fn new(
@@ -46,21 +47,21 @@ impl MemFiles {
         ensures calls { IfOk result (λ m. calls_of m ≡ 0) }
     {
         Ok(MemFiles {
-            platform: MemPart::new(alloc, platform, "p")?,
-            deployment: MemPart::new(alloc, deployment, "d")?,
-            script: MemPart::new(alloc, script, "s")?,
+            platform: MemPart::new(alloc, platform)?,
+            deployment: MemPart::new(alloc, deployment)?,
+            script: MemPart::new(alloc, script)?,
             failing: Vec::from_slice(alloc, failing)?,
             calls: 0,
         })
     }
 
-    /// Gives a part that isn't begun another name. After `Memory` it has its old one.
+    /// Gives a part that isn't begun a name, under which alone it can be begun. After `Memory` it has its old one, or none.
     pub fn rename(&mut self, alloc: Global, part: Part, name: &str) -> Result<(), Memory>
         requires { (mem_view self.old part).stage ≡ Fresh }
         ensures renamed { OnOk result (Renames part name.now self.old self.new) }
         ensures memory { OnErr result (self.new ≡ self.old) }
     {
-        let name = String::from_str(alloc, name)?;
+        let name = Some(String::from_str(alloc, name)?);
         match part {
             Part::Platform => self.platform.name = name,
             Part::Deployment => self.deployment.name = name,
@@ -78,16 +79,6 @@ impl MemFiles {
             Part::Platform => self.platform.piece = n,
             Part::Deployment => self.deployment.piece = n,
             Part::Script => self.script.piece = n,
-        }
-    }
-
-    fn is_named(&self, part: Part, name: &str) -> bool
-        ensures { result ≡ bytes_eq (name_of self.now part) name.now }
-    {
-        match part {
-            Part::Platform => self.platform.name.as_str() == name,
-            Part::Deployment => self.deployment.name.as_str() == name,
-            Part::Script => self.script.name.as_str() == name,
         }
     }
 
@@ -122,12 +113,12 @@ impl Files for MemFiles {
         ensures counted { CountsCall self.old self.new }
     {
         let call = self.calls + 1;
-        let fails = is_among(&self.failing, call) || !self.is_named(part, name);
+        let fails = is_among(&self.failing, call);
         self.calls = call;
         match part {
-            Part::Platform => self.platform.begin(fails),
-            Part::Deployment => self.deployment.begin(fails),
-            Part::Script => self.script.begin(fails),
+            Part::Platform => self.platform.begin(fails, name),
+            Part::Deployment => self.deployment.begin(fails, name),
+            Part::Script => self.script.begin(fails, name),
         }
     }
 

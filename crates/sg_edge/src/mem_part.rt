@@ -1,5 +1,5 @@
 //! One part in memory.
-ghost use Rattle.std.specs.Prelude.{◌≡◌, ◌+◌, ◌<◌, ◌≤◌, ◌&&◌, length, take, not, is_ok, false, IfOk, OnOk, OnErr, string_bytes};
+ghost use Rattle.std.specs.Prelude.{◌≡◌, ◌+◌, ◌<◌, ◌≤◌, ◌&&◌, length, take, not, is_ok, false, IfOk, OnOk, OnErr};
 ghost use Rattle.std.specs.Option.{option_copied};
 ghost use Rattle.sg_edge.specs.declared.files.Stage.TheVariants.{Fresh, Begun, Over};
 ghost use Rattle.sg_edge.specs.Files.{Begins, Breaks, Takes};
@@ -8,12 +8,12 @@ use crate::files::{Failed, Stage};
 use sg_base::Memory;
 use std::alloc::Global;
 
-/// The bytes of a part and its name, whether there is such a part at all, the most bytes that one read takes, how
-/// many were taken, and whether it was begun.
+/// The bytes of a part and its name, if it was given one, whether there is such a part at all, the most bytes that one
+/// read takes, how many were taken, and whether it was begun.
 #[derive(Drop)]
 pub struct MemPart {
     pub bytes: Vec<u8>,
-    pub name: String,
+    pub name: Option<String>,
     pub there: bool,
     pub piece: usize,
     pub begun: bool,
@@ -26,10 +26,10 @@ pub struct MemPart {
 }
 
 impl MemPart {
-    ghost use Rattle.sg_edge.specs.kept.Parts.{part_read, part_steps, part_view, IsFreshPart, KeepsPart};
+    ghost use Rattle.sg_edge.specs.kept.Parts.{part_name, part_read, part_steps, part_view, takes_name, IsFreshPart, KeepsPart};
 
-    pub fn new(alloc: Global, bytes: Option<&[u8]>, name: &str) -> Result<MemPart, Memory>
-        ensures { IfOk result (IsFreshPart (option_copied bytes.entry) name.now) }
+    pub fn new(alloc: Global, bytes: Option<&[u8]>) -> Result<MemPart, Memory>
+        ensures { IfOk result (IsFreshPart (option_copied bytes.entry)) }
     {
         let (there, items) = match bytes {
             Some(bytes) => (true, Vec::from_slice(alloc, bytes)?),
@@ -37,7 +37,7 @@ impl MemPart {
         };
         Ok(MemPart {
             bytes: items,
-            name: String::from_str(alloc, name)?,
+            name: None,
             there,
             piece: usize::MAX,
             begun: false,
@@ -46,16 +46,26 @@ impl MemPart {
         })
     }
 
-    pub fn begin(&mut self, fails: bool) -> Result<(), Failed>
+    fn takes_name(&self, name: &str) -> bool
+        ensures { result ≡ takes_name (part_name self.now) name.now }
+    {
+        match &self.name {
+            Some(own) => own.as_str() == name,
+            None => true,
+        }
+    }
+
+    pub fn begin(&mut self, fails: bool, name: &str) -> Result<(), Failed>
         requires { self.old.stage ≡ Fresh }
         ensures begun { OnOk result
-            (Begins (string_bytes self.old.name) (part_view self.old) (part_view self.new)) }
+            (Begins name.now (part_view self.old) (part_view self.new)) }
         ensures failed { OnErr result (Breaks (part_view self.old) (part_view self.new)) }
-        ensures exact { is_ok result ≡ (self.old.there && not fails) }
+        ensures exact { is_ok result
+            ≡ (self.old.there && (takes_name (part_name self.old) name.now && not fails)) }
         ensures rest { KeepsPart self.old self.new }
         ensures steps { part_steps self.old + 1 ≤ part_steps self.new }
     {
-        if fails || !self.there {
+        if fails || !self.there || !self.takes_name(name) {
             self.stage = Stage::Broken;
             return Err(Failed);
         }

@@ -11,9 +11,9 @@ use std::alloc::Global;
 
 /// Two streams in memory.
 ///
-/// A write fails exactly where its number is among those to fail, its stream's room is full, or one before it has failed.
-/// Writes to both streams are counted together from 1, and none behind one that failed. A write takes as many bytes as
-/// the piece has, one write may take, and the room holds.
+/// A write fails exactly where its number is among those to fail, or its stream's room is full. Writes to both
+/// streams are counted together from 1. A write takes as many bytes as the piece has, one write may take, and the
+/// room holds.
 #[derive(Drop)]
 pub struct MemSinks {
     out: MemStream,
@@ -72,20 +72,18 @@ impl Sinks for MemSinks {
 
     fn write(&mut self, to: Stream, piece: &[u8]) -> Result<usize, Failed>
         requires some { 0 < length piece.now }
+        requires sound { mem_faults self.old ≡ 0 }
         ensures count { IfOk result (λ n. (0 < n) × (n ≤ length piece.now)) }
         ensures most { IfOk result (λ n. n ≡ most_taken self.old to (length piece.now)) }
         ensures wrote { IfOk result
             (λ n. mem_contents self.new to ≡ gain (mem_contents self.old to) (take n piece.now)) }
         ensures sound { OnOk result (mem_faults self.new ≡ mem_faults self.old) }
         ensures nothing { OnErr result (mem_contents self.new to ≡ mem_contents self.old to) }
-        ensures failed { OnErr result (0 < mem_faults self.new) }
+        ensures failed { OnErr result (mem_faults self.old < mem_faults self.new) }
         ensures other { SameBut to (mem_contents self.old) (mem_contents self.new) }
         ensures exact { is_ok result ≡ not (write_fails self.old to) }
-        ensures counted { mem_faults self.old ≡ 0 → CountsWrite self.old self.new }
+        ensures counted { CountsWrite self.old self.new }
     {
-        if self.broken {
-            return Err(Failed);
-        }
         let call = self.calls + 1;
         let fails = is_among(&self.failing, call);
         if fails {

@@ -15,8 +15,8 @@ pub enum Stream {
 /// Where the two streams are written to.
 ///
 /// An implementation shows contracts what each stream holds, or `None` where nobody can know, and how many writes
-/// have failed, on either stream. A write that answers `Failed` leaves a count that isn't 0, and any other leaves it as
-/// it was, so that a truth value serves an implementation as its count.
+/// have failed, on either stream. The count rises exactly in a write that answers `Failed`. Since no write follows
+/// one that failed, a truth value serves an implementation as its count.
 pub trait Sinks {
     /// What each stream holds, where that is told.
     ghost contents: { Self → Stream → Option (List ℕ) };
@@ -29,24 +29,26 @@ pub trait Sinks {
     /// A device that takes nothing fails. A write that fails appends nothing. The other stream stays as it is.
     fn write(&mut self, to: Stream, piece: &[u8]) -> Result<usize, Failed>
         requires some { 0 < length piece.now }
+        requires sound { faults self.old ≡ 0 }
         ensures count { IfOk result (λ n. (0 < n) × (n ≤ length piece.now)) }
         ensures wrote { IfOk result
             (λ n. contents self.new to ≡ gain (contents self.old to) (take n piece.now)) }
         ensures sound { OnOk result (faults self.new ≡ faults self.old) }
         ensures nothing { OnErr result (contents self.new to ≡ contents self.old to) }
-        ensures failed { OnErr result (0 < faults self.new) }
+        ensures failed { OnErr result (faults self.old < faults self.new) }
         ensures other { SameBut to (contents self.old) (contents self.new) };
 }
 
 /// Appends the whole text, piece by piece.
 ///
-/// After a failure the stream has gained a front of the text, maybe an empty one, and the count isn't 0.
+/// After a failure the stream has gained a front of the text, maybe an empty one, and the count has risen.
 pub fn write_all<O: Sinks>(out: &mut O, to: Stream, text: &[u8]) -> Result<(), Failed>
+    requires { O.faults out.old ≡ 0 }
     ensures wrote { OnOk result (O.contents out.new to ≡ gain (O.contents out.old to) text.now) }
     ensures sound { OnOk result (O.faults out.new ≡ O.faults out.old) }
     ensures front { OnErr result
         (GainsFront text.now (O.contents out.old to) (O.contents out.new to)) }
-    ensures failed { OnErr result (0 < O.faults out.new) }
+    ensures failed { OnErr result (O.faults out.old < O.faults out.new) }
     ensures other { SameBut to (O.contents out.old) (O.contents out.new) }
 {
     let mut rest = text;

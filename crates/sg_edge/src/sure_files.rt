@@ -40,9 +40,9 @@ impl SureFiles {
             (λ m. sure_view m Part.Script ≡ fresh_view script.now) }
     {
         Ok(SureFiles {
-            platform: MemPart::new(alloc, Some(platform), "p")?,
-            deployment: MemPart::new(alloc, Some(deployment), "d")?,
-            script: MemPart::new(alloc, Some(script), "s")?,
+            platform: MemPart::new(alloc, Some(platform))?,
+            deployment: MemPart::new(alloc, Some(deployment))?,
+            script: MemPart::new(alloc, Some(script))?,
         })
     }
 }
@@ -65,9 +65,9 @@ impl Files for SureFiles {
         ensures sure { IsOk result }
     {
         match part {
-            Part::Platform => self.platform.begin(false),
-            Part::Deployment => self.deployment.begin(false),
-            Part::Script => self.script.begin(false),
+            Part::Platform => self.platform.begin(false, name),
+            Part::Deployment => self.deployment.begin(false, name),
+            Part::Script => self.script.begin(false, name),
         }
     }
 

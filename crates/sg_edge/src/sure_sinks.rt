@@ -24,12 +24,13 @@ impl Sinks for SureSinks {
 
     fn write(&mut self, to: Stream, piece: &[u8]) -> Result<usize, Failed>
         requires some { 0 < length piece.now }
+        requires sound { sure_faults self.old ≡ 0 }
         ensures count { IfOk result (λ n. (0 < n) × (n ≤ length piece.now)) }
         ensures wrote { IfOk result
             (λ n. sure_contents self.new to ≡ gain (sure_contents self.old to) (take n piece.now)) }
         ensures sound { OnOk result (sure_faults self.new ≡ sure_faults self.old) }
         ensures nothing { OnErr result (sure_contents self.new to ≡ sure_contents self.old to) }
-        ensures failed { OnErr result (0 < sure_faults self.new) }
+        ensures failed { OnErr result (sure_faults self.old < sure_faults self.new) }
         ensures other { SameBut to (sure_contents self.old) (sure_contents self.new) }
         ensures sure { result ≡ Ok (length piece.now) }
     {

@@ -1,5 +1,6 @@
 -- What a part in memory shows by its fields, and what of them its calls leave.
-use Rattle.std.specs.Prelude.{◌≡◌, ◌+◌, ◌^◌, ◌-◌, ℕ, List, [], drop, length, min, Option, Some, None, unwrap_or, is_some, true, if◌then◌else◌, string_bytes}
+use Rattle.std.specs.Prelude.{◌≡◌, ◌+◌, ◌^◌, ◌-◌, ℕ, List, [], drop, length, min, Option, Some, None, option_map, unwrap_or, is_some, Bool, true, bytes_eq, if◌then◌else◌, string_bytes}
+use Rattle.std.specs.Option.{option_map_or}
 use Rattle.std.proofs.Common.{arith, refl}
 use Rattle.std.proofs.lemmas.List.{drop_all}
 use Rattle.sg_edge.specs.declared.files.Stage.{Stage}
@@ -19,9 +20,17 @@ stage_steps Broken = 2
 abbrev pub part_steps : MemPart → ℕ
 part_steps p = p.taken + stage_steps p.stage
 
--- the name of a part that was begun, since it is begun under no other
+-- the name of a part that was given one
+abbrev pub part_name : MemPart → Option (List ℕ)
+part_name p = option_map (λ name. string_bytes name) p.name
+
+-- the part can be begun under this name: under any, where it has none of its own
+abbrev pub takes_name : Option (List ℕ) → List ℕ → Bool
+takes_name own name = option_map_or (λ held. bytes_eq held name) own true
+
+-- the name of a part that was begun, since it is begun under no other, if it has one
 abbrev pub name_begun : MemPart → Option (List ℕ)
-name_begun p = if p.begun then Some (string_bytes p.name) else None
+name_begun p = if p.begun then part_name p else None
 
 -- the bytes that were not taken
 abbrev pub part_left : MemPart → List ℕ
@@ -43,12 +52,12 @@ part_read p room = min (min room p.piece) (length (part_left p))
 abbrev pub greatest_count : ℕ
 greatest_count = 2 ^ 64 - 1
 
--- the part has these bytes, or there is none, a read gives as many as there are, and nothing was
--- done to it
-pub record IsFreshPart (bytes : Option (List ℕ)) (name : List ℕ) (p : MemPart) : Type 0 where
+-- the part has these bytes, or there is none, and no name, a read gives as many as there are, and
+-- nothing was done to it
+pub record IsFreshPart (bytes : Option (List ℕ)) (p : MemPart) : Type 0 where
   pub bytes_are : p.bytes.items ≡ unwrap_or bytes []
   pub there : p.there ≡ is_some bytes
-  pub name_is : string_bytes p.name ≡ name
+  pub unnamed : p.name ≡ None
   pub piece_is : p.piece ≡ greatest_count
   pub taken : p.taken ≡ 0
   pub stage : p.stage ≡ Fresh
@@ -59,9 +68,10 @@ pub record KeepsPart (old new : MemPart) : Type 0 where
   pub name_is : new.name ≡ old.name
   pub piece_is : new.piece ≡ old.piece
 
--- the part is there, and a read gives as many bytes as there are
+-- the part is there under any name, and a read gives as many bytes as there are
 pub record IsSurePart (p : MemPart) : Type 0 where
   pub there : p.there ≡ true
+  pub unnamed : p.name ≡ None
   pub piece_is : p.piece ≡ greatest_count
 
 -- of a part that is over nothing is left
