@@ -27,10 +27,9 @@ use Rattle.sg_engine.specs.Output.{first_of, trace_of, last_lines, fault_line, w
 use Rattle.sg_engine.specs.kept.Moments.{AreNeededBy, script_part}
 use Rattle.sg_engine.specs.Run.{Answering, Progress, run_of}
 use Rattle.sg_engine.specs.kept.Stretches.{CutsOff, IsOver}
-use Rattle.sg_engine.specs.kept.Writing.{Pending, pending}
 use Rattle.sg_engine.proofs.Asked.{only_actors}
 use Rattle.sg_engine.proofs.Runs.{contexts_fall, run_keeps}
-use Rattle.sg_engine.proofs.Fronts.{front_more, fronts_out, fronts_behind, all_behind}
+use Rattle.sg_engine.proofs.Fronts.{front_more, fronts_out, fronts_behind, all_behind, written_whole}
 
 -- the source that a run's part gives goes on from what was read
 abbrev pub Going : PartView → PartView → Source → Type 0
@@ -42,18 +41,18 @@ ends_by : (b : Bool) (front waiting out err : List ℕ) (how result : Ended) (ol
 ends_by true front waiting out err how result old mid new wrote same ends = fronts_behind front waiting out err old mid new wrote same ends
 ends_by false front waiting out err how result old mid new wrote same ends = (ends.0, all_behind front waiting out err old mid new wrote same ends.1)
 
-pub run_ends : (start count left : ℕ) (platform : Platform) (deployed : Deployed) (script : Bool) (budget crew : ℕ) (show : Show) (how result : Ended) (core : Core) (p0 p1 : PartView) (waiting : List ℕ) (old mid new : Stream → Option (List ℕ)) (source : Source) → Going p0 p1 source →
-    IsOver start count left (known_in deployed) (trace_of show platform deployed) (run_of (scene_of platform deployed script budget) (first_of platform deployed budget crew)) how core p0 p1 (pending (old Out) []) (pending (mid Out) waiting) → mid Err ≡ old Err →
-    Ends (waiting ++ last_lines show platform deployed budget core how) (fault_line platform how) how result mid new → let want = run_output platform deployed script budget crew show source in Ends want.out want.err want.ended result old new
-run_ends start count left platform deployed script budget crew show how result core p0 p1 waiting old mid new source going over same ends =
+pub run_ends : (start count left : ℕ) (platform : Platform) (deployed : Deployed) (script : Bool) (budget crew : ℕ) (show : Show) (how result : Ended) (core : Core) (p0 p1 : PartView) (old mid new : Stream → Option (List ℕ)) (source : Source) → Going p0 p1 source →
+    IsOver start count left (known_in deployed) (trace_of show platform deployed) (run_of (scene_of platform deployed script budget) (first_of platform deployed budget crew)) how core p0 p1 (old Out) (mid Out) → mid Err ≡ old Err →
+    Ends (last_lines show platform deployed budget core how) (fault_line platform how) how result mid new → let want = run_output platform deployed script budget crew show source in Ends want.out want.err want.ended result old new
+run_ends start count left platform deployed script budget crew show how result core p0 p1 old mid new source going over same ends =
     let trace = trace_of show platform deployed over.made in
-    let last : Ends (waiting ++ last_lines show platform deployed budget over.world.core how) (fault_line platform how) how result mid new = subst (λ (c : Core). Ends (waiting ++ last_lines show platform deployed budget c how) (fault_line platform how) how result mid new) over.core_is ends in
-    let all : Ends (trace ++ last_lines show platform deployed budget over.world.core how) (fault_line platform how) how result old new = ends_by (is_cut result) trace waiting (last_lines show platform deployed budget over.world.core how) (fault_line platform how) how result old mid new over.printed same last in
+    let last : Ends (last_lines show platform deployed budget over.world.core how) (fault_line platform how) how result mid new = subst (λ (c : Core). Ends (last_lines show platform deployed budget c how) (fault_line platform how) how result mid new) over.core_is ends in
+    let all : Ends (trace ++ last_lines show platform deployed budget over.world.core how) (fault_line platform how) how result old new = ends_by (is_cut result) trace [] (last_lines show platform deployed budget over.world.core how) (fault_line platform how) how result old mid new (written_whole trace (old Out) (mid Out) over.printed) same last in
     let written : Progress → Type 0 = λ p. Ends (written_of show platform deployed budget crew source p).out (written_of show platform deployed budget crew source p).err (written_of show platform deployed budget crew source p).ended result old new in
     subst written (sym (over.is source (going over.piece over.reads))) all
 
 -- the work of a run that has come to its end
-pub run_work : (start count left : ℕ) (platform : Platform) (deployed : Deployed) (script : Bool) (budget crew : ℕ) (show : Show) (how : Ended) (core : Core) (p0 p1 : PartView) (before after : Pending) (source : Source) → Going p0 p1 source →
+pub run_work : (start count left : ℕ) (platform : Platform) (deployed : Deployed) (script : Bool) (budget crew : ℕ) (show : Show) (how : Ended) (core : Core) (p0 p1 : PartView) (before after : Option (List ℕ)) (source : Source) → Going p0 p1 source →
     IsOver start count left (known_in deployed) (trace_of show platform deployed) (run_of (scene_of platform deployed script budget) (first_of platform deployed budget crew)) how core p0 p1 before after →
     count ≤ start + (run_output platform deployed script budget crew show source).work
 run_work start count left platform deployed script budget crew show how core p0 p1 before after source going over =
@@ -77,7 +76,7 @@ left_by true crew left want is = omega (arith, is)
 left_by false crew left want is = is
 
 -- the contexts of a run that has come to its end
-pub run_left : (start count left : ℕ) (platform : Platform) (deployed : Deployed) (script : Bool) (budget crew : ℕ) (show : Show) (how result : Ended) (core : Core) (p0 p1 : PartView) (before after : Pending) (source : Source) → Going p0 p1 source →
+pub run_left : (start count left : ℕ) (platform : Platform) (deployed : Deployed) (script : Bool) (budget crew : ℕ) (show : Show) (how result : Ended) (core : Core) (p0 p1 : PartView) (before after : Option (List ℕ)) (source : Source) → Going p0 p1 source →
     IsOver start count left (known_in deployed) (trace_of show platform deployed) (run_of (scene_of platform deployed script budget) (first_of platform deployed budget crew)) how core p0 p1 before after →
     TakesContexts (run_output platform deployed script budget crew show source).contexts result crew left
 run_left start count left platform deployed script budget crew show how result core p0 p1 before after source going over =
@@ -90,7 +89,7 @@ left_cut : (b : Bool) (crew left want : ℕ) → b ≡ true → crew ≤ left + 
 left_cut true crew left want is few = few
 left_cut false crew left want is few = absurd (cc is)
 
-pub run_left_cut : (left : ℕ) (platform : Platform) (deployed : Deployed) (script : Bool) (budget crew : ℕ) (show : Show) (how : Ended) (p0 p1 : PartView) (before : Pending) (after : Option (List ℕ)) (source : Source) → Going p0 p1 source → is_cut how ≡ true →
+pub run_left_cut : (left : ℕ) (platform : Platform) (deployed : Deployed) (script : Bool) (budget crew : ℕ) (show : Show) (how : Ended) (p0 p1 : PartView) (before after : Option (List ℕ)) (source : Source) → Going p0 p1 source → is_cut how ≡ true →
     CutsOff (known_in deployed) (trace_of show platform deployed) (run_of (scene_of platform deployed script budget) (first_of platform deployed budget crew)) [] left p0 p1 before after → TakesContexts (run_output platform deployed script budget crew show source).contexts how crew left
 run_left_cut left platform deployed script budget crew show how p0 p1 before after source going is cut =
     let whole = run_of (scene_of platform deployed script budget) (first_of platform deployed budget crew) (answer_of (known_in deployed) source) in
@@ -102,7 +101,7 @@ cut_by false out err want how old new is fronts = absurd (cc is)
 
 -- a run that was cut off
 pub run_cut : (left : ℕ) (platform : Platform) (deployed : Deployed) (script : Bool) (budget crew : ℕ) (show : Show) (how : Ended) (p0 p1 : PartView) (old new : Stream → Option (List ℕ)) (source : Source) → Going p0 p1 source → is_cut how ≡ true →
-    CutsOff (known_in deployed) (trace_of show platform deployed) (run_of (scene_of platform deployed script budget) (first_of platform deployed budget crew)) [] left p0 p1 (pending (old Out) []) (new Out) → new Err ≡ old Err → let want = run_output platform deployed script budget crew show source in Ends want.out want.err want.ended how old new
+    CutsOff (known_in deployed) (trace_of show platform deployed) (run_of (scene_of platform deployed script budget) (first_of platform deployed budget crew)) [] left p0 p1 (old Out) (new Out) → new Err ≡ old Err → let want = run_output platform deployed script budget crew show source in Ends want.out want.err want.ended how old new
 run_cut left platform deployed script budget crew show how p0 p1 old new source going is cut same =
     let want = run_output platform deployed script budget crew show source in
     let made = (run_of (scene_of platform deployed script budget) (first_of platform deployed budget crew) (answer_of (known_in deployed) source)).made in

@@ -1,17 +1,13 @@
 -- Fronts of texts that were written.
-use Rattle.std.proofs.Common.{Result, Ok, Err as Error, ◌≡◌, ◌<◌, ◌∙◌, sym, ap, subst, refl, inl, inr, ℕ, List, [], ◌++◌, Option, Some, true, append_assoc}
+use Rattle.std.proofs.Common.{Result, Ok, Err as Error, ◌≡◌, ◌<◌, ◌∙◌, sym, ap, subst, refl, inl, inr, ℕ, List, [], ◌++◌, Option, append_assoc, arith}
 use Rattle.sg_edge.specs.declared.sinks.Stream.{Stream}
 use Rattle.sg_edge.specs.declared.sinks.Stream.TheVariants.{Out, Err}
 use Rattle.std.proofs.lemmas.List.{append-nil}
 use Rattle.sg_edge.specs.Sinks.{gain, IsWritten, GainsFront}
 use Rattle.sg_edge.proofs.Writing.{gain-gain, gain-nil}
 use Rattle.sg_edge.specs.declared.files.Failed.{Failed}
-use Rattle.sg_edge.specs.Cause.{HasCause}
-use Rattle.sg_engine.specs.declared.ended.Ended.{Ended}
-use Rattle.sg_engine.specs.declared.ended.Ended.TheVariants as ended
 use Rattle.sg_engine.specs.Gains.{GainsAll, GainsFronts}
-use Rattle.sg_engine.specs.RunContract.{is_cut}
-use Rattle.sg_engine.specs.kept.Writing.{Wrote, Broke, EndsForMemory, IsPut, Tells}
+use Rattle.sg_engine.specs.kept.Writing.{Wrote, Broke, IsPut, Tells}
 
 -- what is left begins with a text, of which a front was written then
 written_on : (whole text rest left : List ℕ) (old mid new : Option (List ℕ)) → IsWritten whole (text ++ rest) old mid → IsWritten text left mid new → IsWritten whole (left ++ rest) old new
@@ -34,11 +30,11 @@ pub put_as : (whole waiting other : List ℕ) (old new : Stream → Option (List
 put_as whole waiting other old new z f same put = subst (λ (l : List ℕ). IsPut whole l old new z f) same put
 
 -- a write failed at a text that is put then
-pub broke_on : (whole text rest : List ℕ) (old mid new : Stream → Option (List ℕ)) (z f f' : ℕ) → IsPut whole (text ++ rest) old mid z f → Broke text mid new f' → Broke whole old new f'
+pub broke_on : (whole text rest : List ℕ) (old mid new : Stream → Option (List ℕ)) (z f f' : ℕ) → IsPut whole (text ++ rest) old mid z f → Broke text mid new f f' → Broke whole old new z f'
 broke_on whole text rest old mid new z f f' first broke = record {
   front = (broke.front.0 ++ rest, written_on whole text rest broke.front.0 (old Out) (mid Out) (new Out) first.written broke.front.1);
   err_held = broke.err_held ∙ first.err_held;
-  failed = broke.failed;
+  failed = omega (arith, first.sound, broke.failed);
 }
 
 -- all that waits is written
@@ -125,7 +121,7 @@ all_behind front waiting out err old mid new wrote same g = record {
 }
 
 -- a text that is written whole
-written_whole : (text : List ℕ) (old new : Option (List ℕ)) → new ≡ gain old text → IsWritten text [] old new
+pub written_whole : (text : List ℕ) (old new : Option (List ℕ)) → new ≡ gain old text → IsWritten text [] old new
 written_whole text old new held = record { done = text; split = sym (append-nil text); held = held }
 
 -- a line on Err behind a text that is written
@@ -136,38 +132,12 @@ told_behind text err (Ok done) old mid new z f f' wrote told = (
 )
 told_behind text err (Error why) old mid new z f f' wrote told = (
   subst (λ (t : List ℕ). GainsFronts t err old new) (append-nil text) (fronts_behind text [] [] err old mid new (written_whole text (old Out) (mid Out) wrote.out_held) wrote.err_held told.0),
-  told.1,
+  omega (arith, wrote.sound, told.1),
 )
 
 -- a text on Out that broke off, so that Err got nothing
-pub told_broke : (text err : List ℕ) (old new : Stream → Option (List ℕ)) (f : ℕ) → Broke text old new f → GainsFronts text err old new × (0 < f)
-told_broke text err old new f broke = (fronts_out text err old new broke.front broke.err_held, broke.failed)
-
--- ---- for want of memory
-pub memory_front : (waiting : List ℕ) (how : Ended) (old new : Stream → Option (List ℕ)) (z f : ℕ) → EndsForMemory waiting how old new z f → GainsFront waiting (old Out) (new Out)
-memory_front waiting how old new z f (inl h) = ([], written_whole waiting (old Out) (new Out) h.1.out_held)
-memory_front waiting how old new z f (inr h) = h.1.front
-
-pub memory_err : (waiting : List ℕ) (how : Ended) (old new : Stream → Option (List ℕ)) (z f : ℕ) → EndsForMemory waiting how old new z f → new Err ≡ old Err
-memory_err waiting how old new z f (inl h) = h.1.err_held
-memory_err waiting how old new z f (inr h) = h.1.err_held
-
-pub memory_cuts : (waiting : List ℕ) (how : Ended) (old new : Stream → Option (List ℕ)) (z f : ℕ) → EndsForMemory waiting how old new z f → is_cut how ≡ true
-memory_cuts waiting how old new z f (inl h) = ap is_cut h.0
-memory_cuts waiting how old new z f (inr h) = ap is_cut h.0
-
--- a failed write of what waited is told, and nothing else of that kind
-pub memory_cause : (waiting : List ℕ) (how : Ended) (old new : Stream → Option (List ℕ)) (z f : ℕ) (broke : Type 0) → EndsForMemory waiting how old new z f → HasCause (Some how ≡ Some ended.WriteFault) (Some how ≡ Some ended.ReadFault) z f broke
-memory_cause waiting how old new z f broke (inl h) = record {
-  write = λ is. let e : Some ended.Memory ≡ Some ended.WriteFault = ap (λ (x : Ended). Some x) (sym h.0) ∙ is in cc e;
-  sound = λ isnt. h.1.sound;
-  read = λ is. let e : Some ended.Memory ≡ Some ended.ReadFault = ap (λ (x : Ended). Some x) (sym h.0) ∙ is in cc e;
-}
-memory_cause waiting how old new z f broke (inr h) = record {
-  write = λ is. h.1.failed;
-  sound = λ isnt. absurd (isnt (ap (λ (x : Ended). Some x) h.0));
-  read = λ is. let e : Some ended.WriteFault ≡ Some ended.ReadFault = ap (λ (x : Ended). Some x) (sym h.0) ∙ is in cc e;
-}
+pub told_broke : (text err : List ℕ) (old new : Stream → Option (List ℕ)) (z f : ℕ) → Broke text old new z f → GainsFronts text err old new × (z < f)
+told_broke text err old new z f broke = (fronts_out text err old new broke.front broke.err_held, broke.failed)
 
 -- a line on Err alone
 pub told_err : (text : List ℕ) (old new : Stream → Option (List ℕ)) → new Err ≡ gain (old Err) text → new Out ≡ old Out → GainsAll [] text old new

@@ -13,9 +13,9 @@ use Rattle.sg_rows.specs.Platform.{Platform}
 use Rattle.sg_rows.specs.declared.rows.HostRow.{HostRow}
 use Rattle.sg_trace.specs.Line.{line_of}
 use Rattle.sg_engine.specs.declared.show.Show.TheVariants.{All}
-use Rattle.sg_engine.specs.kept.Writing.{IsPut, Broke, Puts, pending}
+use Rattle.sg_engine.specs.kept.Writing.{IsPut, Broke, Puts, Writes}
 use Rattle.sg_engine.specs.Output.{energy_last, energy_lines, line_if, stuck_last, stuck_lines, trace_of}
-use Rattle.sg_engine.proofs.Fronts.{put_on, put_as, broke_on}
+use Rattle.sg_engine.proofs.Fronts.{put_on, put_as, broke_on, wrote_all}
 use Rattle.sg_engine.proofs.Waiting.{adds_front, adds_then, front_adds}
 
 -- ---- one line of several
@@ -24,7 +24,7 @@ pub line_put : (whole buffer line left rest waiting : List ℕ) (old mid new : S
 line_put whole buffer line left rest waiting old mid new z f f' first put then =
     put_on whole (buffer ++ line) rest waiting old mid new z f f' (put_as whole (buffer ++ left) (buffer ++ line ++ rest) old mid z f (ap (λ (l : List ℕ). buffer ++ l) first ∙ sym (append_assoc buffer line rest)) put) then
 
-pub line_broke : (whole buffer line left rest : List ℕ) (old mid new : Stream → Option (List ℕ)) (z f f' : ℕ) → left ≡ line ++ rest → IsPut whole (buffer ++ left) old mid z f → Broke (buffer ++ line) mid new f' → Broke whole old new f'
+pub line_broke : (whole buffer line left rest : List ℕ) (old mid new : Stream → Option (List ℕ)) (z f f' : ℕ) → left ≡ line ++ rest → IsPut whole (buffer ++ left) old mid z f → Broke (buffer ++ line) mid new f f' → Broke whole old new z f'
 line_broke whole buffer line left rest old mid new z f f' first put broke =
     broke_on whole (buffer ++ line) rest old mid new z f f' (put_as whole (buffer ++ left) (buffer ++ line ++ rest) old mid z f (ap (λ (l : List ℕ). buffer ++ l) first ∙ sym (append_assoc buffer line rest)) put) broke
 
@@ -35,17 +35,17 @@ none_left whole buffer left old new z f none put = put_as whole (buffer ++ left)
 -- a text, and then one more
 pub put_then : (buffer first second waiting left : List ℕ) (old mid new : Stream → Option (List ℕ)) (z f f' : ℕ) → IsPut (buffer ++ first) waiting old mid z f → IsPut (waiting ++ second) left mid new f f' → IsPut (buffer ++ (first ++ second)) left old new z f'
 put_then buffer first second waiting left old mid new z f f' put then = record {
-  written = adds_then first second (pending (old Out) buffer) (pending (mid Out) waiting) (pending (new Out) left) put.written then.written;
+  written = adds_then first second buffer waiting left (old Out) (mid Out) (new Out) put.written then.written;
   err_held = then.err_held ∙ put.err_held;
   sound = then.sound ∙ put.sound;
 }
 
 -- the second of two texts broke off
-pub put_breaks : (buffer first second waiting : List ℕ) (old mid new : Stream → Option (List ℕ)) (z f f' : ℕ) → IsPut (buffer ++ first) waiting old mid z f → Broke (waiting ++ second) mid new f' → Broke (buffer ++ (first ++ second)) old new f'
+pub put_breaks : (buffer first second waiting : List ℕ) (old mid new : Stream → Option (List ℕ)) (z f f' : ℕ) → IsPut (buffer ++ first) waiting old mid z f → Broke (waiting ++ second) mid new f f' → Broke (buffer ++ (first ++ second)) old new z f'
 put_breaks buffer first second waiting old mid new z f f' put broke = record {
-  front = adds_front first second (pending (old Out) buffer) (pending (mid Out) waiting) (new Out) put.written broke.front;
+  front = adds_front first second buffer waiting (old Out) (mid Out) (new Out) put.written broke.front;
   err_held = broke.err_held ∙ put.err_held;
-  failed = broke.failed;
+  failed = omega (arith, put.sound, broke.failed);
 }
 
 -- the two of them, whatever the second has come to
@@ -54,16 +54,21 @@ puts_then buffer first second waiting left (Ok done) old mid new z f f' put then
 puts_then buffer first second waiting left (Err why) old mid new z f f' put broke = put_breaks buffer first second waiting old mid new z f f' put broke
 
 -- the first of two texts broke off
-pub first_breaks : (buffer first second : List ℕ) (old new : Stream → Option (List ℕ)) (f : ℕ) → Broke (buffer ++ first) old new f → Broke (buffer ++ (first ++ second)) old new f
-first_breaks buffer first second old new f broke = record {
-  front = front_adds first second (pending (old Out) buffer) (new Out) broke.front;
+pub first_breaks : (buffer first second : List ℕ) (old new : Stream → Option (List ℕ)) (z f : ℕ) → Broke (buffer ++ first) old new z f → Broke (buffer ++ (first ++ second)) old new z f
+first_breaks buffer first second old new z f broke = record {
+  front = front_adds first second buffer (old Out) (new Out) broke.front;
   err_held = broke.err_held;
   failed = broke.failed;
 }
 
 -- a write of what waits failed
-pub put_breaks_off : (whole waiting : List ℕ) (old mid new : Stream → Option (List ℕ)) (z f f' : ℕ) → IsPut whole waiting old mid z f → Broke waiting mid new f' → Broke whole old new f'
+pub put_breaks_off : (whole waiting : List ℕ) (old mid new : Stream → Option (List ℕ)) (z f f' : ℕ) → IsPut whole waiting old mid z f → Broke waiting mid new f f' → Broke whole old new z f'
 put_breaks_off whole waiting old mid new z f f' put broke = broke_on whole waiting [] old mid new z f f' (put_as whole waiting (waiting ++ []) old mid z f (sym (append-nil waiting)) put) broke
+
+-- what waits is written, whatever that has come to
+pub put_written : (text waiting : List ℕ) (result : Result (Unit {0}) Failed) (old mid new : Stream → Option (List ℕ)) (z f f' : ℕ) → IsPut text waiting old mid z f → Writes waiting result mid new f f' → Writes text result old new z f'
+put_written text waiting (Ok done) old mid new z f f' put wrote = wrote_all text waiting old mid new z f f' put wrote
+put_written text waiting (Err why) old mid new z f f' put broke = put_breaks_off text waiting old mid new z f f' put broke
 
 -- ---- the lines of actors that are suspended or blocked
 pub stuck_more : (platform : Platform) (deployed : Deployed) (actors : List Actor) (i : ℕ) → i < length actors →

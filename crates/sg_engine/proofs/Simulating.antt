@@ -9,9 +9,8 @@ use Rattle.sg_base.specs.Mind.{Mind}
 use Rattle.sg_edge.specs.Files.{PartView}
 use Rattle.sg_edge.specs.declared.files.Stage.TheVariants.{Fresh}
 use Rattle.sg_edge.specs.declared.files.Part.{Part}
-use Rattle.sg_edge.specs.declared.sinks.Stream.{Stream}
-use Rattle.sg_edge.specs.declared.sinks.Stream.TheVariants.{Out}
-use Rattle.sg_edge.specs.Sinks.{GainsFront}
+use Rattle.sg_edge.specs.Sinks.{gain, GainsFront}
+use Rattle.sg_edge.proofs.Writing.{gain-nil}
 use Rattle.sg_calls.specs.Known.{Known}
 use Rattle.sg_base.specs.Limits.{Extent}
 use Rattle.sg_setup.specs.Setup.{Setup}
@@ -41,12 +40,11 @@ use Rattle.sg_engine.specs.declared.simulation.Simulation.{Simulation}
 use Rattle.sg_engine.specs.kept.Invariant.{places_in, AreBlank, IsKept, Holds, PartIs, StaysKept, TakesCrew}
 use Rattle.sg_engine.specs.kept.SeatRules.{IsSeated}
 use Rattle.sg_engine.specs.kept.Stretches.{Trace, Advances, CutsOff, IsCutOff, IsOver}
-use Rattle.sg_engine.specs.kept.Writing.{Pending, pending, Adds, AddsFront, EndsForMemory}
-use Rattle.sg_engine.proofs.Fronts.{memory_cuts, memory_front}
+use Rattle.sg_engine.proofs.Fronts.{front_more}
 use Rattle.sg_engine.proofs.Asked.{asks_rise}
 use Rattle.sg_engine.proofs.Reaching.{goes_back, reached_left, reached_needed, reached_then, reached_as, goes_on_to, ends_at}
 use Rattle.sg_engine.proofs.Runs.{contexts_fall, part_keeps, run_keeps_behind}
-use Rattle.sg_engine.proofs.Waiting.{adds_front, adds_none, adds_then, front_adds, front_waits}
+use Rattle.sg_engine.proofs.Waiting.{front_behind, gains_then}
 use Rattle.sg_engine.proofs.Working.{run_rises_behind}
 
 -- ---- one part
@@ -73,20 +71,20 @@ scene_as {spent} names roads firsts script setup setup' how taken cast world old
     subst (λ (s : Setup). IsStretch spent names (λ answers. round_or_pass (scene roads s firsts script) answers world) (ending how) taken cast old new) same reached
 
 -- a part was made and printed
-pub advances : {spent : ℕ} (names : Names) (trace : Trace) (whole : Answering → Progress) (how : Option Ended) (taken : List ℕ) (cast : Cast) (part part' : PartView) (kept kept' : Kept) (old mid new : Known) (before after : Pending) →
-    IsStretch spent names whole (ending how) taken cast (moment part kept mid) (moment part' kept' new) → mid.records ≡ [] → old.records ≡ [] → mid.setup ≡ old.setup → Adds (trace new.records) before after → (new' : Known) → new'.core ≡ new.core → new'.setup ≡ new.setup →
+pub advances : {spent : ℕ} (names : Names) (trace : Trace) (whole : Answering → Progress) (how : Option Ended) (taken : List ℕ) (cast : Cast) (part part' : PartView) (kept kept' : Kept) (old mid new : Known) (before after : Option (List ℕ)) →
+    IsStretch spent names whole (ending how) taken cast (moment part kept mid) (moment part' kept' new) → mid.records ≡ [] → old.records ≡ [] → mid.setup ≡ old.setup → after ≡ gain before (trace new.records) → (new' : Known) → new'.core ≡ new.core → new'.setup ≡ new.setup →
     Advances spent names trace whole how taken cast (moment part kept old) (moment part' kept' new') before after
 advances names trace whole how taken cast part part' kept kept' old mid new before after reached none none' setup printed new' core setup' =
     let made : new.records ≡ reached.made = reached.records ∙ ap (λ (l : List Record). l ++ reached.made) none in
     record {
       records = reached.made;
       reached = with_records names whole (ending how) taken cast part part' kept kept' mid new old (record new' { records = reached.made }) [] reached none' (sym setup) core setup' refl;
-      printed = subst (λ (l : List Record). Adds (trace l) before after) made printed;
+      printed = subst (λ (l : List Record). after ≡ gain before (trace l)) made printed;
     }
 
 -- a write failed in the lines of a part
-pub cuts_off_at : {spent : ℕ} (names : Names) (trace : Trace) (whole : Answering → Progress) (how : Option Ended) (taken : List ℕ) (cast : Cast) (part part' : PartView) (kept kept' : Kept) (mid new : Known) (before : Pending) (after : Option (List ℕ)) →
-    IsStretch spent names whole (ending how) taken cast (moment part kept mid) (moment part' kept' new) → mid.records ≡ [] → AddsFront (trace new.records) before after → CutsOff names trace whole taken cast.contexts part part' before after
+pub cuts_off_at : {spent : ℕ} (names : Names) (trace : Trace) (whole : Answering → Progress) (how : Option Ended) (taken : List ℕ) (cast : Cast) (part part' : PartView) (kept kept' : Kept) (mid new : Known) (before after : Option (List ℕ)) →
+    IsStretch spent names whole (ending how) taken cast (moment part kept mid) (moment part' kept' new) → mid.records ≡ [] → GainsFront (trace new.records) before after → CutsOff names trace whole taken cast.contexts part part' before after
 cuts_off_at names trace whole how taken cast part part' kept kept' mid new before after reached none front = record {
   piece = reached.piece;
   reads = reached.reads;
@@ -94,17 +92,17 @@ cuts_off_at names trace whole how taken cast part part' kept kept' mid new befor
   contexts = reached_left names whole how taken cast (moment part kept mid) (moment part' kept' new) reached;
   front = λ source goes.
       let made : new.records ≡ (whole (answer_of names source)).made = reached.records ∙ ap (λ (l : List Record). l ++ reached.made) none ∙ sym (ap (λ (p : Progress). p.made) (reached.is source goes) ∙ append-nil reached.made) in
-      subst (λ (l : List Record). AddsFront (trace l) before after) made front;
+      subst (λ (l : List Record). GainsFront (trace l) before after) made front;
 }
 
--- memory was wanting, and at most what waited was written
-pub cuts_off_by : (names : Names) (trace : Trace) (whole : Answering → Progress) (taken : List ℕ) (left : ℕ) (part part' : PartView) (before : Pending) (after : Option (List ℕ)) → LacksMemory names whole taken left part part' → GainsFront before.waiting before.held after → CutsOff names trace whole taken left part part' before after
-cuts_off_by names trace whole taken left part part' before after cut front = record {
+-- memory was wanting, and nothing was written
+pub cuts_off_by : (names : Names) (trace : Trace) (whole : Answering → Progress) (taken : List ℕ) (left : ℕ) (part part' : PartView) (before after : Option (List ℕ)) → LacksMemory names whole taken left part part' → after ≡ before → CutsOff names trace whole taken left part part' before after
+cuts_off_by names trace whole taken left part part' before after cut same = record {
   piece = cut.piece;
   reads = cut.reads;
   needed = cut.needed;
   contexts = cut.contexts;
-  front = λ source goes. front_waits (trace (whole (answer_of names source)).made) before after front;
+  front = λ source goes. (trace (whole (answer_of names source)).made, record { done = []; split = refl; held = same ∙ sym (gain-nil before) });
 }
 
 -- before a part nothing is read
@@ -126,16 +124,16 @@ pub lacks_scene : (names : Names) (roads : Roads) (firsts : List Mind) (script :
 lacks_scene names roads firsts script setup setup' taken left world old new same lacks = subst (λ (s : Setup). LacksMemory names (λ answers. round_or_pass (scene roads s firsts script) answers world) taken left old new) same lacks
 
 -- a part of a scene is that of the same one
-pub part_as : (spent : ℕ) (names : Names) (trace : Trace) (at at' : Scene) (how : Option Ended) (taken : List ℕ) (cast : Cast) (world : World) (old new : Moment) (before after : Pending) → at ≡ at' →
+pub part_as : (spent : ℕ) (names : Names) (trace : Trace) (at at' : Scene) (how : Option Ended) (taken : List ℕ) (cast : Cast) (world : World) (old new : Moment) (before after : Option (List ℕ)) → at ≡ at' →
     PartIs spent names trace (λ answers. round_or_pass at answers world) how taken cast old new before after → PartIs spent names trace (λ answers. round_or_pass at' answers world) how taken cast old new before after
 part_as spent names trace at at' how taken cast world old new before after same part = subst (λ (s : Scene). PartIs spent names trace (λ answers. round_or_pass s answers world) how taken cast old new before after) same part
 
 -- a part that didn't cut the run off
-pub part_is : {spent : ℕ} (names : Names) (trace : Trace) (whole : Answering → Progress) (how : Option Ended) (taken : List ℕ) (cast : Cast) (old new : Moment) (before after : Pending) → cuts how ≡ false → Advances spent names trace whole how taken cast old new before after → PartIs spent names trace whole how taken cast old new before after
+pub part_is : {spent : ℕ} (names : Names) (trace : Trace) (whole : Answering → Progress) (how : Option Ended) (taken : List ℕ) (cast : Cast) (old new : Moment) (before after : Option (List ℕ)) → cuts how ≡ false → Advances spent names trace whole how taken cast old new before after → PartIs spent names trace whole how taken cast old new before after
 part_is names trace whole how taken cast old new before after uncut advances = rw uncut advances
 
 -- a part that did
-pub part_cuts : (spent : ℕ) (names : Names) (trace : Trace) (whole : Answering → Progress) (how : Option Ended) (taken : List ℕ) (cast : Cast) (old new : Moment) (before after : Pending) → cuts how ≡ true → CutsOff names trace whole taken cast.contexts old.part new.part before after.held → PartIs spent names trace whole how taken cast old new before after
+pub part_cuts : (spent : ℕ) (names : Names) (trace : Trace) (whole : Answering → Progress) (how : Option Ended) (taken : List ℕ) (cast : Cast) (old new : Moment) (before after : Option (List ℕ)) → cuts how ≡ true → CutsOff names trace whole taken cast.contexts old.part new.part before after → PartIs spent names trace whole how taken cast old new before after
 part_cuts spent names trace whole how taken cast old new before after is cut = rw is cut
 
 -- what it keeps
@@ -143,11 +141,9 @@ pub part_kept : {A : Type 0} (mind : A → Option Mind) (plan : Plan) (how : Opt
 part_kept mind plan how shows old new uncut crew setup kept = record { crew = rw uncut crew; setup = setup; kept = rw uncut kept }
 
 -- a part for which memory was wanting
-pub part_short : (spent : ℕ) (names : Names) (trace : Trace) (whole : Answering → Progress) (how : Ended) (taken : List ℕ) (cast : Cast) (old new : Moment) (waits first left : List ℕ) (before after : Stream → Option (List ℕ)) (had faults : ℕ) → LacksMemory names whole taken cast.contexts old.part new.part → waits ≡ first → EndsForMemory waits how before after had faults →
-    PartIs spent names trace whole (Some how) taken cast old new (pending (before Out) first) (pending (after Out) left)
-part_short spent names trace whole how taken cast old new waits first left before after had faults lacks same ends =
-    let front : GainsFront first (before Out) (after Out) = subst (λ (w : List ℕ). GainsFront w (before Out) (after Out)) same (memory_front waits how before after had faults ends) in
-    part_cuts spent names trace whole (Some how) taken cast old new (pending (before Out) first) (pending (after Out) left) (memory_cuts waits how before after had faults ends) (cuts_off_by names trace whole taken cast.contexts old.part new.part (pending (before Out) first) (after Out) lacks front)
+pub part_short : (spent : ℕ) (names : Names) (trace : Trace) (whole : Answering → Progress) (taken : List ℕ) (cast : Cast) (old new : Moment) (before after : Option (List ℕ)) → LacksMemory names whole taken cast.contexts old.part new.part → after ≡ before →
+    PartIs spent names trace whole (Some ended.Memory) taken cast old new before after
+part_short spent names trace whole taken cast old new before after lacks same = cuts_off_by names trace whole taken cast.contexts old.part new.part before after lacks same
 
 -- behind it nothing is kept but the setup
 pub short_kept : {A : Type 0} (mind : A → Option Mind) (plan : Plan) (how : Ended) (shows : Part → PartView) (old new : Simulation A) → is_cut how ≡ true → TakesCrew true old new → new.kernel.setup ≡ old.kernel.setup → StaysKept mind plan (Some how) shows old new
@@ -155,8 +151,8 @@ short_kept mind plan how shows old new cut crew setup = record { crew = rw cut c
 
 -- what a simulation keeps behind a part whose records are in lines and cleared
 pub kept_on : {A : Type 0} (mind : A → Option Mind) (deployed : Deployed) (part : PartView) (sim : Simulation A) (known : Known) → Fits deployed (moment part (kept_of sim.script) known) → sim.kernel ≡ record known { records = [] } → length known.setup.homes ≡ length deployed.actors →
-    All (IsSeated (extent known.setup)) (places_in mind sim) → length sim.seats.items ≡ length deployed.actors → length deployed.actors ≤ vec_capacity sim.calls → length deployed.actors ≤ 65536 → AreBlank mind sim.crew.items → IsKept mind deployed part sim
-kept_on mind deployed part sim known fits is homes seated number calls few blank = record {
+    All (IsSeated (extent known.setup)) (places_in mind sim) → length sim.seats.items ≡ length deployed.actors → length deployed.actors ≤ vec_capacity sim.calls → length deployed.actors ≤ 65536 → AreBlank mind sim.crew.items → sim.buffer ≡ [] → IsKept mind deployed part sim
+kept_on mind deployed part sim known fits is homes seated number calls few blank empty = record {
   fits = record {
     actors = ap (λ (k : Known). length k.core.actors) is ∙ fits.actors;
     queues = fits.queues;
@@ -171,6 +167,7 @@ kept_on mind deployed part sim known fits is homes seated number calls few blank
   calls = calls;
   few = few;
   cleared = ap (λ (k : Known). k.records) is;
+  empty = empty;
 }
 
 -- ---- rounds and passes one after another
@@ -198,8 +195,8 @@ pub work_more : (start count later spent work mine its : ℕ) → count ≤ star
 work_more start count later spent work mine its worked is same more = omega arith
 
 -- the run has come to its end
-abbrev pub over_by : {spent : ℕ} (start count : ℕ) (names : Names) (trace : Trace) (whole : Answering → Progress) (how : Ended) (cast : Cast) (p0 p1 : PartView) (q0 q1 : Kept) (k0 k1 : Known) (core : Core) (before after : Pending) →
-    (reached : IsStretch spent names whole (ending (Some how)) [] cast (moment p0 q0 k0) (moment p1 q1 k1)) → core ≡ k1.core → Adds (trace reached.made) before after → count ≤ start + spent → IsOver start count cast.contexts names trace whole how core p0 p1 before after
+abbrev pub over_by : {spent : ℕ} (start count : ℕ) (names : Names) (trace : Trace) (whole : Answering → Progress) (how : Ended) (cast : Cast) (p0 p1 : PartView) (q0 q1 : Kept) (k0 k1 : Known) (core : Core) (before after : Option (List ℕ)) →
+    (reached : IsStretch spent names whole (ending (Some how)) [] cast (moment p0 q0 k0) (moment p1 q1 k1)) → core ≡ k1.core → after ≡ gain before (trace reached.made) → count ≤ start + spent → IsOver start count cast.contexts names trace whole how core p0 p1 before after
 over_by {spent} start count names trace whole how cast p0 p1 q0 q1 k0 k1 core before after reached same printed worked = record {
   piece = reached.piece;
   reads = reached.reads;
@@ -216,8 +213,8 @@ over_by {spent} start count names trace whole how cast p0 p1 q0 q1 k0 k1 core be
 }
 
 -- all actors have ended
-pub completed : {spent : ℕ} (start count : ℕ) (names : Names) (trace : Trace) (whole : Answering → Progress) (n m : ℕ) (at : Scene) (cast : Cast) (p0 p1 : PartView) (q0 q1 : Kept) (k0 k1 : Known) (core : Core) (before after : Pending) →
-    (reached : IsStretch spent names whole (rest_of n at) [] cast (moment p0 q0 k0) (moment p1 q1 k1)) → n ≡ suc m → core ≡ k1.core → list_all is_over core.actors ≡ true → Adds (trace reached.made) before after → count ≤ start + spent → IsOver start count cast.contexts names trace whole ended.Completed core p0 p1 before after
+pub completed : {spent : ℕ} (start count : ℕ) (names : Names) (trace : Trace) (whole : Answering → Progress) (n m : ℕ) (at : Scene) (cast : Cast) (p0 p1 : PartView) (q0 q1 : Kept) (k0 k1 : Known) (core : Core) (before after : Option (List ℕ)) →
+    (reached : IsStretch spent names whole (rest_of n at) [] cast (moment p0 q0 k0) (moment p1 q1 k1)) → n ≡ suc m → core ≡ k1.core → list_all is_over core.actors ≡ true → after ≡ gain before (trace reached.made) → count ≤ start + spent → IsOver start count cast.contexts names trace whole ended.Completed core p0 p1 before after
 completed start count names trace whole n m at cast p0 p1 q0 q1 k0 k1 core before after reached more same all printed worked =
     let all_here : list_all is_over reached.world.core.actors ≡ true = ap (λ (c : Core). list_all is_over c.actors) (sym (same ∙ reached.stands.core)) ∙ all in
     over_by start count names trace whole ended.Completed cast p0 p1 q0 q1 k0 k1 core before after (record {
@@ -233,8 +230,8 @@ completed start count names trace whole n m at cast p0 p1 q0 q1 k0 k1 core befor
     }) same printed worked
 
 -- no round and no pass is left
-pub used_up : {spent : ℕ} (start count : ℕ) (names : Names) (trace : Trace) (whole : Answering → Progress) (n : ℕ) (at : Scene) (cast : Cast) (p0 p1 : PartView) (q0 q1 : Kept) (k0 k1 : Known) (core : Core) (before after : Pending) →
-    (reached : IsStretch spent names whole (rest_of n at) [] cast (moment p0 q0 k0) (moment p1 q1 k1)) → n ≡ 0 → core ≡ k1.core → Adds (trace reached.made) before after → count ≤ start + spent → IsOver start count cast.contexts names trace whole ended.Budget core p0 p1 before after
+pub used_up : {spent : ℕ} (start count : ℕ) (names : Names) (trace : Trace) (whole : Answering → Progress) (n : ℕ) (at : Scene) (cast : Cast) (p0 p1 : PartView) (q0 q1 : Kept) (k0 k1 : Known) (core : Core) (before after : Option (List ℕ)) →
+    (reached : IsStretch spent names whole (rest_of n at) [] cast (moment p0 q0 k0) (moment p1 q1 k1)) → n ≡ 0 → core ≡ k1.core → after ≡ gain before (trace reached.made) → count ≤ start + spent → IsOver start count cast.contexts names trace whole ended.Budget core p0 p1 before after
 used_up start count names trace whole n at cast p0 p1 q0 q1 k0 k1 core before after reached none same printed worked =
     over_by start count names trace whole ended.Budget cast p0 p1 q0 q1 k0 k1 core before after (record {
       piece = reached.piece;
@@ -249,7 +246,7 @@ used_up start count names trace whole n at cast p0 p1 q0 q1 k0 k1 core before af
     }) same printed worked
 
 -- one part more, and the run goes on
-abbrev pub part_on : {spent next : ℕ} (names : Names) (trace : Trace) (whole : Answering → Progress) (n m : ℕ) (at : Scene) (cast cast' : Cast) (p0 p1 p2 : PartView) (q0 q1 q2 : Kept) (k0 k1 k1' k2 : Known) (before after : Pending) →
+abbrev pub part_on : {spent next : ℕ} (names : Names) (trace : Trace) (whole : Answering → Progress) (n m : ℕ) (at : Scene) (cast cast' : Cast) (p0 p1 p2 : PartView) (q0 q1 q2 : Kept) (k0 k1 k1' k2 : Known) (before after : Option (List ℕ)) →
     (reached : IsStretch spent names whole (rest_of n at) [] cast (moment p0 q0 k0) (moment p1 q1 k1')) → n ≡ suc m → k1'.core ≡ k1.core → k1'.setup ≡ k1.setup → list_all is_over k1.core.actors ≡ false → k0.records ≡ [] →
     (part : Advances next names trace (λ answers. round_or_pass at answers reached.world) None reached.piece cast' (moment p1 q1 k1) (moment p2 q2 k2) before after) → k1.records ≡ [] →
     IsStretch next names whole (rest_of m at) [] cast' (moment p0 q0 k0) (moment p2 q2 (record k2 { records = reached.made ++ part.records }))
@@ -265,7 +262,7 @@ part_on {next} names trace whole n m at cast cast' p0 p1 p2 q0 q1 q2 k0 k1 k1' k
     (goes_on_to names (λ answers. round_or_pass at answers reached.world) (rest_of m at) reached.piece cast' (moment p1 q1 k1') (moment p2 q2 (record k2 { records = reached.made ++ part.records })) shifted))
 
 -- one part more, which has ended the run
-abbrev pub part_last : {spent next : ℕ} (names : Names) (trace : Trace) (whole : Answering → Progress) (how : Ended) (n m : ℕ) (at : Scene) (cast cast' : Cast) (p0 p1 p2 : PartView) (q0 q1 q2 : Kept) (k0 k1 k1' k2 : Known) (before after : Pending) →
+abbrev pub part_last : {spent next : ℕ} (names : Names) (trace : Trace) (whole : Answering → Progress) (how : Ended) (n m : ℕ) (at : Scene) (cast cast' : Cast) (p0 p1 p2 : PartView) (q0 q1 q2 : Kept) (k0 k1 k1' k2 : Known) (before after : Option (List ℕ)) →
     (reached : IsStretch spent names whole (rest_of n at) [] cast (moment p0 q0 k0) (moment p1 q1 k1')) → n ≡ suc m → k1'.core ≡ k1.core → k1'.setup ≡ k1.setup → list_all is_over k1.core.actors ≡ false → k0.records ≡ [] →
     (part : Advances next names trace (λ answers. round_or_pass at answers reached.world) (Some how) reached.piece cast' (moment p1 q1 k1) (moment p2 q2 k2) before after) → k1.records ≡ [] →
     IsStretch next names whole (ending (Some how)) [] cast' (moment p0 q0 k0) (moment p2 q2 (record k2 { records = reached.made ++ part.records }))
@@ -302,8 +299,8 @@ made_and_then None first next = ((next first.world).made, refl)
 made_and_then (Some how) first next = ([], sym (append-nil first.made))
 
 -- a part was cut off, and so is the run
-pub part_cut : {spent : ℕ} (names : Names) (trace : Trace) → Appends trace → (whole : Answering → Progress) (n m : ℕ) (at : Scene) (cast : Cast) (left : ℕ) (p0 p1 p2 : PartView) (q0 q1 : Kept) (k0 k1 : Known) (start before : Pending) (after : Option (List ℕ)) →
-    (reached : IsStretch spent names whole (rest_of n at) [] cast (moment p0 q0 k0) (moment p1 q1 k1)) → n ≡ suc m → list_all is_over k1.core.actors ≡ false → Adds (trace reached.made) start before →
+pub part_cut : {spent : ℕ} (names : Names) (trace : Trace) → Appends trace → (whole : Answering → Progress) (n m : ℕ) (at : Scene) (cast : Cast) (left : ℕ) (p0 p1 p2 : PartView) (q0 q1 : Kept) (k0 k1 : Known) (start before after : Option (List ℕ)) →
+    (reached : IsStretch spent names whole (rest_of n at) [] cast (moment p0 q0 k0) (moment p1 q1 k1)) → n ≡ suc m → list_all is_over k1.core.actors ≡ false → before ≡ gain start (trace reached.made) →
     CutsOff names trace (λ answers. round_or_pass at answers reached.world) reached.piece left p1 p2 before after → CutsOff names trace whole [] left p0 p2 start after
 part_cut names trace appends whole n m at cast left p0 p1 p2 q0 q1 k0 k1 start before after reached more some printed cut = record {
   piece = reached.piece ++ cut.piece;
@@ -333,13 +330,13 @@ part_cut names trace appends whole n m at cast left p0 p1 p2 q0 q1 k0 k1 start b
       ∙ ap (λ (l : List Record). reached.made ++ l) rest.1 in
       let text : trace (whole answers).made ≡ trace reached.made ++ (trace first.made ++ trace rest.0) =
       ap trace all ∙ appends reached.made (first.made ++ rest.0) ∙ ap (λ (l : List ℕ). trace reached.made ++ l) (appends first.made rest.0) in
-      let front = front_adds (trace first.made) (trace rest.0) before after (cut.front source goes) in
-      subst (λ (l : List ℕ). AddsFront l start after) (sym text) (adds_front (trace reached.made) (trace first.made ++ trace rest.0) start before after printed front);
+      let front = front_more (trace first.made) (trace rest.0) before after (cut.front source goes) in
+      subst (λ (l : List ℕ). GainsFront l start after) (sym text) (front_behind (trace reached.made) (trace first.made ++ trace rest.0) start before after printed front);
 }
 
 -- a part was cut off that looked no oftener than it may
-pub cut_off : {spent : ℕ} (from later : ℕ) (names : Names) (trace : Trace) → Appends trace → (whole : Answering → Progress) (n m : ℕ) (at : Scene) (cast : Cast) (left : ℕ) (p0 p1 p2 : PartView) (q0 q1 : Kept) (k0 k1 : Known) (start before : Pending) (after : Option (List ℕ)) →
-    (reached : IsStretch spent names whole (rest_of n at) [] cast (moment p0 q0 k0) (moment p1 q1 k1)) → n ≡ suc m → list_all is_over k1.core.actors ≡ false → Adds (trace reached.made) start before →
+pub cut_off : {spent : ℕ} (from later : ℕ) (names : Names) (trace : Trace) → Appends trace → (whole : Answering → Progress) (n m : ℕ) (at : Scene) (cast : Cast) (left : ℕ) (p0 p1 p2 : PartView) (q0 q1 : Kept) (k0 k1 : Known) (start before after : Option (List ℕ)) →
+    (reached : IsStretch spent names whole (rest_of n at) [] cast (moment p0 q0 k0) (moment p1 q1 k1)) → n ≡ suc m → list_all is_over k1.core.actors ≡ false → before ≡ gain start (trace reached.made) →
     CutsOff names trace (λ answers. round_or_pass at answers reached.world) reached.piece left p1 p2 before after → later ≤ from + work_behind reached.world → IsCutOff from later left names trace whole p0 p2 start after
 unfolding part_cut
 cut_off from later names trace appends whole n m at cast left p0 p1 p2 q0 q1 k0 k1 start before after reached more some printed cut worked = record {
@@ -353,17 +350,17 @@ cut_off from later names trace appends whole n m at cast left p0 p1 p2 q0 q1 k0 
 }
 
 -- ---- the run so far, with its trace lines
-pub record SoFar (start count : ℕ) (names : Names) (trace : Trace) (whole : Answering → Progress) (rest : Answering → World → Progress) (cast : Cast) (p0 p1 : PartView) (q0 q1 : Kept) (k0 k1 : Known) (before after : Pending) : Type 0 where
+pub record SoFar (start count : ℕ) (names : Names) (trace : Trace) (whole : Answering → Progress) (rest : Answering → World → Progress) (cast : Cast) (p0 p1 : PartView) (q0 q1 : Kept) (k0 k1 : Known) (before after : Option (List ℕ)) : Type 0 where
   pub records : List Record
   pub spent : ℕ
   pub worked : count ≤ start + spent
   pub reached : IsStretch spent names whole rest [] cast (moment p0 q0 k0) (moment p1 q1 (record k1 { records = records }))
-  pub printed : Adds (trace reached.made) before after
+  pub printed : after ≡ gain before (trace reached.made)
 
 -- at the beginning
-pub far_first : (start : ℕ) (names : Names) (trace : Trace) (whole : Answering → Progress) (rest : Answering → World → Progress) (cast : Cast) (part : PartView) (kept : Kept) (known : Known) (held : Option (List ℕ)) (waiting : List ℕ) (world : World) →
-    part.stage ≢ Fresh → StandsFor names [] cast (moment part kept known) world → ((answers : Answering) → whole answers ≡ rest answers world) → world.work ≡ 0 → trace [] ≡ [] → waiting ≡ [] → SoFar start start names trace whole rest cast part part kept kept known known (pending held []) (pending held waiting)
-far_first start names trace whole rest cast part kept known held waiting world begun stands same idle none empty = record {
+pub far_first : (start : ℕ) (names : Names) (trace : Trace) (whole : Answering → Progress) (rest : Answering → World → Progress) (cast : Cast) (part : PartView) (kept : Kept) (known : Known) (held : Option (List ℕ)) (world : World) →
+    part.stage ≢ Fresh → StandsFor names [] cast (moment part kept known) world → ((answers : Answering) → whole answers ≡ rest answers world) → world.work ≡ 0 → trace [] ≡ [] → SoFar start start names trace whole rest cast part part kept kept known known held held
+far_first start names trace whole rest cast part kept known held world begun stands same idle none = record {
   records = known.records;
   spent = 0;
   worked = omega arith;
@@ -378,17 +375,17 @@ far_first start names trace whole rest cast part kept known held waiting world b
     records = sym (append-nil known.records);
     is = λ source goes. same (answer_of names source);
   };
-  printed = adds_none (trace []) waiting held none empty;
+  printed = sym (ap (gain held) none ∙ gain-nil held);
 }
 
 -- the lines of a part stand behind those of the run so far
-far_printed : (trace : Trace) → Appends trace → (so_far records made : List Record) (start before after : Pending) → records ≡ made → Adds (trace so_far) start before → Adds (trace records) before after → Adds (trace (so_far ++ made)) start after
+far_printed : (trace : Trace) → Appends trace → (so_far records made : List Record) (start before after : Option (List ℕ)) → records ≡ made → before ≡ gain start (trace so_far) → after ≡ gain before (trace records) → after ≡ gain start (trace (so_far ++ made))
 far_printed trace appends so_far records made start before after same first then =
     let text : trace so_far ++ trace records ≡ trace (so_far ++ made) = ap (λ (l : List Record). trace so_far ++ trace l) same ∙ sym (appends so_far made) in
-    subst (λ (l : List ℕ). Adds l start after) text (adds_then (trace so_far) (trace records) start before after first then)
+    subst (λ (l : List ℕ). after ≡ gain start l) text (gains_then (trace so_far) (trace records) start before after first then)
 
 -- one part more
-pub far_on : {next : ℕ} (from count later : ℕ) (names : Names) (trace : Trace) → Appends trace → (whole : Answering → Progress) (n m : ℕ) (at : Scene) (cast cast' : Cast) (p0 p1 p2 : PartView) (q0 q1 q2 : Kept) (k0 k1 k2 : Known) (start before after : Pending) →
+pub far_on : {next : ℕ} (from count later : ℕ) (names : Names) (trace : Trace) → Appends trace → (whole : Answering → Progress) (n m : ℕ) (at : Scene) (cast cast' : Cast) (p0 p1 p2 : PartView) (q0 q1 q2 : Kept) (k0 k1 k2 : Known) (start before after : Option (List ℕ)) →
     (far : SoFar from count names trace whole (rest_of n at) cast p0 p1 q0 q1 k0 k1 start before) → n ≡ suc m → list_all is_over k1.core.actors ≡ false → k0.records ≡ [] → k1.records ≡ [] →
     Advances next names trace (λ answers. round_or_pass at answers far.reached.world) None far.reached.piece cast' (moment p1 q1 k1) (moment p2 q2 k2) before after → later ≤ from + next → SoFar from later names trace whole (rest_of m at) cast' p0 p2 q0 q2 k0 k2 start after
 far_on {next} from count later names trace appends whole n m at cast cast' p0 p1 p2 q0 q1 q2 k0 k1 k2 start before after far more some first cleared part worked =
@@ -402,7 +399,7 @@ far_on {next} from count later names trace appends whole n m at cast cast' p0 p1
     }
 
 -- the last part
-pub far_over : {next : ℕ} (from count later : ℕ) (names : Names) (trace : Trace) → Appends trace → (whole : Answering → Progress) (how : Ended) (n m : ℕ) (at : Scene) (cast cast' : Cast) (p0 p1 p2 : PartView) (q0 q1 q2 : Kept) (k0 k1 k2 : Known) (start before after : Pending) →
+pub far_over : {next : ℕ} (from count later : ℕ) (names : Names) (trace : Trace) → Appends trace → (whole : Answering → Progress) (how : Ended) (n m : ℕ) (at : Scene) (cast cast' : Cast) (p0 p1 p2 : PartView) (q0 q1 q2 : Kept) (k0 k1 k2 : Known) (start before after : Option (List ℕ)) →
     (far : SoFar from count names trace whole (rest_of n at) cast p0 p1 q0 q1 k0 k1 start before) → n ≡ suc m → list_all is_over k1.core.actors ≡ false → k0.records ≡ [] → k1.records ≡ [] →
     Advances next names trace (λ answers. round_or_pass at answers far.reached.world) (Some how) far.reached.piece cast' (moment p1 q1 k1) (moment p2 q2 k2) before after → later ≤ from + next → IsOver from later cast'.contexts names trace whole how k2.core p0 p2 start after
 far_over from count later names trace appends whole how n m at cast cast' p0 p1 p2 q0 q1 q2 k0 k1 k2 start before after far more some first cleared part worked =
@@ -412,9 +409,9 @@ far_over from count later names trace appends whole how n m at cast cast' p0 p1 
     (far_printed trace appends far.reached.made part.records part.reached.made start before after made far.printed part.printed) worked
 
 -- what a part did that ended the run or cut it off
-pub far_ends : (from count later : ℕ) (names : Names) (trace : Trace) → Appends trace → (whole : Answering → Progress) (how : Ended) (b : Bool) (n m : ℕ) (at : Scene) (cast cast' : Cast) (p0 p1 p2 : PartView) (q0 q1 q2 : Kept) (k0 k1 k2 : Known) (start before after : Pending) →
+pub far_ends : (from count later : ℕ) (names : Names) (trace : Trace) → Appends trace → (whole : Answering → Progress) (how : Ended) (b : Bool) (n m : ℕ) (at : Scene) (cast cast' : Cast) (p0 p1 p2 : PartView) (q0 q1 q2 : Kept) (k0 k1 k2 : Known) (start before after : Option (List ℕ)) →
     (far : SoFar from count names trace whole (rest_of n at) cast p0 p1 q0 q1 k0 k1 start before) → n ≡ suc m → list_all is_over k1.core.actors ≡ false → k0.records ≡ [] → k1.records ≡ [] →
-    MatchBool b (CutsOff names trace (λ answers. round_or_pass at answers far.reached.world) far.reached.piece cast'.contexts p1 p2 before after.held) (Advances (work_behind far.reached.world) names trace (λ answers. round_or_pass at answers far.reached.world) (Some how) far.reached.piece cast' (moment p1 q1 k1) (moment p2 q2 k2) before after) →
-    later ≤ from + work_behind far.reached.world → MatchBool b (IsCutOff from later cast'.contexts names trace whole p0 p2 start after.held) (IsOver from later cast'.contexts names trace whole how k2.core p0 p2 start after)
-far_ends from count later names trace appends whole how true n m at cast cast' p0 p1 p2 q0 q1 q2 k0 k1 k2 start before after far more some first cleared cut worked = cut_off from later names trace appends whole n m at cast cast'.contexts p0 p1 p2 q0 q1 k0 (record k1 { records = far.records }) start before after.held far.reached more some far.printed cut worked
+    MatchBool b (CutsOff names trace (λ answers. round_or_pass at answers far.reached.world) far.reached.piece cast'.contexts p1 p2 before after) (Advances (work_behind far.reached.world) names trace (λ answers. round_or_pass at answers far.reached.world) (Some how) far.reached.piece cast' (moment p1 q1 k1) (moment p2 q2 k2) before after) →
+    later ≤ from + work_behind far.reached.world → MatchBool b (IsCutOff from later cast'.contexts names trace whole p0 p2 start after) (IsOver from later cast'.contexts names trace whole how k2.core p0 p2 start after)
+far_ends from count later names trace appends whole how true n m at cast cast' p0 p1 p2 q0 q1 q2 k0 k1 k2 start before after far more some first cleared cut worked = cut_off from later names trace appends whole n m at cast cast'.contexts p0 p1 p2 q0 q1 k0 (record k1 { records = far.records }) start before after far.reached more some far.printed cut worked
 far_ends from count later names trace appends whole how false n m at cast cast' p0 p1 p2 q0 q1 q2 k0 k1 k2 start before after far more some first cleared part worked = far_over from count later names trace appends whole how n m at cast cast' p0 p1 p2 q0 q1 q2 k0 k1 k2 start before after far more some first cleared part worked

@@ -69,8 +69,8 @@ first_fits platform deployed budget part sim new queues begun waiting = record {
 }
 
 first_kept : {A : Type 0} (mind : A → Option Mind) (platform : Platform) (deployed : Deployed) (budget : ℕ) (part : PartView) (sim : Simulation A) → sim.kernel ≡ first_known (capacities_in platform) (setup_of platform deployed budget) → Fits deployed (at_moment part sim) →
-    minds_in mind sim ≡ first_minds deployed → All (IsSeated (extent_of deployed)) (places_in mind sim) → length deployed.actors ≤ vec_capacity sim.calls → length deployed.actors ≤ 65536 → AreBlank mind sim.crew.items → IsKept mind deployed part sim
-first_kept mind platform deployed budget part sim new fits minds seated calls few blank = record {
+    minds_in mind sim ≡ first_minds deployed → All (IsSeated (extent_of deployed)) (places_in mind sim) → length deployed.actors ≤ vec_capacity sim.calls → length deployed.actors ≤ 65536 → AreBlank mind sim.crew.items → sim.buffer ≡ [] → IsKept mind deployed part sim
+first_kept mind platform deployed budget part sim new fits minds seated calls few blank empty = record {
   fits = fits;
   homes = ap (λ (k : Known). length k.setup.homes) new ∙ length-map deployed.actors home_of;
   number = sym (length-map (places_in mind sim) mind_in ∙ length-map sim.seats.items (seat_view mind)) ∙ ap length minds ∙ length-minds_from 1 deployed.actors;
@@ -79,6 +79,7 @@ first_kept mind platform deployed budget part sim new fits minds seated calls fe
   calls = calls;
   few = few;
   cleared = ap (λ (k : Known). k.records) new;
+  empty = empty;
 }
 
 -- the simulation at its beginning
@@ -89,14 +90,13 @@ pub is_first : {A : Type 0} (mind : A → Option Mind) (platform : Platform) (de
 is_first mind platform deployed budget crew part sim new queues begun waiting stands minds left seated blank calls few empty =
     let contexts : length sim.crew.items ≡ crew - started_number deployed = omega (arith, left) in
     record {
-      kept = first_kept mind platform deployed budget part sim new (first_fits platform deployed budget part sim new queues begun waiting) minds seated calls few blank;
+      kept = first_kept mind platform deployed budget part sim new (first_fits platform deployed budget part sim new queues begun waiting) minds seated calls few blank empty;
       setup = ap (λ (k : Known). k.setup) new;
       stands = record {
         script = record { stands = stands; needed = needed_none (known_in deployed) part.stage (λ _. 0) };
         core = ap (λ (k : Known). k.core) new;
         cast = ap₂ (λ (m : List (Option Mind)) (n : ℕ). record { minds = m; contexts = n }) minds contexts;
       };
-      empty = empty;
     }
 
 -- the beginning of a run, where the actors that start have taken their contexts from the whole crew

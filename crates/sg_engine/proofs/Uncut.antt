@@ -1,5 +1,6 @@
 -- Ends that don't cut a run off.
-use Rattle.std.proofs.Common.{◌≡◌, ◌∙◌, ap, sym, Bool, true, false, Option, None, Some}
+use Rattle.std.proofs.Common.{◌≡◌, ◌∙◌, ap, sym, refl, ℕ, Bool, true, false, Option, None, Some}
+use Rattle.sg_edge.specs.Cause.{HasCause}
 use Rattle.sg_engine.specs.declared.ended.Ended.{Ended}
 use Rattle.sg_engine.specs.declared.ended.Ended.TheVariants as ended
 use Rattle.sg_engine.specs.RunContract.{is_cut}
@@ -19,3 +20,7 @@ not_write how uncut is = uncut_not (is_cut how) (ap is_cut is) uncut
 
 pub not_memory : (how : Ended) → is_cut how ≡ false → how ≡ ended.Memory → ⊥
 not_memory how uncut is = uncut_not (is_cut how) (ap is_cut is) uncut
+
+-- want of memory tells no fault
+pub memory_cause : (faults : ℕ) (broke : Type 0) → HasCause (Some ended.Memory ≡ Some ended.WriteFault) (Some ended.Memory ≡ Some ended.ReadFault) faults faults broke
+memory_cause faults broke = record { write = λ is. cc is; sound = λ isnt. refl; read = λ is. cc is }

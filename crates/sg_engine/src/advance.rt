@@ -1,14 +1,12 @@
 //! One part of a run, with its lines.
 ghost use Rattle.std.specs.Prelude.{◌≡◌, ◌+◌, ◌≤◌};
 ghost use Rattle.sg_engine.specs.kept.Moments.{ReadsScript};
-ghost use Rattle.sg_engine.specs.kept.Writing.{EndsForMemory};
 ghost use Rattle.sg_engine.specs.kept.Invariant.{snapshot_of, CanAdvance, IsCaused, LeadsPart, StaysKept};
 ghost use Rattle.sg_engine.specs.Run.{next_work};
 
-use crate::buffer::Buffer;
 use crate::ended::Ended;
 use crate::plan::Engine;
-use crate::printing::put_trace;
+use crate::printing::write_trace;
 use crate::rounds::round_or_pass;
 use crate::simulation::Simulation;
 use sg_actor::Actor;
@@ -18,19 +16,8 @@ use sg_route::Router;
 use std::sync::ledger::Ledger;
 use std::thread::Threads;
 
-// Writes the lines that wait, where memory is wanting for the run to go on. It takes none itself.
-fn end_for_memory<O: Sinks>(buffer: &mut Buffer, out: &mut O) -> Ended
-    ensures { EndsForMemory buffer.old result
-        (O.contents out.old) (O.contents out.new) (O.faults out.old) (O.faults out.new) }
-{
-    match buffer.flush(out) {
-        Ok(()) => Ended::Memory,
-        Err(Failed) => Ended::WriteFault,
-    }
-}
-
-/// Makes a round, or a pass where nobody is ready, and puts the lines of its records into the buffer. The answer is how
-/// the run ended, if it did. Where memory is wanting, the lines that wait are written.
+/// Makes a round, or a pass where nobody is ready, and writes the lines of its records. The answer is how the run ended,
+/// if it did. No line waits before it or behind it, so that none waits while the script is read.
 pub fn advance<R: Threads + Sync, F: Files, O: Sinks, L: Ledger>(
     engine: &Engine<'_, '_, R>,
     router: &mut Router,
@@ -41,6 +28,7 @@ pub fn advance<R: Threads + Sync, F: Files, O: Sinks, L: Ledger>(
 ) -> Option<Ended>
     requires going { CanAdvance (λ b. mind b) engine.now.plan (F.shows files.old) router.old
         sim.old }
+    requires sound { O.faults out.old ≡ 0 }
     ensures part { LeadsPart engine.now.plan router.old result
         (snapshot_of (λ b. mind b) engine.now.plan (F.shows files.old) (O.contents out.old) sim.old)
         (snapshot_of (λ b. mind b) engine.now.plan (F.shows files.new) (O.contents out.new)
@@ -55,13 +43,13 @@ pub fn advance<R: Threads + Sync, F: Files, O: Sinks, L: Ledger>(
 {
     match sim.kernel.reserve_round(sim.seats.len()) {
         Ok(()) => {}
-        Err(Memory) => return Some(end_for_memory(&mut sim.buffer, out)),
+        Err(Memory) => return Some(Ended::Memory),
     }
     let how = match round_or_pass(engine, router, sim, files, steps) {
         Ok(how) => how,
-        Err(Memory) => return Some(end_for_memory(&mut sim.buffer, out)),
+        Err(Memory) => return Some(Ended::Memory),
     };
-    match put_trace(&engine.plan, sim.kernel.records(), &mut sim.buffer, out) {
+    match write_trace(&engine.plan, sim.kernel.records(), &mut sim.buffer, out) {
         Ok(()) => {}
         Err(Failed) => return Some(Ended::WriteFault),
     }

@@ -1,4 +1,4 @@
-//! Lines that wait to be written.
+//! Lines that wait to be written together.
 ghost use Rattle.std.specs.Prelude.{◌≡◌, ◌≤◌, ◌+◌, ◌++◌, [], List, ℕ, length, vec_capacity, IfOk, OnOk};
 ghost use Rattle.sg_engine.specs.declared.buffer.TheConstants.{ROOM};
 ghost use Rattle.sg_engine.specs.kept.Writing.{Writes, Puts};
@@ -11,7 +11,8 @@ use std::marker::Model;
 /// How many bytes wait at most. A line has at most 512.
 const ROOM: usize = 65536;
 
-/// Bytes for Out that wait, so that many lines take one write. It takes no memory once it is made.
+/// Bytes for Out that wait, so that the lines of one round or pass take one write. None waits from one to the next. It
+/// takes no memory once it is made.
 #[derive(Drop)]
 pub struct Buffer {
     bytes: Vec<u8>,
@@ -37,6 +38,7 @@ impl Buffer {
     /// Adds a line. Where there is no room for it, what waits is written first.
     pub fn put<O: Sinks>(&mut self, line: &[u8], out: &mut O) -> Result<(), Failed>
         requires line { length line.now ≤ 512 }
+        requires sound { O.faults out.old ≡ 0 }
         ensures { Puts (self.old ++ line.now) self.new result
             (O.contents out.old) (O.contents out.new) (O.faults out.old) (O.faults out.new) }
     {
@@ -62,6 +64,7 @@ impl Buffer {
 
     /// Writes what waits.
     pub fn flush<O: Sinks>(&mut self, out: &mut O) -> Result<(), Failed>
+        requires sound { O.faults out.old ≡ 0 }
         ensures writes { Writes self.old result
             (O.contents out.old) (O.contents out.new) (O.faults out.old) (O.faults out.new) }
         ensures empty { OnOk result (self.new ≡ []) }

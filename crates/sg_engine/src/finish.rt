@@ -22,6 +22,7 @@ fn put_completed<O: Sinks>(
     buffer: &mut Buffer,
     out: &mut O,
 ) -> Result<(), Failed>
+    requires sound { O.faults out.old ≡ 0 }
     ensures { Puts (buffer.old ++ how_in end.now.plan end.now.kernel.now.core Ended.Completed)
         buffer.new result
         (O.contents out.old) (O.contents out.new) (O.faults out.old) (O.faults out.new) }
@@ -44,6 +45,7 @@ fn put_how<O: Sinks>(
     buffer: &mut Buffer,
     out: &mut O,
 ) -> Result<(), Failed>
+    requires sound { O.faults out.old ≡ 0 }
     ensures { Puts (buffer.old ++ how_in end.now.plan end.now.kernel.now.core how) buffer.new result
         (O.contents out.old) (O.contents out.new) (O.faults out.old) (O.faults out.new) }
 {
@@ -87,6 +89,7 @@ fn put_end<O: Sinks>(
     buffer: &mut Buffer,
     out: &mut O,
 ) -> Result<(), Failed>
+    requires sound { O.faults out.old ≡ 0 }
     ensures { Puts (buffer.old ++ last_in end.now.plan end.now.kernel.now.core how)
         buffer.new result
         (O.contents out.old) (O.contents out.new) (O.faults out.old) (O.faults out.new) }
@@ -104,6 +107,7 @@ fn put_end<O: Sinks>(
 
 // Writes a line on Err.
 fn write_fault<O: Sinks>(line: &str, out: &mut O) -> Result<(), Failed>
+    requires sound { O.faults out.old ≡ 0 }
     ensures { Tells [] line.now result
         (O.contents out.old) (O.contents out.new) (O.faults out.old) (O.faults out.new) }
 {
@@ -115,6 +119,7 @@ fn write_fault<O: Sinks>(line: &str, out: &mut O) -> Result<(), Failed>
 
 // Writes the line on Err of a run that ended so, if there is one.
 fn print_fault<O: Sinks>(plan: &Plan<'_>, how: Ended, out: &mut O) -> Result<(), Failed>
+    requires sound { O.faults out.old ≡ 0 }
     ensures { Tells [] (fault_line plan.now.platform.now how) result
         (O.contents out.old) (O.contents out.new) (O.faults out.old) (O.faults out.new) }
 {
@@ -143,14 +148,14 @@ fn print_fault<O: Sinks>(plan: &Plan<'_>, how: Ended, out: &mut O) -> Result<(),
     }
 }
 
-// Writes the lines that wait and what stands behind the trace lines of a run that ended so: all of Out before Err gets a
-// byte.
+// Writes what stands behind the trace lines of a run that ended so: all of Out before Err gets a byte.
 fn print_end<O: Sinks>(
     end: &Final<'_, '_>,
     how: Ended,
     buffer: &mut Buffer,
     out: &mut O,
 ) -> Result<(), Failed>
+    requires sound { O.faults out.old ≡ 0 }
     ensures { Tells (buffer.old ++ last_in end.now.plan end.now.kernel.now.core how)
         (fault_line end.now.plan.platform.now how) result
         (O.contents out.old) (O.contents out.new) (O.faults out.old) (O.faults out.new) }
@@ -166,10 +171,11 @@ fn print_end<O: Sinks>(
     print_fault(&end.plan, how, out)
 }
 
-/// Writes the lines that wait and what stands behind the trace lines of a run that ended so and wasn't cut off. It takes
-/// no memory, so that an end that was reached is told.
+/// Writes what stands behind the trace lines of a run that ended so and wasn't cut off. It takes no memory, so that an
+/// end that was reached is told.
 pub fn finish<O: Sinks>(end: &Final<'_, '_>, how: Ended, buffer: &mut Buffer, out: &mut O) -> Ended
-    requires { is_cut how ≡ false }
+    requires uncut { is_cut how ≡ false }
+    requires sound { O.faults out.old ≡ 0 }
     ensures ends { Ends (buffer.old ++ last_in end.now.plan end.now.kernel.now.core how)
         (fault_line end.now.plan.platform.now how) how result
         (O.contents out.old) (O.contents out.new) }

@@ -1,12 +1,12 @@
-//! The lines on Out. Each is put into the buffer.
-ghost use Rattle.std.specs.Prelude.{◌≡◌, ◌<◌, ◌++◌, slice_index_or, IfSome};
+//! The lines on Out. They are put into the buffer, and those of a round or a pass are written together.
+ghost use Rattle.std.specs.Prelude.{◌≡◌, ◌<◌, ◌++◌, [], slice_index_or, IfSome, OnOk};
 ghost use Rattle.sg_states.specs.Actors.{actor_at};
 ghost use Rattle.sg_states.specs.Records.{AreRecords, IsRecord};
 ghost use Rattle.sg_calls.specs.World.{IsActor};
 ghost use Rattle.sg_rows.specs.Deployment.{extent_of};
 ghost use Rattle.sg_trace.specs.Ending.{IsLastOf};
 ghost use Rattle.sg_trace.specs.Line.{line_of};
-ghost use Rattle.sg_engine.specs.kept.Writing.{Puts};
+ghost use Rattle.sg_engine.specs.kept.Writing.{Puts, Writes};
 ghost use Rattle.sg_engine.specs.Output.{energy_last, line_if, stuck_last, trace_of};
 ghost use Rattle.sg_engine.specs.kept.Stretches.{ending_in, energy_in, stuck_in, trace_in};
 
@@ -28,6 +28,7 @@ fn put_record<O: Sinks>(
     out: &mut O,
 ) -> Result<(), Failed>
     requires answered { IsRecord (extent_of plan.now.deployment.now) answered.now }
+    requires sound { O.faults out.old ≡ 0 }
     ensures { Puts
         (buffer.old ++ line_of answered.now plan.now.platform.now plan.now.deployment.now)
         buffer.new result
@@ -45,6 +46,7 @@ fn put_records<O: Sinks>(
     out: &mut O,
 ) -> Result<(), Failed>
     requires records { AreRecords (extent_of plan.now.deployment.now) records.now }
+    requires sound { O.faults out.old ≡ 0 }
     ensures { Puts (buffer.old
         ++ trace_of Show.All plan.now.platform.now plan.now.deployment.now records.now)
         buffer.new result
@@ -59,14 +61,15 @@ fn put_records<O: Sinks>(
     Ok(())
 }
 
-/// Puts a trace line for each record into the buffer where all is shown.
-pub fn put_trace<O: Sinks>(
+// Puts a trace line for each record into the buffer where all is shown.
+fn put_trace<O: Sinks>(
     plan: &Plan<'_>,
     records: &[Record],
     buffer: &mut Buffer,
     out: &mut O,
 ) -> Result<(), Failed>
     requires records { AreRecords (extent_of plan.now.deployment.now) records.now }
+    requires sound { O.faults out.old ≡ 0 }
     ensures { Puts (buffer.old ++ trace_in plan.now records.now) buffer.new result
         (O.contents out.old) (O.contents out.new) (O.faults out.old) (O.faults out.new) }
 {
@@ -77,6 +80,27 @@ pub fn put_trace<O: Sinks>(
     put_records(plan, records, buffer, out)
 }
 
+/// Writes a trace line for each record of a round or a pass where all is shown: in one write, but where they are more
+/// than the buffer holds.
+pub fn write_trace<O: Sinks>(
+    plan: &Plan<'_>,
+    records: &[Record],
+    buffer: &mut Buffer,
+    out: &mut O,
+) -> Result<(), Failed>
+    requires records { AreRecords (extent_of plan.now.deployment.now) records.now }
+    requires empty { buffer.old ≡ [] }
+    requires sound { O.faults out.old ≡ 0 }
+    ensures writes { Writes (trace_in plan.now records.now) result
+        (O.contents out.old) (O.contents out.new) (O.faults out.old) (O.faults out.new) }
+    ensures empty { OnOk result (buffer.new ≡ []) }
+{
+    match put_trace(plan, records, buffer, out) {
+        Ok(()) => buffer.flush(out),
+        Err(Failed) => Err(Failed),
+    }
+}
+
 /// Puts a last line into the buffer.
 pub fn put_last<O: Sinks>(
     plan: &Plan<'_>,
@@ -85,6 +109,7 @@ pub fn put_last<O: Sinks>(
     out: &mut O,
 ) -> Result<(), Failed>
     requires last { IsLastOf plan.now.platform.now plan.now.deployment.now last }
+    requires sound { O.faults out.old ≡ 0 }
     ensures { Puts (buffer.old ++ ending_in plan.now last) buffer.new result
         (O.contents out.old) (O.contents out.new) (O.faults out.old) (O.faults out.new) }
 {
@@ -102,6 +127,7 @@ pub fn put_two<O: Sinks>(
 ) -> Result<(), Failed>
     requires first { IsLastOf plan.now.platform.now plan.now.deployment.now first }
     requires second { IsLastOf plan.now.platform.now plan.now.deployment.now second }
+    requires sound { O.faults out.old ≡ 0 }
     ensures { Puts (buffer.old ++ (ending_in plan.now first ++ ending_in plan.now second))
         buffer.new result
         (O.contents out.old) (O.contents out.new) (O.faults out.old) (O.faults out.new) }
@@ -138,6 +164,7 @@ fn put_if<O: Sinks>(
     out: &mut O,
 ) -> Result<(), Failed>
     requires told { IfSome told (IsLastOf plan.now.platform.now plan.now.deployment.now) }
+    requires sound { O.faults out.old ≡ 0 }
     ensures { Puts (buffer.old ++ line_if plan.now.platform.now plan.now.deployment.now told)
         buffer.new result
         (O.contents out.old) (O.contents out.new) (O.faults out.old) (O.faults out.new) }
@@ -154,6 +181,7 @@ fn put_all_stuck<O: Sinks>(
     buffer: &mut Buffer,
     out: &mut O,
 ) -> Result<(), Failed>
+    requires sound { O.faults out.old ≡ 0 }
     ensures { Puts (buffer.old ++ stuck_in end.now.plan end.now.kernel.now.core) buffer.new result
         (O.contents out.old) (O.contents out.new) (O.faults out.old) (O.faults out.new) }
 {
@@ -174,7 +202,8 @@ pub fn put_stuck<O: Sinks>(
     buffer: &mut Buffer,
     out: &mut O,
 ) -> Result<(), Failed>
-    requires { IsLastOf end.now.plan.platform.now end.now.plan.deployment.now last }
+    requires last { IsLastOf end.now.plan.platform.now end.now.plan.deployment.now last }
+    requires sound { O.faults out.old ≡ 0 }
     ensures { Puts (buffer.old ++ (ending_in end.now.plan last
         ++ stuck_in end.now.plan end.now.kernel.now.core)) buffer.new result
         (O.contents out.old) (O.contents out.new) (O.faults out.old) (O.faults out.new) }
@@ -207,6 +236,7 @@ pub fn put_energy<O: Sinks>(
     buffer: &mut Buffer,
     out: &mut O,
 ) -> Result<(), Failed>
+    requires sound { O.faults out.old ≡ 0 }
     ensures { Puts (buffer.old ++ energy_in end.now.plan end.now.kernel.now.core) buffer.new result
         (O.contents out.old) (O.contents out.new) (O.faults out.old) (O.faults out.new) }
 {

@@ -25,7 +25,7 @@ use std::mem;
 use std::sync::ledger::Ledger;
 use std::thread::Threads;
 
-// Simulates to the end of the run. The trace lines are written or wait in the buffer, where the run wasn't cut off.
+// Simulates to the end of the run. All trace lines are written where the run wasn't cut off.
 fn simulate<R: Threads + Sync, F: Files, O: Sinks, L: Ledger>(
     engine: &Engine<'_, '_, R>,
     router: &mut Router,
@@ -36,6 +36,7 @@ fn simulate<R: Threads + Sync, F: Files, O: Sinks, L: Ledger>(
 ) -> Ended
     requires beginning { IsBeginning (λ b. mind b) engine.now.plan (F.shows files.old) router.old
         sim.old }
+    requires sound { O.faults out.old ≡ 0 }
     ensures run { HasRun engine.now.plan (crew_in engine.now.plan sim.old) result sim.new
         steps.old steps.new (script_in engine.now.plan (F.shows files.old))
         (script_in engine.now.plan (F.shows files.new))
@@ -89,6 +90,7 @@ fn run_from<R: Threads + Sync, F: Files, O: Sinks, L: Ledger>(
 ) -> Ended
     requires beginning { IsBeginning (λ b. mind b) engine.now.plan (F.shows files.old) router.old
         sim.old }
+    requires sound { O.faults out.old ≡ 0 }
     ensures output { ForSources engine.now.plan.script (F.shows files.old) (F.shows files.new)
         (λ source. IsRun (planned_output engine.now.plan (crew_in engine.now.plan sim.old) source)
         result (O.contents out.old) (O.contents out.new) (crew_in engine.now.plan sim.old)
@@ -123,6 +125,7 @@ fn run_plan<R: Threads + Sync, F: Files, O: Sinks, L: Ledger>(
         → (F.shows files.old Part.Script).stage ≢ Fresh }
     requires crew { HasContexts (λ b. mind b) crew.old.items engine.now.plan.deployment.now }
     requires roads { AreRoadsOf engine.now.plan.platform.now router.old }
+    requires sound { O.faults out.old ≡ 0 }
     ensures output { ForSources engine.now.plan.script (F.shows files.old) (F.shows files.new)
         (λ source. IsRun (planned_output engine.now.plan (length crew.old.items) source) result
         (O.contents out.old) (O.contents out.new) (length crew.old.items) (length crew.new.items)
@@ -170,6 +173,7 @@ pub fn run<R: Threads + Sync, F: Files, O: Sinks, L: Ledger>(
     requires workers { 0 < workers }
     requires begun { IsTrue setup.old.script → (F.shows files.old Part.Script).stage ≢ Fresh }
     requires crew { HasContexts (λ b. mind b) crew.old.items setup.old.deployment }
+    requires sound { O.faults out.old ≡ 0 }
     ensures output { ForSources setup.old.script (F.shows files.old) (F.shows files.new)
         (λ source. IsRun (output_of setup.old budget (length crew.old.items) show source) result
         (O.contents out.old) (O.contents out.new) (length crew.old.items) (length crew.new.items)

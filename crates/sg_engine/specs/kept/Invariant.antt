@@ -33,7 +33,6 @@ use Rattle.sg_engine.specs.kept.Moments.{Cast, Moment, moment, moment_in, names_
 use Rattle.sg_engine.specs.kept.SeatRules.{IsSeated, minds_of}
 use Rattle.sg_engine.specs.Run.{Answering, Progress, are_completed, work_behind}
 use Rattle.sg_engine.specs.kept.Stretches.{Trace, trace_in, Advances, CutsOff}
-use Rattle.sg_engine.specs.kept.Writing.{Pending, pending}
 use Rattle.sg_route.specs.Roads.{Roads, roads_of}
 use Rattle.sg_calls.specs.Roads.{AreOver}
 
@@ -162,7 +161,8 @@ pub record IsOfSetup (platform : Platform) (deployed : Deployed) (known : Known)
   pub extent : extent known.setup ≡ extent_of deployed
   pub few : length known.core.actors ≤ 65536
 
--- all lists are of the deployment's actors, who are seated; there is room for a call of each, and no record waits
+-- all lists are of the deployment's actors, who are seated; there is room for a call of each, and no record and no line
+-- waits
 pub record IsKept {A : Type 0} (mind : A → Option Mind) (deployed : Deployed) (part : PartView) (sim : Simulation A) : Type 0 where
   pub fits : Fits deployed (at_moment part sim)
   pub homes : length sim.kernel.setup.homes ≡ length deployed.actors
@@ -172,6 +172,7 @@ pub record IsKept {A : Type 0} (mind : A → Option Mind) (deployed : Deployed) 
   pub calls : length deployed.actors ≤ vec_capacity sim.calls
   pub few : length deployed.actors ≤ 65536
   pub cleared : sim.kernel.records ≡ []
+  pub empty : sim.buffer ≡ []
 
 -- how a stretch leads from one simulation to another
 abbrev pub LeadsTo : {A : Type 0} → (A → Option Mind) → Plan → (World → ℕ) → (Answering → World → Progress) → Result (Option Ended) Memory → (Part → PartView) → (Part → PartView) → Simulation A → Simulation A → Type 0
@@ -182,13 +183,11 @@ pub record AreRoadsOf (platform : Platform) (roads : Roads) : Type 0 where
   pub are : roads ≡ roads_of platform
   pub over : AreOver (length (link_ends platform.links)) roads
 
--- the simulation of a setup at its beginning, with a crew of so many contexts, nothing of the script taken and no line that
--- waits
+-- the simulation of a setup at its beginning, with a crew of so many contexts and nothing of the script taken
 pub record IsFirst {A : Type 0} (mind : A → Option Mind) (platform : Platform) (deployed : Deployed) (budget crew : ℕ) (part : PartView) (sim : Simulation A) : Type 0 where
   pub kept : IsKept mind deployed part sim
   pub setup : sim.kernel.setup ≡ setup_of platform deployed budget
   pub stands : StandsFor (known_in deployed) [] (cast_in mind sim) (at_moment part sim) (first_of platform deployed budget crew)
-  pub empty : sim.buffer ≡ []
 
 -- how many contexts the crew had before anybody started
 abbrev pub crew_in : {A : Type 0} → Plan → Simulation A → ℕ
@@ -200,9 +199,9 @@ pub record IsBeginning {A : Type 0} (mind : A → Option Mind) (plan : Plan) (sh
   pub roads : AreRoadsOf plan.platform.now router
 
 -- what a part of a run has done
-abbrev pub PartIs : ℕ → Names → Trace → (Answering → Progress) → Option Ended → List ℕ → Cast → Moment → Moment → Pending → Pending → Type 0
+abbrev pub PartIs : ℕ → Names → Trace → (Answering → Progress) → Option Ended → List ℕ → Cast → Moment → Moment → Option (List ℕ) → Option (List ℕ) → Type 0
 PartIs spent names trace whole how taken had old new before after =
-    MatchBool (cuts how) (CutsOff names trace whole taken had.contexts old.part new.part before after.held) (Advances spent names trace whole how taken had old new before after)
+    MatchBool (cuts how) (CutsOff names trace whole taken had.contexts old.part new.part before after) (Advances spent names trace whole how taken had old new before after)
 
 -- so it is in the run of a plan
 abbrev pub Holds : {A : Type 0} → (A → Option Mind) → Plan → (Part → PartView) → Simulation A → Type 0
@@ -247,21 +246,17 @@ abbrev pub IsCaused : Plan → Option Ended → (Part → PartView) → ℕ → 
 IsCaused plan how shows had faults = HasCause (how ≡ Some ended.WriteFault) (how ≡ Some ended.ReadFault) had faults ((script_in plan shows).stage ≡ Broken)
 
 -- ---- with what is written
--- a moment of a run, its cast, what the streams hold, and the lines that wait
+-- a moment of a run, its cast, and what the streams hold
 pub record Snapshot : Type 0 where
   pub now : Moment
   pub cast : Cast
   pub streams : Stream → Option (List ℕ)
-  pub waiting : List ℕ
 
 abbrev pub snapshot_of : {A : Type 0} → (A → Option Mind) → Plan → (Part → PartView) → (Stream → Option (List ℕ)) → Simulation A → Snapshot
-snapshot_of mind plan shows streams sim = record { now = now_at plan shows sim; cast = cast_in mind sim; streams = streams; waiting = sim.buffer }
+snapshot_of mind plan shows streams sim = record { now = now_at plan shows sim; cast = cast_in mind sim; streams = streams }
 
-abbrev pub pending_in : Snapshot → Pending
-pending_in shot = pending (shot.streams Out) shot.waiting
-
--- How a part of a run leads from one moment to another, with its lines on Out or in wait for it: of each world for which
--- the first moment stands. Err stays.
+-- How a part of a run leads from one moment to another, with its lines on Out: of each world for which the first moment
+-- stands. Err stays.
 abbrev pub LeadsPart : Plan → Roads → Option Ended → Snapshot → Snapshot → Type 0
 LeadsPart plan roads how old new = (new.streams Err ≡ old.streams Err) × ((taken : List ℕ) (world : World) → StandsFor (names_of plan) taken old.cast old.now world →
-    PartIs (work_behind world) (names_of plan) (trace_in plan) (λ answers. part_at plan roads old.now.kernel answers world) how taken new.cast old.now new.now (pending_in old) (pending_in new))
+    PartIs (work_behind world) (names_of plan) (trace_in plan) (λ answers. part_at plan roads old.now.kernel answers world) how taken new.cast old.now new.now (old.streams Out) (new.streams Out))

@@ -2,6 +2,7 @@
 use Rattle.std.specs.Prelude.{◌≡◌, ◌≤◌, ◌+◌, ℕ, MatchBool, List, [], ◌++◌, length, Option, Some}
 use Rattle.sg_base.specs.declared.trace_record.Record.{Record}
 use Rattle.sg_edge.specs.Files.{PartView}
+use Rattle.sg_edge.specs.Sinks.{gain, GainsFront}
 use Rattle.sg_edge.specs.Sources.{Source}
 use Rattle.sg_calls.specs.World.{Core}
 use Rattle.sg_engine.specs.World.{World}
@@ -18,34 +19,33 @@ use Rattle.sg_trace.specs.Ending.{ending_of}
 use Rattle.sg_trace.specs.declared.last.Last.{Last}
 use Rattle.sg_engine.specs.Run.{Answering, Progress, run_of}
 use Rattle.sg_engine.specs.kept.Moments.{AreNeededBy, Cast, LeavesContexts, Moment, moment, IsStretch, ending}
-use Rattle.sg_engine.specs.kept.Writing.{Pending, pending, Adds, AddsFront}
 
 -- how records are written as lines
 abbrev pub Trace : Type 0
 Trace = List Record → List ℕ
 
--- A part of a run was made, and its trace lines wait or are written. The kernel has cleared its records since.
-pub record Advances (spent : ℕ) (names : Names) (trace : Trace) (whole : Answering → Progress) (how : Option Ended) (taken : List ℕ) (had : Cast) (old new : Moment) (before after : Pending) : Type 0 where
+-- A part of a run was made, and its trace lines are written. The kernel has cleared its records since.
+pub record Advances (spent : ℕ) (names : Names) (trace : Trace) (whole : Answering → Progress) (how : Option Ended) (taken : List ℕ) (had : Cast) (old new : Moment) (before after : Option (List ℕ)) : Type 0 where
   pub records : List Record
   pub reached : IsStretch spent names whole (ending how) taken had old (moment new.part new.kept (record new.kernel { records = records }))
-  pub printed : Adds (trace records) before after
+  pub printed : after ≡ gain before (trace records)
 
--- A part of a run was cut off with so many contexts left, and a front of what waited and of its trace lines is written.
-pub record CutsOff (names : Names) (trace : Trace) (whole : Answering → Progress) (taken : List ℕ) (left : ℕ) (old new : PartView) (before : Pending) (after : Option (List ℕ)) : Type 0 where
+-- A part of a run was cut off with so many contexts left, and a front of its trace lines is written.
+pub record CutsOff (names : Names) (trace : Trace) (whole : Answering → Progress) (taken : List ℕ) (left : ℕ) (old new : PartView) (before after : Option (List ℕ)) : Type 0 where
   pub piece : List ℕ
   pub reads : Reads piece old new
   pub needed : AreNeededBy names whole (taken ++ piece) new.stage
   pub contexts : LeavesContexts names whole (taken ++ piece) new.stage left
-  pub front : (source : Source) → GoesOn (taken ++ piece) new.stage source → AddsFront (trace (whole (answer_of names source)).made) before after
+  pub front : (source : Source) → GoesOn (taken ++ piece) new.stage source → GainsFront (trace (whole (answer_of names source)).made) before after
 
 -- The run was cut off, and a front of its trace lines is written; the count went on from this start by the work of the
 -- whole run at most.
-pub record IsCutOff (start count left : ℕ) (names : Names) (trace : Trace) (whole : Answering → Progress) (old new : PartView) (before : Pending) (after : Option (List ℕ)) : Type 0 where
+pub record IsCutOff (start count left : ℕ) (names : Names) (trace : Trace) (whole : Answering → Progress) (old new : PartView) (before after : Option (List ℕ)) : Type 0 where
   pub cut : CutsOff names trace whole [] left old new before after
   pub worked : (source : Source) → GoesOn cut.piece new.stage source → count ≤ start + (whole (answer_of names source)).world.work
 
--- The run came to this end with so many contexts left, and all its trace lines wait or are written; the count went on from this start by the work at most.
-pub record IsOver (start count left : ℕ) (names : Names) (trace : Trace) (whole : Answering → Progress) (how : Ended) (core : Core) (old new : PartView) (before after : Pending) : Type 0 where
+-- The run came to this end with so many contexts left, and all its trace lines are written; the count went on from this start by the work at most.
+pub record IsOver (start count left : ℕ) (names : Names) (trace : Trace) (whole : Answering → Progress) (how : Ended) (core : Core) (old new : PartView) (before after : Option (List ℕ)) : Type 0 where
   pub piece : List ℕ
   pub reads : Reads piece old new
   pub needed : AreNeededBy names whole piece new.stage
@@ -54,7 +54,7 @@ pub record IsOver (start count left : ℕ) (names : Names) (trace : Trace) (whol
   pub contexts : left ≡ world.contexts
   pub worked : count ≤ start + world.work
   pub made : List Record
-  pub printed : Adds (trace made) before after
+  pub printed : after ≡ gain before (trace made)
   pub is : (source : Source) → GoesOn piece new.stage source → whole (answer_of names source) ≡ record { world = world; made = made; ended = Some how }
 
 -- ---- in the words of contracts
@@ -85,10 +85,9 @@ run_by plan crew answers = run_of (scene_of plan.platform.now plan.deployment.no
 abbrev pub planned_output : Plan → ℕ → Source → Output
 planned_output plan crew source = run_output plan.platform.now plan.deployment.now plan.script plan.terms.budget crew plan.terms.show source
 
--- The run was cut off behind a front of its trace lines, or this simulation has come to this end behind all of them, of
--- which the last may wait in its buffer. None waited at the beginning.
+-- The run was cut off behind a front of its trace lines, or this simulation has come to this end behind all of them.
 abbrev pub HasRun : {A : Type 0} → Plan → ℕ → Ended → Simulation A → ℕ → ℕ → PartView → PartView → Option (List ℕ) → Option (List ℕ) → Type 0
 HasRun plan crew how sim start count old new before after =
     MatchBool (is_cut how)
-    (IsCutOff start count (length sim.crew.items) (known_in plan.deployment.now) (trace_in plan) (run_by plan crew) old new (pending before []) after)
-    (IsOver start count (length sim.crew.items) (known_in plan.deployment.now) (trace_in plan) (run_by plan crew) how sim.kernel.core old new (pending before []) (pending after sim.buffer))
+    (IsCutOff start count (length sim.crew.items) (known_in plan.deployment.now) (trace_in plan) (run_by plan crew) old new before after)
+    (IsOver start count (length sim.crew.items) (known_in plan.deployment.now) (trace_in plan) (run_by plan crew) how sim.kernel.core old new before after)

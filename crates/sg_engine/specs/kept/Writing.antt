@@ -1,11 +1,9 @@
 -- What writes of a run have done to the streams.
-use Rattle.std.specs.Prelude.{◌≡◌, ◌<◌, ◌⊎◌, ℕ, Option, Result, Ok, Err as Error, List, ◌++◌}
+use Rattle.std.specs.Prelude.{◌≡◌, ◌<◌, ℕ, Option, Result, Ok, Err as Error, List}
 use Rattle.sg_edge.specs.declared.sinks.Stream.{Stream}
 use Rattle.sg_edge.specs.declared.sinks.Stream.TheVariants.{Out, Err}
 use Rattle.sg_edge.specs.Sinks.{gain, GainsFront, IsWritten}
 use Rattle.sg_edge.specs.declared.files.Failed.{Failed}
-use Rattle.sg_engine.specs.declared.ended.Ended.{Ended}
-use Rattle.sg_engine.specs.declared.ended.Ended.TheVariants as ended
 use Rattle.sg_engine.specs.Gains.{GainsAll, GainsFronts}
 
 -- the text was appended to Out, and no write has failed since
@@ -15,15 +13,15 @@ pub record Wrote (text : List ℕ) (old new : Stream → Option (List ℕ)) (had
   pub sound : faults ≡ had
 
 -- a write failed, behind a front of the text
-pub record Broke (text : List ℕ) (old new : Stream → Option (List ℕ)) (faults : ℕ) : Type 0 where
+pub record Broke (text : List ℕ) (old new : Stream → Option (List ℕ)) (had faults : ℕ) : Type 0 where
   pub front : GainsFront text (old Out) (new Out)
   pub err_held : new Err ≡ old Err
-  pub failed : 0 < faults
+  pub failed : had < faults
 
 -- what writing a text to Out has done
 abbrev pub Writes : List ℕ → Result (Unit {0}) Failed → (Stream → Option (List ℕ)) → (Stream → Option (List ℕ)) → ℕ → ℕ → Type 0
 Writes text (Ok done) old new had faults = Wrote text old new had faults
-Writes text (Error why) old new had faults = Broke text old new faults
+Writes text (Error why) old new had faults = Broke text old new had faults
 
 -- of a text that was handed over this waits, what stands before it was appended to Out, and no write has failed since
 pub record IsPut (text waiting : List ℕ) (old new : Stream → Option (List ℕ)) (had faults : ℕ) : Type 0 where
@@ -34,31 +32,10 @@ pub record IsPut (text waiting : List ℕ) (old new : Stream → Option (List �
 -- what putting a text into a buffer has done
 abbrev pub Puts : List ℕ → List ℕ → Result (Unit {0}) Failed → (Stream → Option (List ℕ)) → (Stream → Option (List ℕ)) → ℕ → ℕ → Type 0
 Puts text waiting (Ok done) old new had faults = IsPut text waiting old new had faults
-Puts text waiting (Error why) old new had faults = Broke text old new faults
-
--- how a run ends for which memory is wanting: what waited is written, or a write of it failed
-abbrev pub EndsForMemory : List ℕ → Ended → (Stream → Option (List ℕ)) → (Stream → Option (List ℕ)) → ℕ → ℕ → Type 0
-EndsForMemory waiting how old new had faults = ((how ≡ ended.Memory) × Wrote waiting old new had faults) ⊎ ((how ≡ ended.WriteFault) × Broke waiting old new faults)
-
--- ---- from part to part
--- what Out holds, where that is told, and the lines that wait to be written to it
-pub record Pending : Type 0 where
-  pub held : Option (List ℕ)
-  pub waiting : List ℕ
-
-abbrev pub pending : Option (List ℕ) → List ℕ → Pending
-pending held waiting = record { held = held; waiting = waiting }
-
--- the text came behind what waited: the end of both waits now, and what stands before it was written
-abbrev pub Adds : List ℕ → Pending → Pending → Type 0
-Adds text old new = IsWritten (old.waiting ++ text) new.waiting old.held new.held
-
--- a front of what waited and of the text behind it was written
-abbrev pub AddsFront : List ℕ → Pending → Option (List ℕ) → Type 0
-AddsFront text old new = GainsFront (old.waiting ++ text) old.held new
+Puts text waiting (Error why) old new had faults = Broke text old new had faults
 
 -- ---- at the end
 -- what writing a text to Out and then one to Err has done
 abbrev pub Tells : List ℕ → List ℕ → Result (Unit {0}) Failed → (Stream → Option (List ℕ)) → (Stream → Option (List ℕ)) → ℕ → ℕ → Type 0
 Tells out err (Ok done) old new had faults = GainsAll out err old new × (faults ≡ had)
-Tells out err (Error why) old new had faults = GainsFronts out err old new × (0 < faults)
+Tells out err (Error why) old new had faults = GainsFronts out err old new × (had < faults)

@@ -3,6 +3,7 @@ use Rattle.std.specs.Prelude.{take}
 use Rattle.sg_base.specs.declared.trace_record.Record.{Record}
 use Rattle.sg_edge.specs.declared.files.Part.TheVariants.{Script}
 use Rattle.sg_edge.specs.declared.sinks.Stream.TheVariants.{Out}
+use Rattle.sg_edge.specs.Sinks.{gain, GainsFront}
 use Rattle.sg_calls.specs.Known.{Known}
 use Rattle.sg_calls.specs.Roads.{AreOver}
 use Rattle.sg_setup.specs.Setup.{Setup}
@@ -10,17 +11,16 @@ use Rattle.sg_calls.specs.World.{extent}
 use Rattle.sg_script.specs.Known.{known_in}
 use Rattle.sg_script.specs.Stands.{kept_of}
 use Rattle.sg_engine.specs.declared.ended.Ended.{Ended}
+use Rattle.sg_engine.specs.declared.ended.Ended.TheVariants as ended
 use Rattle.sg_engine.specs.Output.{trace_of}
 use Rattle.sg_engine.specs.kept.Moments.{moment, script_part}
-use Rattle.sg_engine.specs.kept.Writing.{Adds, AddsFront, pending}
 use Rattle.sg_engine.specs.Roles.{firsts_of}
 use Rattle.sg_engine.specs.Run.{next_work, scene, round_or_pass}
 use Rattle.sg_engine.proofs.Parts.{room_for}
 use Rattle.sg_engine.proofs.Files.{script_unread}
-use Rattle.sg_engine.proofs.Fronts.{memory_cause, memory_cuts, memory_err}
 use Rattle.sg_engine.proofs.Simulating.{advances, cuts_off_at, kept_on, lacks_room, lacks_scene, part_is, part_kept, part_short, scene_as, short_kept}
 use Rattle.sg_engine.proofs.Crews.{crew_cut, crew_same, front_all}
-use Rattle.sg_engine.proofs.Uncut.{uncut_write}
+use Rattle.sg_engine.proofs.Uncut.{memory_cause, uncut_write}
 use Rattle.sg_engine.specs.declared.simulation.Simulation.{Simulation}
 use Rattle.sg_engine.specs.kept.Invariant.{still_unstarted, unstarted, TakesCrew}
 use Rattle.sg_engine.proofs.advance.advance.Goals as goal
@@ -43,26 +43,25 @@ takes_as cut old new last room same takes crew core = record {
 
 pub returns-in-Err-clause-part : goal.returns-in-Err-clause-part
 returns-in-Err-clause-part g c = (
-  memory_err _ _ _ _ _ _ c.end_for_memory.ensures,
+  refl,
   λ taken world stands.
-      part_short _ _ _ _ c.end_for_memory.result taken _ _ _ c.args.sim.now.buffer c.args.sim.now.buffer c.end_for_memory.new.buffer (g.O.Sinks.contents c.args.out.now) (g.O.Sinks.contents c.end_for_memory.new.out) _ _
-      (lacks_room _ (scene c.args.router.now c.args.sim.now.kernel.setup (firsts_of c.args.engine.now.plan.deployment.now) c.args.engine.now.plan.script) taken _ _ world c.requires.going.kept.fits.begun stands) refl c.end_for_memory.ensures,
+      part_short _ _ _ _ taken _ _ _ _ _
+      (lacks_room _ (scene c.args.router.now c.args.sim.now.kernel.setup (firsts_of c.args.engine.now.plan.deployment.now) c.args.engine.now.plan.script) taken _ _ world c.requires.going.kept.fits.begun stands) refl,
 )
 
 pub returns-in-Err-round_or_pass-clause-part : goal.returns-in-Err-round_or_pass-clause-part
 returns-in-Err-round_or_pass-clause-part g c = (
-  memory_err _ _ _ _ _ _ c.end_for_memory-in-Err-round_or_pass.ensures,
+  refl,
   λ taken world stands.
       let core = ap (λ (k : Known). k.core) c.in-Ok.ensures.kept in
-      part_short _ _ _ _ c.end_for_memory-in-Err-round_or_pass.result taken _ _ _ c.round_or_pass.new.sim.buffer c.args.sim.now.buffer c.end_for_memory-in-Err-round_or_pass.new.buffer (g.O.Sinks.contents c.args.out.now) (g.O.Sinks.contents c.end_for_memory-in-Err-round_or_pass.new.out) _ _
+      part_short _ _ _ _ taken _ _ _ _ _
       (lacks_scene _ c.args.router.now (firsts_of c.args.engine.now.plan.deployment.now) c.args.engine.now.plan.script c.args.sim.now.kernel.setup c.reserve_round.new.self.setup taken _ world _ _ (ap (λ (k : Known). k.setup) c.in-Ok.ensures.kept)
-      (c.in-Err-round_or_pass.ensures.step taken world (record { script = stands.script; core = core ∙ stands.core; cast = stands.cast }))) c.round_or_pass.ensures.goes.seats.buffer
-      c.end_for_memory-in-Err-round_or_pass.ensures,
+      (c.in-Err-round_or_pass.ensures.step taken world (record { script = stands.script; core = core ∙ stands.core; cast = stands.cast }))) refl,
 )
 
-pub returns-in-Err-put_trace-clause-part : goal.returns-in-Err-put_trace-clause-part
-returns-in-Err-put_trace-clause-part g c = (
-  c.in-Err-put_trace.ensures.err_held,
+pub returns-in-Err-write_trace-clause-part : goal.returns-in-Err-write_trace-clause-part
+returns-in-Err-write_trace-clause-part g c = (
+  c.in-Err-write_trace.ensures.writes.err_held,
   λ taken world stands.
       let names = known_in c.args.engine.now.plan.deployment.now in
       let trace = trace_of c.args.engine.now.plan.terms.show c.args.engine.now.plan.platform.now c.args.engine.now.plan.deployment.now in
@@ -75,11 +74,10 @@ returns-in-Err-put_trace-clause-part g c = (
       let kept' = kept_of c.round_or_pass.new.sim.script in
       let same : mid ≡ record old { room = mid.room } = c.in-Ok.ensures.kept in
       let reached = c.in-Ok-round_or_pass.ensures.step taken world (record { script = stands.script; core = ap (λ (k : Known). k.core) same ∙ stands.core; cast = stands.cast }) in
-      let before = pending (g.O.Sinks.contents c.args.out.now Out) c.args.sim.now.buffer in
-      let after = g.O.Sinks.contents c.put_trace.new.out Out in
-      let front : AddsFront (trace new.records) before after =
-      subst (λ (b : List ℕ). AddsFront (trace new.records) (pending before.held b) after) c.round_or_pass.ensures.goes.seats.buffer
-      (subst (λ (l : List Record). AddsFront (trace l) (pending before.held c.round_or_pass.new.sim.buffer) after) c.records.ensures.are c.in-Err-put_trace.ensures.front) in
+      let before = g.O.Sinks.contents c.args.out.now Out in
+      let after = g.O.Sinks.contents c.write_trace.new.out Out in
+      let front : GainsFront (trace new.records) before after =
+      subst (λ (l : List Record). GainsFront (trace l) before after) c.records.ensures.are c.in-Err-write_trace.ensures.writes.front in
       cuts_off_at names trace (λ answers. round_or_pass (scene c.args.router.now old.setup (firsts_of c.args.engine.now.plan.deployment.now) c.args.engine.now.plan.script) answers world) c.in-Ok-round_or_pass.how taken _ part part' kept kept' mid new before after
       (scene_as names c.args.router.now (firsts_of c.args.engine.now.plan.deployment.now) c.args.engine.now.plan.script old.setup mid.setup c.in-Ok-round_or_pass.how taken _ world (moment part kept mid) (moment part' kept' new) (ap (λ (k : Known). k.setup) same) reached)
       (ap (λ (k : Known). k.records) same ∙ c.requires.going.kept.cleared) front,
@@ -87,7 +85,7 @@ returns-in-Err-put_trace-clause-part g c = (
 
 pub returns-clause-part : goal.returns-clause-part
 returns-clause-part g c = (
-  c.in-Ok-put_trace.ensures.err_held,
+  c.in-Ok-write_trace.ensures.writes.err_held,
   λ taken world stands.
       let names = known_in c.args.engine.now.plan.deployment.now in
       let trace = trace_of c.args.engine.now.plan.terms.show c.args.engine.now.plan.platform.now c.args.engine.now.plan.deployment.now in
@@ -102,11 +100,10 @@ returns-clause-part g c = (
       let kept' = kept_of c.round_or_pass.new.sim.script in
       let same : mid ≡ record old { room = mid.room } = c.in-Ok.ensures.kept in
       let reached = c.in-Ok-round_or_pass.ensures.step taken world (record { script = stands.script; core = ap (λ (k : Known). k.core) same ∙ stands.core; cast = stands.cast }) in
-      let before = pending (g.O.Sinks.contents c.args.out.now Out) c.args.sim.now.buffer in
-      let after = pending (g.O.Sinks.contents c.put_trace.new.out Out) c.put_trace.new.buffer in
-      let printed : Adds (trace new.records) before after =
-      subst (λ (b : List ℕ). Adds (trace new.records) (pending before.held b) after) c.round_or_pass.ensures.goes.seats.buffer
-      (subst (λ (l : List Record). Adds (trace l) (pending before.held c.round_or_pass.new.sim.buffer) after) c.records.ensures.are c.in-Ok-put_trace.ensures.written) in
+      let before = g.O.Sinks.contents c.args.out.now Out in
+      let after = g.O.Sinks.contents c.write_trace.new.out Out in
+      let printed : after ≡ gain before (trace new.records) =
+      subst (λ (l : List Record). after ≡ gain before (trace l)) c.records.ensures.are c.in-Ok-write_trace.ensures.writes.out_held in
       part_is names trace _ how taken _ _ _ before after c.in-Ok-round_or_pass.ensures.goes.script.uncut
       (advances names trace (λ answers. round_or_pass (scene c.args.router.now old.setup (firsts_of c.args.engine.now.plan.deployment.now) c.args.engine.now.plan.script) answers world) how taken _ part part' kept kept' old mid new before after
       (scene_as names c.args.router.now (firsts_of c.args.engine.now.plan.deployment.now) c.args.engine.now.plan.script old.setup mid.setup how taken _ world (moment part kept mid) (moment part' kept' new) (ap (λ (k : Known). k.setup) same) reached)
@@ -120,28 +117,28 @@ returns-clause-part g c = (
 )
 
 pub returns-in-Err-clause-cause : goal.returns-in-Err-clause-cause
-returns-in-Err-clause-cause g c = memory_cause _ _ _ _ _ _ _ c.end_for_memory.ensures
+returns-in-Err-clause-cause g c = memory_cause _ _
 
 pub returns-in-Err-clause-kept : goal.returns-in-Err-clause-kept
-returns-in-Err-clause-kept g c = short_kept _ _ c.end_for_memory.result _ _ _ (memory_cuts _ _ _ _ _ _ c.end_for_memory.ensures) (crew_cut false c.args.sim.now _ (crew_same c.args.sim.now _ refl (unstarted_as c.args.sim.now.kernel c.reserve_round.new.self c.in-Err.ensures.kept))) (ap (λ (k : Known). k.setup) c.in-Err.ensures.kept)
+returns-in-Err-clause-kept g c = short_kept _ _ ended.Memory _ _ _ refl (crew_cut false c.args.sim.now _ (crew_same c.args.sim.now _ refl (unstarted_as c.args.sim.now.kernel c.reserve_round.new.self c.in-Err.ensures.kept))) (ap (λ (k : Known). k.setup) c.in-Err.ensures.kept)
 
 pub returns-in-Err-clause-script : goal.returns-in-Err-clause-script
 returns-in-Err-clause-script g c = script_unread g.F.Files.shows c.args.engine.now.plan.script c.args.files.now
 
 pub returns-in-Err-round_or_pass-clause-cause : goal.returns-in-Err-round_or_pass-clause-cause
-returns-in-Err-round_or_pass-clause-cause g c = memory_cause _ _ _ _ _ _ _ c.end_for_memory-in-Err-round_or_pass.ensures
+returns-in-Err-round_or_pass-clause-cause g c = memory_cause _ _
 
 pub returns-in-Err-round_or_pass-clause-kept : goal.returns-in-Err-round_or_pass-clause-kept
 returns-in-Err-round_or_pass-clause-kept g c =
-    short_kept _ _ c.end_for_memory-in-Err-round_or_pass.result _ _ _ (memory_cuts _ _ _ _ _ _ c.end_for_memory-in-Err-round_or_pass.ensures)
+    short_kept _ _ ended.Memory _ _ _ refl
     (takes_as true c.args.sim.now c.round_or_pass.new.sim _ c.reserve_round.new.self c.in-Ok.ensures.kept c.in-Err-round_or_pass.ensures.goes.seats.crew refl refl)
     (c.round_or_pass.ensures.goes.seats.setup ∙ ap (λ (k : Known). k.setup) c.in-Ok.ensures.kept)
 
-pub returns-in-Err-put_trace-clause-cause : goal.returns-in-Err-put_trace-clause-cause
-returns-in-Err-put_trace-clause-cause g c = record { write = λ is. c.in-Err-put_trace.ensures.failed; sound = λ isnt. absurd (isnt refl); read = λ is. cc is }
+pub returns-in-Err-write_trace-clause-cause : goal.returns-in-Err-write_trace-clause-cause
+returns-in-Err-write_trace-clause-cause g c = record { write = λ is. c.in-Err-write_trace.ensures.writes.failed; sound = λ isnt. absurd (isnt refl); read = λ is. cc is }
 
-pub returns-in-Err-put_trace-clause-kept : goal.returns-in-Err-put_trace-clause-kept
-returns-in-Err-put_trace-clause-kept g c = record {
+pub returns-in-Err-write_trace-clause-kept : goal.returns-in-Err-write_trace-clause-kept
+returns-in-Err-write_trace-clause-kept g c = record {
   crew = crew_cut false c.args.sim.now _ (takes_as false c.args.sim.now c.round_or_pass.new.sim _ c.reserve_round.new.self c.in-Ok.ensures.kept c.in-Ok-round_or_pass.ensures.goes.seats.crew refl refl);
   setup = c.round_or_pass.ensures.goes.seats.setup ∙ ap (λ (k : Known). k.setup) c.in-Ok.ensures.kept;
   kept = tt;
@@ -150,7 +147,7 @@ returns-in-Err-put_trace-clause-kept g c = record {
 pub returns-clause-cause : goal.returns-clause-cause
 returns-clause-cause g c = record {
   write = λ is. absurd (uncut_write c.in-Ok-round_or_pass.how c.in-Ok-round_or_pass.ensures.goes.script.uncut is);
-  sound = λ isnt. c.in-Ok-put_trace.ensures.sound;
+  sound = λ isnt. c.in-Ok-write_trace.ensures.writes.sound;
   read = λ is. c.in-Ok-round_or_pass.ensures.goes.script.cause (ap (λ (h : Option Ended). Ok h) is);
 }
 
@@ -159,12 +156,12 @@ returns-clause-kept g c =
     let kept = c.requires.going.kept in
     let seats = c.in-Ok-round_or_pass.ensures.goes.seats in
     let setup = seats.setup ∙ ap (λ (k : Known). k.setup) c.in-Ok.ensures.kept in
-    let sim = record c.round_or_pass.new.sim { kernel = c.clear_records.new.self; buffer = c.put_trace.new.buffer } in
+    let sim = record c.round_or_pass.new.sim { kernel = c.clear_records.new.self; buffer = c.write_trace.new.buffer } in
     part_kept _ _ _ _ _ _ c.in-Ok-round_or_pass.ensures.goes.script.uncut
     (takes_as false c.args.sim.now c.round_or_pass.new.sim sim c.reserve_round.new.self c.in-Ok.ensures.kept seats.crew refl (ap (λ (k : Known). k.core) c.clear_records.ensures))
     (ap (λ (k : Known). k.setup) c.clear_records.ensures ∙ setup)
     (kept_on _ c.args.engine.now.plan.deployment.now _ sim c.round_or_pass.new.sim.kernel c.round_or_pass.ensures.goes.fits c.clear_records.ensures (ap (λ (s : Setup). length s.homes) setup ∙ kept.homes) seats.seated
-    (seats.number ∙ kept.number) (omega (arith, seats.calls, kept.calls)) kept.few (front_all (λ b. (goal.Actor-dyn g (b.vtable, b.value)).mind b.value ≡ None) _ _ seats.crew.front kept.blank))
+    (seats.number ∙ kept.number) (omega (arith, seats.calls, kept.calls)) kept.few (front_all (λ b. (goal.Actor-dyn g (b.vtable, b.value)).mind b.value ≡ None) _ _ seats.crew.front kept.blank) c.in-Ok-write_trace.ensures.empty)
 
 pub returns-clause-steps : goal.returns-clause-steps
 returns-clause-steps g c = next_as c.args.sim.now.kernel c.reserve_round.new.self c.args.steps.now c.round_or_pass.new.steps c.in-Ok.ensures.kept c.round_or_pass.ensures.steps
@@ -172,14 +169,14 @@ returns-clause-steps g c = next_as c.args.sim.now.kernel c.reserve_round.new.sel
 pub returns-in-Err-round_or_pass-clause-steps : goal.returns-in-Err-round_or_pass-clause-steps
 returns-in-Err-round_or_pass-clause-steps g c = next_as c.args.sim.now.kernel c.reserve_round.new.self c.args.steps.now c.round_or_pass.new.steps c.in-Ok.ensures.kept c.round_or_pass.ensures.steps
 
-pub returns-in-Err-put_trace-clause-steps : goal.returns-in-Err-put_trace-clause-steps
-returns-in-Err-put_trace-clause-steps g c = next_as c.args.sim.now.kernel c.reserve_round.new.self c.args.steps.now c.round_or_pass.new.steps c.in-Ok.ensures.kept c.round_or_pass.ensures.steps
+pub returns-in-Err-write_trace-clause-steps : goal.returns-in-Err-write_trace-clause-steps
+returns-in-Err-write_trace-clause-steps g c = next_as c.args.sim.now.kernel c.reserve_round.new.self c.args.steps.now c.round_or_pass.new.steps c.in-Ok.ensures.kept c.round_or_pass.ensures.steps
 
 pub returns-in-Err-round_or_pass-clause-script : goal.returns-in-Err-round_or_pass-clause-script
 returns-in-Err-round_or_pass-clause-script g c = c.in-Err-round_or_pass.ensures.goes.script.reads
 
-pub returns-in-Err-put_trace-clause-script : goal.returns-in-Err-put_trace-clause-script
-returns-in-Err-put_trace-clause-script g c = c.in-Ok-round_or_pass.ensures.goes.script.reads
+pub returns-in-Err-write_trace-clause-script : goal.returns-in-Err-write_trace-clause-script
+returns-in-Err-write_trace-clause-script g c = c.in-Ok-round_or_pass.ensures.goes.script.reads
 
 pub returns-clause-script : goal.returns-clause-script
 returns-clause-script g c = c.in-Ok-round_or_pass.ensures.goes.script.reads
@@ -204,8 +201,11 @@ round_or_pass-requires-clause-can g c κs within =
 pub returns-in-Err-round_or_pass-clause-router : goal.returns-in-Err-round_or_pass-clause-router
 returns-in-Err-round_or_pass-clause-router g c = c.in-Err-round_or_pass.ensures.goes.script.roads
 
-pub returns-in-Err-put_trace-clause-router : goal.returns-in-Err-put_trace-clause-router
-returns-in-Err-put_trace-clause-router g c = c.in-Ok-round_or_pass.ensures.goes.script.roads
+pub returns-in-Err-write_trace-clause-router : goal.returns-in-Err-write_trace-clause-router
+returns-in-Err-write_trace-clause-router g c = c.in-Ok-round_or_pass.ensures.goes.script.roads
 
 pub returns-clause-router : goal.returns-clause-router
 returns-clause-router g c = c.in-Ok-round_or_pass.ensures.goes.script.roads
+
+pub write_trace-requires-clause-empty : goal.write_trace-requires-clause-empty
+write_trace-requires-clause-empty g c = c.in-Ok-round_or_pass.ensures.goes.seats.buffer ∙ c.requires.going.kept.empty

@@ -18,8 +18,8 @@ invariant_of-end g c =
       };
     }
 
-pub finish-requires : goal.finish-requires
-finish-requires g c = sym c.is_cut.ensures ∙ c.if-is_cut.false
+pub finish-requires-clause-uncut : goal.finish-requires-clause-uncut
+finish-requires-clause-uncut g c = sym c.is_cut.ensures ∙ c.if-is_cut.false
 
 pub returns-then-is_cut-clause-output : goal.returns-then-is_cut-clause-output
 returns-then-is_cut-clause-output g c = λ source gives.
@@ -40,9 +40,10 @@ pub returns-else-is_cut-clause-output : goal.returns-else-is_cut-clause-output
 returns-else-is_cut-clause-output g c = λ source gives.
     let going = is_going c.args.engine.now.plan.script _ _ source (λ over. g.met.F.Files.nothing_left c.simulate-how.new.files Script over) gives in
     let over = in_over _ _ (sym c.is_cut.ensures ∙ c.if-is_cut.false) c.simulate-how.ensures.run in
+    let kept = in_over _ _ (sym c.is_cut.ensures ∙ c.if-is_cut.false) c.simulate-how.ensures.kept in
     record {
-      ends = run_ends c.args.steps.now c.simulate-how.new.steps (length c.simulate-how.new.sim.crew.items) c.args.engine.now.plan.platform.now c.args.engine.now.plan.deployment.now c.args.engine.now.plan.script c.args.engine.now.plan.terms.budget (crew_in c.args.engine.now.plan c.args.sim.now) c.args.engine.now.plan.terms.show c.simulate-how.result c.finish.result c.simulate-how.new.sim.kernel.core _ _ c.simulate-how.new.sim.buffer _ _ _ source
-          going over c.simulate-how.ensures.err c.finish.ensures.ends;
+      ends = run_ends c.args.steps.now c.simulate-how.new.steps (length c.simulate-how.new.sim.crew.items) c.args.engine.now.plan.platform.now c.args.engine.now.plan.deployment.now c.args.engine.now.plan.script c.args.engine.now.plan.terms.budget (crew_in c.args.engine.now.plan c.args.sim.now) c.args.engine.now.plan.terms.show c.simulate-how.result c.finish.result c.simulate-how.new.sim.kernel.core _ _ _ _ _ source
+          going over c.simulate-how.ensures.err (rw kept.empty at c.finish.ensures.ends);
       contexts = run_left c.args.steps.now c.simulate-how.new.steps (length c.simulate-how.new.sim.crew.items) c.args.engine.now.plan.platform.now c.args.engine.now.plan.deployment.now c.args.engine.now.plan.script c.args.engine.now.plan.terms.budget (crew_in c.args.engine.now.plan c.args.sim.now) c.args.engine.now.plan.terms.show c.simulate-how.result c.finish.result c.simulate-how.new.sim.kernel.core _ _ _ _ source going over;
       work = run_work c.args.steps.now c.simulate-how.new.steps (length c.simulate-how.new.sim.crew.items) c.args.engine.now.plan.platform.now c.args.engine.now.plan.deployment.now c.args.engine.now.plan.script c.args.engine.now.plan.terms.budget (crew_in c.args.engine.now.plan c.args.sim.now) c.args.engine.now.plan.terms.show c.simulate-how.result c.simulate-how.new.sim.kernel.core _ _ _ _ source going over;
       needed = run_needed c.args.engine.now.plan.platform.now c.args.engine.now.plan.deployment.now c.args.engine.now.plan.script c.args.engine.now.plan.terms.budget (crew_in c.args.engine.now.plan c.args.sim.now) c.args.engine.now.plan.terms.show over.piece _ _ source going over.reads
@@ -70,10 +71,11 @@ returns-else-is_cut-clause-ending g c =
     let over = in_over _ _ (sym c.is_cut.ensures ∙ c.if-is_cut.false) c.simulate-how.ensures.run in
     let cause = c.finish.ensures.cause in
     let script = c.simulate-how.ensures.script in
+    let sound = c.simulate-how.ensures.cause.sound (not_write c.simulate-how.result (sym c.is_cut.ensures ∙ c.if-is_cut.false)) in
     record {
       cause = record {
-        write = cause.write;
-        sound = λ isnt. cause.sound isnt ∙ c.simulate-how.ensures.cause.sound (not_write c.simulate-how.result (sym c.is_cut.ensures ∙ c.if-is_cut.false));
+        write = λ is. omega (arith, cause.write is, sound);
+        sound = λ isnt. cause.sound isnt ∙ sound;
         read = λ is. broken_part c.args.engine.now.plan.script over.piece _ _ over.reads (c.simulate-how.ensures.cause.read (cause.read is));
       };
       memory = λ is. absurd (c.finish.ensures.memory is);
@@ -84,3 +86,6 @@ returns-else-is_cut-clause-ending g c =
         telling = goes_on_telling c.args.engine.now.plan.script over.piece _ _ over.reads (λ isnt. ap (λ (f : _). g.F.Files.shows f Script) (script.unscripted isnt));
       };
     }
+
+pub finish-requires-clause-sound : goal.finish-requires-clause-sound
+finish-requires-clause-sound g c = c.simulate-how.ensures.cause.sound (not_write c.simulate-how.result (sym c.is_cut.ensures ∙ c.if-is_cut.false)) ∙ c.requires.sound

@@ -11,7 +11,6 @@ use Rattle.sg_engine.specs.declared.ended.Ended.TheVariants as ended
 use Rattle.sg_engine.specs.RunContract.{is_cut}
 use Rattle.sg_engine.specs.kept.Moments.{script_part}
 use Rattle.sg_engine.specs.kept.Invariant.{at_moment, crew_in}
-use Rattle.sg_engine.specs.kept.Writing.{pending}
 use Rattle.sg_engine.specs.Output.{first_of, trace_of, scene_of}
 use Rattle.sg_engine.specs.Roles.{firsts_of}
 use Rattle.sg_engine.specs.Run.{scene, run_of, run_from, next_work}
@@ -30,10 +29,10 @@ loop-turn-init g c =
     let first = c.requires.beginning.first in
     let none : c.args.engine.now.plan.terms.budget + 1 - 0 ≡ c.args.engine.now.plan.terms.budget + 1 = omega arith in
     record {
-      far = far_first c.args.steps.now (known_in deployed) (trace_of c.args.engine.now.plan.terms.show platform deployed) (run_of at origin) (rest_of (c.args.engine.now.plan.terms.budget + 1 - 0) at) _ (script_part c.args.engine.now.plan.script (g.F.Files.shows c.args.files.now Script)) (kept_of c.args.sim.now.script) c.args.sim.now.kernel (g.O.Sinks.contents c.args.out.now Out) c.args.sim.now.buffer
+      far = far_first c.args.steps.now (known_in deployed) (trace_of c.args.engine.now.plan.terms.show platform deployed) (run_of at origin) (rest_of (c.args.engine.now.plan.terms.budget + 1 - 0) at) _ (script_part c.args.engine.now.plan.script (g.F.Files.shows c.args.files.now Script)) (kept_of c.args.sim.now.script) c.args.sim.now.kernel (g.O.Sinks.contents c.args.out.now Out)
           origin first.kept.fits.begun first.stands
           (λ answers. sym (ap (λ n. run_from n at answers origin) none))
-          refl (trace_none c.args.engine.now.plan.terms.show platform deployed) first.empty;
+          refl (trace_none c.args.engine.now.plan.terms.show platform deployed);
       kept = first.kept;
       crew = crew_same c.args.sim.now c.args.sim.now refl (omega arith);
       router = refl;
@@ -77,8 +76,8 @@ returns-in-Some-clause-run g c =
     let how = c.in-Some.how in
     let old = at_moment (script_part c.args.engine.now.plan.script (g.F.Files.shows c.loop-turn.files Script)) c.loop-turn.sim in
     let new = at_moment (script_part c.args.engine.now.plan.script (g.F.Files.shows c.advance.new.files Script)) c.advance.new.sim in
-    let before = pending (g.O.Sinks.contents c.loop-turn.out Out) c.loop-turn.sim.buffer in
-    let after = pending (g.O.Sinks.contents c.advance.new.out Out) c.advance.new.sim.buffer in
+    let before = g.O.Sinks.contents c.loop-turn.out Out in
+    let after = g.O.Sinks.contents c.advance.new.out Out in
     let leads = rw inv.router at c.in-Some.ensures.part in
     let part = leads.1 far.reached.piece far.reached.world (record { script = far.reached.stands.script; core = far.reached.stands.core; cast = far.reached.stands.cast }) in
     let next = far.reached.world.work + next_work far.reached.world.core in
@@ -88,7 +87,7 @@ returns-in-Some-clause-run g c =
     work_more c.args.steps.now c.loop-turn.steps c.advance.new.steps far.spent far.reached.world.work (next_work c.loop-turn.sim.kernel.core) (next_work far.reached.world.core) far.worked far.reached.work
     (ap next_work far.reached.stands.core) c.in-Some.ensures.steps in
     far_ends c.args.steps.now c.loop-turn.steps c.advance.new.steps names trace (trace_appends c.args.engine.now.plan.terms.show platform deployed) (run_of at origin) how (is_cut how) n m at _ _
-    _ _ _ _ _ _ c.args.sim.now.kernel c.loop-turn.sim.kernel c.advance.new.sim.kernel (pending (g.O.Sinks.contents c.args.out.now Out) []) before after far more (sym c.ending.ensures.is ∙ c.if-ending.false) c.requires.beginning.first.kept.cleared inv.kept.cleared part' worked
+    _ _ _ _ _ _ c.args.sim.now.kernel c.loop-turn.sim.kernel c.advance.new.sim.kernel (g.O.Sinks.contents c.args.out.now Out) before after far more (sym c.ending.ensures.is ∙ c.if-ending.false) c.requires.beginning.first.kept.cleared inv.kept.cleared part' worked
 
 pub loop-turn-preserved : goal.loop-turn-preserved
 loop-turn-preserved g c =
@@ -105,8 +104,8 @@ loop-turn-preserved g c =
     let more : n ≡ suc m = omega (arith, c.loop-turn-test.true) in
     let old = at_moment (script_part c.args.engine.now.plan.script (g.F.Files.shows c.loop-turn.files Script)) c.loop-turn.sim in
     let new = at_moment (script_part c.args.engine.now.plan.script (g.F.Files.shows c.advance.new.files Script)) c.advance.new.sim in
-    let before = pending (g.O.Sinks.contents c.loop-turn.out Out) c.loop-turn.sim.buffer in
-    let after = pending (g.O.Sinks.contents c.advance.new.out Out) c.advance.new.sim.buffer in
+    let before = g.O.Sinks.contents c.loop-turn.out Out in
+    let after = g.O.Sinks.contents c.advance.new.out Out in
     let leads = rw inv.router at c.in-None.ensures.part in
     let part = leads.1 far.reached.piece far.reached.world (record { script = far.reached.stands.script; core = far.reached.stands.core; cast = far.reached.stands.cast }) in
     let next = far.reached.world.work + next_work far.reached.world.core in
@@ -117,7 +116,7 @@ loop-turn-preserved g c =
     (ap next_work far.reached.stands.core) c.in-None.ensures.steps in
     record {
       far = far_on c.args.steps.now c.loop-turn.steps c.advance.new.steps names trace (trace_appends c.args.engine.now.plan.terms.show platform deployed) (run_of at origin) n m at _ _
-          _ _ _ _ _ _ c.args.sim.now.kernel c.loop-turn.sim.kernel c.advance.new.sim.kernel (pending (g.O.Sinks.contents c.args.out.now Out) []) before after far more (sym c.ending.ensures.is ∙ c.if-ending.false) c.requires.beginning.first.kept.cleared inv.kept.cleared part' worked;
+          _ _ _ _ _ _ c.args.sim.now.kernel c.loop-turn.sim.kernel c.advance.new.sim.kernel (g.O.Sinks.contents c.args.out.now Out) before after far more (sym c.ending.ensures.is ∙ c.if-ending.false) c.requires.beginning.first.kept.cleared inv.kept.cleared part' worked;
       kept = c.in-None.ensures.kept.kept;
       crew = crew_then false c.args.sim.now c.loop-turn.sim c.advance.new.sim inv.crew c.in-None.ensures.kept.crew;
       router = c.in-None.ensures.router ∙ inv.router;

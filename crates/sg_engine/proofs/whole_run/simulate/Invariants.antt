@@ -7,7 +7,6 @@ use Rattle.sg_engine.specs.kept.Invariant.{cast_in, crew_in, IsKept, TakesCrew}
 use Rattle.sg_engine.specs.Output.{first_of, trace_of, scene_of}
 use Rattle.sg_engine.specs.kept.Moments.{script_part, ReadsScript}
 use Rattle.sg_engine.specs.Run.{run_of}
-use Rattle.sg_engine.specs.kept.Writing.{pending}
 use Rattle.sg_engine.proofs.Simulating.{rest_of, SoFar}
 use Rattle.sg_engine.proofs.whole_run.simulate.Given as goal
 
@@ -16,7 +15,7 @@ invariant-loop-turn g l =
     let at = scene_of l.engine.plan.platform.now l.engine.plan.deployment.now l.engine.plan.script l.engine.plan.terms.budget in
     record {
       far : SoFar l.fn.steps l.steps (known_in l.engine.plan.deployment.now) (trace_of l.engine.plan.terms.show l.engine.plan.platform.now l.engine.plan.deployment.now) (run_of at (first_of l.engine.plan.platform.now l.engine.plan.deployment.now l.engine.plan.terms.budget (crew_in l.engine.plan l.fn.sim))) (rest_of (l.engine.plan.terms.budget + 1 - l._turn) at) (cast_in (λ b. (goal.Actor-dyn g (b.vtable, b.value)).mind b.value) l.sim)
-          (script_part l.engine.plan.script (g.F.Files.shows l.fn.files Script)) (script_part l.engine.plan.script (g.F.Files.shows l.files Script)) (kept_of l.fn.sim.script) (kept_of l.sim.script) l.fn.sim.kernel l.sim.kernel (pending (g.O.Sinks.contents l.fn.out Out) []) (pending (g.O.Sinks.contents l.out Out) l.sim.buffer);
+          (script_part l.engine.plan.script (g.F.Files.shows l.fn.files Script)) (script_part l.engine.plan.script (g.F.Files.shows l.files Script)) (kept_of l.fn.sim.script) (kept_of l.sim.script) l.fn.sim.kernel l.sim.kernel (g.O.Sinks.contents l.fn.out Out) (g.O.Sinks.contents l.out Out);
       kept : IsKept (λ b. (goal.Actor-dyn g (b.vtable, b.value)).mind b.value) l.engine.plan.deployment.now (script_part l.engine.plan.script (g.F.Files.shows l.files Script)) l.sim;
       crew : TakesCrew false l.fn.sim l.sim;
       router : l.router ≡ l.fn.router;
