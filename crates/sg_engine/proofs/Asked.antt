@@ -21,7 +21,9 @@ use Rattle.sg_script.specs.Stands.{one_more}
 use Rattle.sg_script.specs.declared.fault.ScriptFault.{ScriptFault}
 use Rattle.sg_script.proofs.AllNeeds.{one_more_rises}
 use Rattle.sg_engine.specs.World.{World}
+use Rattle.sg_engine.specs.Fuel.{parts_from}
 use Rattle.sg_engine.specs.Output.{first_of, scene_of}
+use Rattle.sg_engine.specs.Pace.{first_parts}
 use Rattle.sg_engine.specs.declared.ended.Ended.{Ended}
 use Rattle.sg_engine.specs.declared.ended.Ended.TheVariants as ended
 use Rattle.sg_engine.specs.Run.{Scene, Answering, Progress, at_world, and_then, and_then_by, answer_step, anyone_ready, are_completed, ask_step, call_after, calls_from, created_by, creates, if_call, if_given, in_world, inboxes, is_ask, is_given, mind_after, minds_if, one_call, other_call, round, round_or_pass, run_from, run_of, zip_with}
@@ -138,6 +140,23 @@ run_by (suc parts) n at answers world by =
     let here : IsAskedBy n first.world = part_by n at answers world by in
     by_test (IsAskedBy n) (are_completed world.core) (at_world (Some ended.Completed) world) (and_then first (run_from parts at answers)) by
     (by_end (IsAskedBy n) first.ended first (run_from parts at answers) here (run_by parts n at answers first.world here))
+
+parts_by : (parts n : ℕ) (at : Scene) (answers : Answering) (world : World) → IsAskedBy n world → IsAskedBy n (parts_from parts at answers world).world
+unfolding parts_from
+parts_by zero n at answers world by = by
+parts_by (suc parts) n at answers world by =
+    let first = round_or_pass at answers world in
+    let here : IsAskedBy n first.world = part_by n at answers world by in
+    by_test (IsAskedBy n) (are_completed world.core) (at_world (Some ended.Completed) world) (and_then first (parts_from parts at answers)) by
+    (by_end (IsAskedBy n) first.ended first (parts_from parts at answers) here (parts_by parts n at answers first.world here))
+
+-- in the first parts of the run of a deployment nobody else asks
+pub only_actors_by : (platform : Platform) (deployed : Deployed) (script : Bool) (budget crew parts : ℕ) (answers : Answering) (x : ℕ) → length deployed.actors < x → (first_parts platform deployed script budget crew parts answers).world.asks x ≡ 0
+only_actors_by platform deployed script budget crew parts answers =
+    (parts_by parts (length deployed.actors) (scene_of platform deployed script budget) answers (first_of platform deployed budget crew) (record {
+      minds = omega (arith, length-minds_from 1 deployed.actors);
+      asks = λ x past. refl;
+    })).asks
 
 -- in the run of a deployment nobody else asks
 pub only_actors : (platform : Platform) (deployed : Deployed) (script : Bool) (budget crew : ℕ) (answers : Answering) (x : ℕ) → length deployed.actors < x → (run_of (scene_of platform deployed script budget) (first_of platform deployed budget crew) answers).world.asks x ≡ 0

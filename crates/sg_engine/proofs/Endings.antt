@@ -112,7 +112,7 @@ run_cut left platform deployed script budget crew show how p0 p1 old new source 
 pub takes_none : (bound : ℕ) (old new : PartView) → new ≡ old → TakesUpTo bound old new
 takes_none bound old new same = subst (λ (p : PartView). TakesUpTo bound old p) (sym same) (record { bytes = []; left = sym (before-nil old.left); few = omega arith })
 
-takes_up : (script : Bool) (piece : List ℕ) (old new : PartView) (bound : ℕ) → Reads piece (script_part script old) (script_part script new) → (script ≡ false → new ≡ old) → length piece ≤ bound → TakesUpTo bound old new
+pub takes_up : (script : Bool) (piece : List ℕ) (old new : PartView) (bound : ℕ) → Reads piece (script_part script old) (script_part script new) → (script ≡ false → new ≡ old) → length piece ≤ bound → TakesUpTo bound old new
 takes_up true piece old new bound reads same few = record { bytes = piece; left = reads.left; few = few }
 takes_up false piece old new bound reads same few = takes_none bound old new (same refl)
 

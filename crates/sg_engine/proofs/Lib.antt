@@ -10,6 +10,7 @@ pub mod Fuel
 pub mod Leaving
 pub mod Listing
 pub mod Merging
+pub mod Paces
 pub mod Parts
 pub mod PutLines
 pub mod Queues

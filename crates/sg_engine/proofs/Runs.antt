@@ -19,6 +19,7 @@ use Rattle.sg_engine.specs.World.{World}
 use Rattle.sg_engine.specs.declared.actor_call.ActorCall.{ActorCall}
 use Rattle.sg_engine.specs.declared.ended.Ended.{Ended}
 use Rattle.sg_engine.specs.declared.ended.Ended.TheVariants as ended
+use Rattle.sg_engine.specs.Fuel.{parts_from}
 use Rattle.sg_engine.specs.kept.CallList.{calls_of}
 use Rattle.sg_engine.specs.Run.{Scene, Answering, Progress, at_world, and_then, and_then_by, answer_step, anyone_ready, are_completed, ask_step, call_after, calls_from, created_by, creates, if_call, if_given, in_world, inboxes, is_ask, is_given, mind_after, minds_if, one_call, other_call, round, round_or_pass, run_from, unless_killed, zip_with}
 
@@ -41,7 +42,7 @@ by_end P None first next before after = after
 by_end P (Some how) first next before after = before
 
 -- one stretch, and then another
-then_keeps : {R : World → World → Type 0} → Keeps R → (first : Progress) (next : World → Progress) (world : World) → R world first.world → ((mid : World) → R mid (next mid).world) → R world (and_then first next).world
+pub then_keeps : {R : World → World → Type 0} → Keeps R → (first : Progress) (next : World → Progress) (world : World) → R world first.world → ((mid : World) → R mid (next mid).world) → R world (and_then first next).world
 then_keeps {R} keeps first next world before after =
     by_end (R world) first.ended first next before (keeps.then world first.world (next first.world).world before (after first.world))
 
@@ -116,6 +117,13 @@ run_keeps keeps zero at answers world = keeps.same world
 run_keeps {R} keeps (suc n) at answers world =
     by_test (R world) (are_completed world.core) (at_world (Some ended.Completed) world) (and_then (round_or_pass at answers world) (run_from n at answers)) (keeps.same world)
     (then_keeps keeps (round_or_pass at answers world) (run_from n at answers) world (part_keeps keeps at answers world) (λ mid. run_keeps keeps n at answers mid))
+
+pub parts_keep : {R : World → World → Type 0} → Keeps R → (n : ℕ) (at : Scene) (answers : Answering) (world : World) → R world (parts_from n at answers world).world
+unfolding parts_from
+parts_keep keeps zero at answers world = keeps.same world
+parts_keep {R} keeps (suc n) at answers world =
+    by_test (R world) (are_completed world.core) (at_world (Some ended.Completed) world) (and_then (round_or_pass at answers world) (parts_from n at answers)) (keeps.same world)
+    (then_keeps keeps (round_or_pass at answers world) (parts_from n at answers) world (part_keeps keeps at answers world) (λ mid. parts_keep keeps n at answers mid))
 
 -- from behind one part on
 pub run_keeps_behind : {R : World → World → Type 0} → Keeps R → (n : ℕ) (first : Progress) (at : Scene) (answers : Answering) → R first.world (and_then first (run_from n at answers)).world

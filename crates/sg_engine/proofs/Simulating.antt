@@ -10,6 +10,7 @@ use Rattle.sg_edge.specs.Files.{PartView}
 use Rattle.sg_edge.specs.declared.files.Stage.TheVariants.{Fresh}
 use Rattle.sg_edge.specs.declared.files.Part.{Part}
 use Rattle.sg_edge.specs.Sinks.{gain, GainsFront}
+use Rattle.sg_edge.specs.Sources.{Source}
 use Rattle.sg_edge.proofs.Writing.{gain-nil}
 use Rattle.sg_calls.specs.Known.{Known}
 use Rattle.sg_base.specs.Limits.{Extent}
@@ -132,20 +133,11 @@ part_as spent names trace at at' how taken cast world old new before after same 
 pub part_is : {spent : ℕ} (names : Names) (trace : Trace) (whole : Answering → Progress) (how : Option Ended) (taken : List ℕ) (cast : Cast) (old new : Moment) (before after : Option (List ℕ)) → cuts how ≡ false → Advances spent names trace whole how taken cast old new before after → PartIs spent names trace whole how taken cast old new before after
 part_is names trace whole how taken cast old new before after uncut advances = rw uncut advances
 
--- a part that did
-pub part_cuts : (spent : ℕ) (names : Names) (trace : Trace) (whole : Answering → Progress) (how : Option Ended) (taken : List ℕ) (cast : Cast) (old new : Moment) (before after : Option (List ℕ)) → cuts how ≡ true → CutsOff names trace whole taken cast.contexts old.part new.part before after → PartIs spent names trace whole how taken cast old new before after
-part_cuts spent names trace whole how taken cast old new before after is cut = rw is cut
-
 -- what it keeps
 pub part_kept : {A : Type 0} (mind : A → Option Mind) (plan : Plan) (how : Option Ended) (shows : Part → PartView) (old new : Simulation A) → cuts how ≡ false → TakesCrew false old new → new.kernel.setup ≡ old.kernel.setup → Holds mind plan shows new → StaysKept mind plan how shows old new
 part_kept mind plan how shows old new uncut crew setup kept = record { crew = rw uncut crew; setup = setup; kept = rw uncut kept }
 
--- a part for which memory was wanting
-pub part_short : (spent : ℕ) (names : Names) (trace : Trace) (whole : Answering → Progress) (taken : List ℕ) (cast : Cast) (old new : Moment) (before after : Option (List ℕ)) → LacksMemory names whole taken cast.contexts old.part new.part → after ≡ before →
-    PartIs spent names trace whole (Some ended.Memory) taken cast old new before after
-part_short spent names trace whole taken cast old new before after lacks same = cuts_off_by names trace whole taken cast.contexts old.part new.part before after lacks same
-
--- behind it nothing is kept but the setup
+-- behind a part for which memory was wanting nothing is kept but the setup
 pub short_kept : {A : Type 0} (mind : A → Option Mind) (plan : Plan) (how : Ended) (shows : Part → PartView) (old new : Simulation A) → is_cut how ≡ true → TakesCrew true old new → new.kernel.setup ≡ old.kernel.setup → StaysKept mind plan (Some how) shows old new
 short_kept mind plan how shows old new cut crew setup = record { crew = rw cut crew; setup = setup; kept = rw cut tt }
 
@@ -349,18 +341,19 @@ cut_off from later names trace appends whole n m at cast left p0 p1 p2 q0 q1 k0 
       omega (arith, all, worked, run_rises_behind m at answers reached.world);
 }
 
--- ---- the run so far, with its trace lines
-pub record SoFar (start count : ℕ) (names : Names) (trace : Trace) (whole : Answering → Progress) (rest : Answering → World → Progress) (cast : Cast) (p0 p1 : PartView) (q0 q1 : Kept) (k0 k1 : Known) (before after : Option (List ℕ)) : Type 0 where
+-- ---- the run so far, with its trace lines, by the parts that were made
+pub record SoFar (start count : ℕ) (names : Names) (trace : Trace) (whole : Answering → Progress) (rest : Answering → World → Progress) (parts : Answering → Progress) (cast : Cast) (p0 p1 : PartView) (q0 q1 : Kept) (k0 k1 : Known) (before after : Option (List ℕ)) : Type 0 where
   pub records : List Record
   pub spent : ℕ
   pub worked : count ≤ start + spent
   pub reached : IsStretch spent names whole rest [] cast (moment p0 q0 k0) (moment p1 q1 (record k1 { records = records }))
   pub printed : after ≡ gain before (trace reached.made)
+  pub counted : (source : Source) → GoesOn reached.piece p1.stage source → parts (answer_of names source) ≡ record { world = reached.world; made = reached.made; ended = None }
 
 -- at the beginning
-pub far_first : (start : ℕ) (names : Names) (trace : Trace) (whole : Answering → Progress) (rest : Answering → World → Progress) (cast : Cast) (part : PartView) (kept : Kept) (known : Known) (held : Option (List ℕ)) (world : World) →
-    part.stage ≢ Fresh → StandsFor names [] cast (moment part kept known) world → ((answers : Answering) → whole answers ≡ rest answers world) → world.work ≡ 0 → trace [] ≡ [] → SoFar start start names trace whole rest cast part part kept kept known known held held
-far_first start names trace whole rest cast part kept known held world begun stands same idle none = record {
+pub far_first : (start : ℕ) (names : Names) (trace : Trace) (whole : Answering → Progress) (rest : Answering → World → Progress) (parts : Answering → Progress) (cast : Cast) (part : PartView) (kept : Kept) (known : Known) (held : Option (List ℕ)) (world : World) →
+    part.stage ≢ Fresh → StandsFor names [] cast (moment part kept known) world → ((answers : Answering) → whole answers ≡ rest answers world) → ((answers : Answering) → parts answers ≡ record { world = world; made = []; ended = None }) → world.work ≡ 0 → trace [] ≡ [] → SoFar start start names trace whole rest parts cast part part kept kept known known held held
+far_first start names trace whole rest parts cast part kept known held world begun stands same first idle none = record {
   records = known.records;
   spent = 0;
   worked = omega arith;
@@ -376,6 +369,7 @@ far_first start names trace whole rest cast part kept known held world begun sta
     is = λ source goes. same (answer_of names source);
   };
   printed = sym (ap (gain held) none ∙ gain-nil held);
+  counted = λ source goes. first (answer_of names source);
 }
 
 -- the lines of a part stand behind those of the run so far
@@ -385,10 +379,12 @@ far_printed trace appends so_far records made start before after same first then
     subst (λ (l : List ℕ). after ≡ gain start l) text (gains_then (trace so_far) (trace records) start before after first then)
 
 -- one part more
-pub far_on : {next : ℕ} (from count later : ℕ) (names : Names) (trace : Trace) → Appends trace → (whole : Answering → Progress) (n m : ℕ) (at : Scene) (cast cast' : Cast) (p0 p1 p2 : PartView) (q0 q1 q2 : Kept) (k0 k1 k2 : Known) (start before after : Option (List ℕ)) →
-    (far : SoFar from count names trace whole (rest_of n at) cast p0 p1 q0 q1 k0 k1 start before) → n ≡ suc m → list_all is_over k1.core.actors ≡ false → k0.records ≡ [] → k1.records ≡ [] →
-    Advances next names trace (λ answers. round_or_pass at answers far.reached.world) None far.reached.piece cast' (moment p1 q1 k1) (moment p2 q2 k2) before after → later ≤ from + next → SoFar from later names trace whole (rest_of m at) cast' p0 p2 q0 q2 k0 k2 start after
-far_on {next} from count later names trace appends whole n m at cast cast' p0 p1 p2 q0 q1 q2 k0 k1 k2 start before after far more some first cleared part worked =
+pub far_on : {next : ℕ} (from count later : ℕ) (names : Names) (trace : Trace) → Appends trace → (whole : Answering → Progress) (n m : ℕ) (at : Scene) (parts parts' : Answering → Progress) (cast cast' : Cast) (p0 p1 p2 : PartView) (q0 q1 q2 : Kept) (k0 k1 k2 : Known) (start before after : Option (List ℕ)) →
+    (far : SoFar from count names trace whole (rest_of n at) parts cast p0 p1 q0 q1 k0 k1 start before) → n ≡ suc m → list_all is_over k1.core.actors ≡ false → k0.records ≡ [] → k1.records ≡ [] →
+    Advances next names trace (λ answers. round_or_pass at answers far.reached.world) None far.reached.piece cast' (moment p1 q1 k1) (moment p2 q2 k2) before after → later ≤ from + next →
+    (list_all is_over far.reached.world.core.actors ≡ false → (answers : Answering) → parts answers ≡ record { world = far.reached.world; made = far.reached.made; ended = None } → parts' answers ≡ with_front far.reached.made (round_or_pass at answers far.reached.world)) →
+    SoFar from later names trace whole (rest_of m at) parts' cast' p0 p2 q0 q2 k0 k2 start after
+far_on {next} from count later names trace appends whole n m at parts parts' cast cast' p0 p1 p2 q0 q1 q2 k0 k1 k2 start before after far more some first cleared part worked one_more =
     let made : part.records ≡ part.reached.made = part.reached.records ∙ ap (λ (l : List Record). l ++ part.reached.made) cleared in
     record {
       records = far.reached.made ++ part.records;
@@ -396,22 +392,28 @@ far_on {next} from count later names trace appends whole n m at cast cast' p0 p1
       worked = worked;
       reached = part_on names trace whole n m at cast cast' p0 p1 p2 q0 q1 q2 k0 k1 (record k1 { records = far.records }) k2 before after far.reached more refl refl some first part cleared;
       printed = far_printed trace appends far.reached.made part.records part.reached.made start before after made far.printed part.printed;
+      counted = λ source goes.
+          let answers = answer_of names source in
+          let some_here : list_all is_over far.reached.world.core.actors ≡ false = ap (λ (c : Core). list_all is_over c.actors) (sym far.reached.stands.core) ∙ some in
+          one_more some_here answers (far.counted source (goes_back far.reached.piece part.reached.piece p1 p2 source part.reached.reads goes))
+          ∙ ap (with_front far.reached.made) (part.reached.is source goes)
+          ∙ ap (λ (l : List Record). record { world = part.reached.world; made = far.reached.made ++ l; ended = None }) (append-nil part.reached.made);
     }
 
 -- the last part
-pub far_over : {next : ℕ} (from count later : ℕ) (names : Names) (trace : Trace) → Appends trace → (whole : Answering → Progress) (how : Ended) (n m : ℕ) (at : Scene) (cast cast' : Cast) (p0 p1 p2 : PartView) (q0 q1 q2 : Kept) (k0 k1 k2 : Known) (start before after : Option (List ℕ)) →
-    (far : SoFar from count names trace whole (rest_of n at) cast p0 p1 q0 q1 k0 k1 start before) → n ≡ suc m → list_all is_over k1.core.actors ≡ false → k0.records ≡ [] → k1.records ≡ [] →
+pub far_over : {next : ℕ} (from count later : ℕ) (names : Names) (trace : Trace) → Appends trace → (whole : Answering → Progress) (how : Ended) (n m : ℕ) (at : Scene) (parts : Answering → Progress) (cast cast' : Cast) (p0 p1 p2 : PartView) (q0 q1 q2 : Kept) (k0 k1 k2 : Known) (start before after : Option (List ℕ)) →
+    (far : SoFar from count names trace whole (rest_of n at) parts cast p0 p1 q0 q1 k0 k1 start before) → n ≡ suc m → list_all is_over k1.core.actors ≡ false → k0.records ≡ [] → k1.records ≡ [] →
     Advances next names trace (λ answers. round_or_pass at answers far.reached.world) (Some how) far.reached.piece cast' (moment p1 q1 k1) (moment p2 q2 k2) before after → later ≤ from + next → IsOver from later cast'.contexts names trace whole how k2.core p0 p2 start after
-far_over from count later names trace appends whole how n m at cast cast' p0 p1 p2 q0 q1 q2 k0 k1 k2 start before after far more some first cleared part worked =
+far_over from count later names trace appends whole how n m at parts cast cast' p0 p1 p2 q0 q1 q2 k0 k1 k2 start before after far more some first cleared part worked =
     let made : part.records ≡ part.reached.made = part.reached.records ∙ ap (λ (l : List Record). l ++ part.reached.made) cleared in
     over_by from later names trace whole how cast' p0 p2 q0 q2 k0 (record k2 { records = far.reached.made ++ part.records }) k2.core start after
     (part_last names trace whole how n m at cast cast' p0 p1 p2 q0 q1 q2 k0 k1 (record k1 { records = far.records }) k2 before after far.reached more refl refl some first part cleared) refl
     (far_printed trace appends far.reached.made part.records part.reached.made start before after made far.printed part.printed) worked
 
 -- what a part did that ended the run or cut it off
-pub far_ends : (from count later : ℕ) (names : Names) (trace : Trace) → Appends trace → (whole : Answering → Progress) (how : Ended) (b : Bool) (n m : ℕ) (at : Scene) (cast cast' : Cast) (p0 p1 p2 : PartView) (q0 q1 q2 : Kept) (k0 k1 k2 : Known) (start before after : Option (List ℕ)) →
-    (far : SoFar from count names trace whole (rest_of n at) cast p0 p1 q0 q1 k0 k1 start before) → n ≡ suc m → list_all is_over k1.core.actors ≡ false → k0.records ≡ [] → k1.records ≡ [] →
+pub far_ends : (from count later : ℕ) (names : Names) (trace : Trace) → Appends trace → (whole : Answering → Progress) (how : Ended) (b : Bool) (n m : ℕ) (at : Scene) (parts : Answering → Progress) (cast cast' : Cast) (p0 p1 p2 : PartView) (q0 q1 q2 : Kept) (k0 k1 k2 : Known) (start before after : Option (List ℕ)) →
+    (far : SoFar from count names trace whole (rest_of n at) parts cast p0 p1 q0 q1 k0 k1 start before) → n ≡ suc m → list_all is_over k1.core.actors ≡ false → k0.records ≡ [] → k1.records ≡ [] →
     MatchBool b (CutsOff names trace (λ answers. round_or_pass at answers far.reached.world) far.reached.piece cast'.contexts p1 p2 before after) (Advances (work_behind far.reached.world) names trace (λ answers. round_or_pass at answers far.reached.world) (Some how) far.reached.piece cast' (moment p1 q1 k1) (moment p2 q2 k2) before after) →
     later ≤ from + work_behind far.reached.world → MatchBool b (IsCutOff from later cast'.contexts names trace whole p0 p2 start after) (IsOver from later cast'.contexts names trace whole how k2.core p0 p2 start after)
-far_ends from count later names trace appends whole how true n m at cast cast' p0 p1 p2 q0 q1 q2 k0 k1 k2 start before after far more some first cleared cut worked = cut_off from later names trace appends whole n m at cast cast'.contexts p0 p1 p2 q0 q1 k0 (record k1 { records = far.records }) start before after far.reached more some far.printed cut worked
-far_ends from count later names trace appends whole how false n m at cast cast' p0 p1 p2 q0 q1 q2 k0 k1 k2 start before after far more some first cleared part worked = far_over from count later names trace appends whole how n m at cast cast' p0 p1 p2 q0 q1 q2 k0 k1 k2 start before after far more some first cleared part worked
+far_ends from count later names trace appends whole how true n m at parts cast cast' p0 p1 p2 q0 q1 q2 k0 k1 k2 start before after far more some first cleared cut worked = cut_off from later names trace appends whole n m at cast cast'.contexts p0 p1 p2 q0 q1 k0 (record k1 { records = far.records }) start before after far.reached more some far.printed cut worked
+far_ends from count later names trace appends whole how false n m at parts cast cast' p0 p1 p2 q0 q1 q2 k0 k1 k2 start before after far more some first cleared part worked = far_over from count later names trace appends whole how n m at parts cast cast' p0 p1 p2 q0 q1 q2 k0 k1 k2 start before after far more some first cleared part worked

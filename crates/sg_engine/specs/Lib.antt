@@ -2,6 +2,7 @@ pub mod FaultLines
 pub mod Fuel
 pub mod Gains
 pub mod Output
+pub mod Pace
 pub mod Roles
 pub mod Run
 pub mod RunContract

@@ -4,8 +4,9 @@ ghost use Rattle.sg_edge.specs.declared.files.Stage.TheVariants.{Fresh, Broken};
 ghost use Rattle.sg_edge.specs.Cause.{HasCause};
 ghost use Rattle.sg_engine.specs.RunContract.{is_cut as is_cut_spec, ForSources, HasContexts, IsEnding, IsRun, StandsAsBefore, TakesFirst, output_of};
 ghost use Rattle.sg_engine.specs.kept.Invariant.{crew_in, AreRoadsOf, Holds, IsBeginning, TakesInAll, TakesLast};
-ghost use Rattle.sg_engine.specs.kept.Moments.{script_in, ReadsScript};
-ghost use Rattle.sg_engine.specs.kept.Stretches.{HasRun, planned_output};
+ghost use Rattle.sg_engine.specs.kept.Moments.{names_of, script_in, ReadsScript};
+ghost use Rattle.sg_engine.specs.Pace.{KeepsPace, pace_in};
+ghost use Rattle.sg_engine.specs.kept.Stretches.{parts_by, planned_output, planned_pace, trace_in, HasRun, IsPaced};
 
 use crate::advance::advance;
 use crate::ended::Ended;
@@ -39,6 +40,11 @@ fn simulate<R: Threads + Sync, F: Files, O: Sinks, L: Ledger>(
     requires sound { O.faults out.old ≡ 0 }
     ensures run { HasRun engine.now.plan (crew_in engine.now.plan sim.old) result sim.new
         steps.old steps.new (script_in engine.now.plan (F.shows files.old))
+        (script_in engine.now.plan (F.shows files.new))
+        (O.contents out.old Stream.Out) (O.contents out.new Stream.Out) }
+    ensures pace { IsPaced (names_of engine.now.plan) (trace_in engine.now.plan)
+        (parts_by engine.now.plan (crew_in engine.now.plan sim.old))
+        (script_in engine.now.plan (F.shows files.old))
         (script_in engine.now.plan (F.shows files.new))
         (O.contents out.old Stream.Out) (O.contents out.new Stream.Out) }
     ensures kept { MatchBool (is_cut_spec result) ⊤
@@ -95,6 +101,8 @@ fn run_from<R: Threads + Sync, F: Files, O: Sinks, L: Ledger>(
         (λ source. IsRun (planned_output engine.now.plan (crew_in engine.now.plan sim.old) source)
         result (O.contents out.old) (O.contents out.new) (crew_in engine.now.plan sim.old)
         (length sim.new.crew.items) steps.old steps.new (F.shows files.old) (F.shows files.new)) }
+    ensures pace { KeepsPace engine.now.plan.script (planned_pace engine.now.plan (crew_in engine.now.plan sim.old))
+        (O.contents out.old) (O.contents out.new) (F.shows files.old) (F.shows files.new) }
     ensures crew { TakesInAll sim.old sim.new }
     ensures ending { IsEnding F.shows engine.now.plan.script result files.old files.new
         (O.contents out.old) (O.contents out.new) (O.faults out.old) (O.faults out.new) }
@@ -130,6 +138,8 @@ fn run_plan<R: Threads + Sync, F: Files, O: Sinks, L: Ledger>(
         (λ source. IsRun (planned_output engine.now.plan (length crew.old.items) source) result
         (O.contents out.old) (O.contents out.new) (length crew.old.items) (length crew.new.items)
         steps.old steps.new (F.shows files.old) (F.shows files.new)) }
+    ensures pace { KeepsPace engine.now.plan.script (planned_pace engine.now.plan (length crew.old.items))
+        (O.contents out.old) (O.contents out.new) (F.shows files.old) (F.shows files.new) }
     ensures crew { TakesLast engine.now.plan.deployment.now result crew.old.items crew.new.items }
     ensures ending { IsEnding F.shows engine.now.plan.script result files.old files.new
         (O.contents out.old) (O.contents out.new) (O.faults out.old) (O.faults out.new) }
@@ -155,8 +165,9 @@ fn run_plan<R: Threads + Sync, F: Files, O: Sinks, L: Ledger>(
 ///
 /// What is written, the end, and how many contexts are taken, are those of the definition, for what the script's part
 /// gives, and the looks are at most as many as its passes may take. Of the script at most 4,095 bytes more are taken than
-/// the Asks of the run need. Memory is taken at the beginning, before each round, for actors that are created and for
-/// lines of the script, and none once the run has ended.
+/// the Asks of the run need. The lines of each round and each pass are written behind it: where a write fails, no more of
+/// the script was taken than the rounds and passes up to that write need, and 4,095 bytes. Memory is taken at the
+/// beginning, before each round, for actors that are created and for lines of the script, and none once the run has ended.
 pub fn run<R: Threads + Sync, F: Files, O: Sinks, L: Ledger>(
     rt: &R,
     alloc: Global,
@@ -178,6 +189,8 @@ pub fn run<R: Threads + Sync, F: Files, O: Sinks, L: Ledger>(
         (λ source. IsRun (output_of setup.old budget (length crew.old.items) show source) result
         (O.contents out.old) (O.contents out.new) (length crew.old.items) (length crew.new.items)
         steps.old steps.new (F.shows files.old) (F.shows files.new)) }
+    ensures pace { KeepsPace setup.old.script (pace_in setup.old budget (length crew.old.items) show)
+        (O.contents out.old) (O.contents out.new) (F.shows files.old) (F.shows files.new) }
     ensures crew { TakesFirst setup.old.deployment result crew.old.items crew.new.items }
     ensures ending { IsEnding F.shows setup.old.script result files.old files.new
         (O.contents out.old) (O.contents out.new) (O.faults out.old) (O.faults out.new) }

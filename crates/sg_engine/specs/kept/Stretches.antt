@@ -17,12 +17,17 @@ use Rattle.sg_engine.specs.RunContract.{is_cut}
 use Rattle.sg_engine.specs.Output.{Output, all_energy, first_of, how_lines, last_lines, run_output, stuck_lines, trace_of, scene_of}
 use Rattle.sg_trace.specs.Ending.{ending_of}
 use Rattle.sg_trace.specs.declared.last.Last.{Last}
+use Rattle.sg_engine.specs.Pace.{Pace, first_parts, pace_of}
 use Rattle.sg_engine.specs.Run.{Answering, Progress, run_of}
 use Rattle.sg_engine.specs.kept.Moments.{AreNeededBy, Cast, LeavesContexts, Moment, moment, IsStretch, ending}
 
 -- how records are written as lines
 abbrev pub Trace : Type 0
 Trace = List Record → List ℕ
+
+-- a text was gained, and something behind it
+abbrev pub GainsBehind : List ℕ → Option (List ℕ) → Option (List ℕ) → Type 0
+GainsBehind text before after = (behind : List ℕ) × (after ≡ gain before (text ++ behind))
 
 -- A part of a run was made, and its trace lines are written. The kernel has cleared its records since.
 pub record Advances (spent : ℕ) (names : Names) (trace : Trace) (whole : Answering → Progress) (how : Option Ended) (taken : List ℕ) (had : Cast) (old new : Moment) (before after : Option (List ℕ)) : Type 0 where
@@ -57,6 +62,15 @@ pub record IsOver (start count left : ℕ) (names : Names) (trace : Trace) (whol
   pub printed : after ≡ gain before (trace made)
   pub is : (source : Source) → GoesOn piece new.stage source → whole (answer_of names source) ≡ record { world = world; made = made; ended = Some how }
 
+-- The trace lines of so many parts of a run are all written, whatever stands behind them, and what was taken of the script is
+-- near to what these and the next one need.
+pub record IsPaced (names : Names) (trace : Trace) (parts : ℕ → Answering → Progress) (old new : PartView) (before after : Option (List ℕ)) : Type 0 where
+  pub piece : List ℕ
+  pub reads : Reads piece old new
+  pub number : ℕ
+  pub written : (source : Source) → GoesOn piece new.stage source → GainsBehind (trace (parts number (answer_of names source)).made) before after
+  pub needed : AreNeededBy names (parts (number + 1)) piece new.stage
+
 -- ---- in the words of contracts
 abbrev pub trace_in : Plan → Trace
 trace_in plan = trace_of plan.terms.show plan.platform.now plan.deployment.now
@@ -84,6 +98,14 @@ run_by plan crew answers = run_of (scene_of plan.platform.now plan.deployment.no
 -- what it writes and how it ends, by what the script's part gives
 abbrev pub planned_output : Plan → ℕ → Source → Output
 planned_output plan crew source = run_output plan.platform.now plan.deployment.now plan.script plan.terms.budget crew plan.terms.show source
+
+-- its first rounds and passes, so many
+abbrev pub parts_by : Plan → ℕ → ℕ → Answering → Progress
+parts_by plan crew parts answers = first_parts plan.platform.now plan.deployment.now plan.script plan.terms.budget crew parts answers
+
+-- how far it has come then, by what the script's part gives
+abbrev pub planned_pace : Plan → ℕ → Source → ℕ → Pace
+planned_pace plan crew source = pace_of plan.platform.now plan.deployment.now plan.script plan.terms.budget crew plan.terms.show source
 
 -- The run was cut off behind a front of its trace lines, or this simulation has come to this end behind all of them.
 abbrev pub HasRun : {A : Type 0} → Plan → ℕ → Ended → Simulation A → ℕ → ℕ → PartView → PartView → Option (List ℕ) → Option (List ℕ) → Type 0

@@ -18,7 +18,7 @@ use Rattle.sg_engine.specs.Roles.{firsts_of}
 use Rattle.sg_engine.specs.Run.{next_work, scene, round_or_pass}
 use Rattle.sg_engine.proofs.Parts.{room_for}
 use Rattle.sg_engine.proofs.Files.{script_unread}
-use Rattle.sg_engine.proofs.Simulating.{advances, cuts_off_at, kept_on, lacks_room, lacks_scene, part_is, part_kept, part_short, scene_as, short_kept}
+use Rattle.sg_engine.proofs.Simulating.{advances, cuts_off_at, cuts_off_by, kept_on, lacks_room, lacks_scene, part_is, part_kept, scene_as, short_kept}
 use Rattle.sg_engine.proofs.Crews.{crew_cut, crew_same, front_all}
 use Rattle.sg_engine.proofs.Uncut.{memory_cause, uncut_write}
 use Rattle.sg_engine.specs.declared.simulation.Simulation.{Simulation}
@@ -45,7 +45,7 @@ pub returns-in-Err-clause-part : goal.returns-in-Err-clause-part
 returns-in-Err-clause-part g c = (
   refl,
   λ taken world stands.
-      part_short _ _ _ _ taken _ _ _ _ _
+      cuts_off_by _ _ _ taken _ _ _ _ _
       (lacks_room _ (scene c.args.router.now c.args.sim.now.kernel.setup (firsts_of c.args.engine.now.plan.deployment.now) c.args.engine.now.plan.script) taken _ _ world c.requires.going.kept.fits.begun stands) refl,
 )
 
@@ -54,7 +54,7 @@ returns-in-Err-round_or_pass-clause-part g c = (
   refl,
   λ taken world stands.
       let core = ap (λ (k : Known). k.core) c.in-Ok.ensures.kept in
-      part_short _ _ _ _ taken _ _ _ _ _
+      cuts_off_by _ _ _ taken _ _ _ _ _
       (lacks_scene _ c.args.router.now (firsts_of c.args.engine.now.plan.deployment.now) c.args.engine.now.plan.script c.args.sim.now.kernel.setup c.reserve_round.new.self.setup taken _ world _ _ (ap (λ (k : Known). k.setup) c.in-Ok.ensures.kept)
       (c.in-Err-round_or_pass.ensures.step taken world (record { script = stands.script; core = core ∙ stands.core; cast = stands.cast }))) refl,
 )

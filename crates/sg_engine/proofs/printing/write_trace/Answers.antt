@@ -1,4 +1,3 @@
-use Rattle.std.proofs.Common.{◌∙◌}
 use Rattle.sg_engine.proofs.PutLines.{put_written}
 use Rattle.sg_engine.proofs.printing.write_trace.Goals as goal
 

@@ -1,9 +1,13 @@
-use Rattle.std.proofs.Common.{◌∙◌, ap, sym, arith, length}
+use Rattle.std.proofs.Common.{◌∙◌, ap, sym, arith, length, []}
 use Rattle.sg_engine.specs.kept.Invariant.{crew_in}
 use Rattle.sg_setup.specs.Setup.{Setup}
 use Rattle.sg_edge.specs.declared.files.Part.TheVariants.{Script}
 use Rattle.sg_engine.proofs.Endings.{run_ends, run_cut, run_left, run_left_cut, run_needed, run_work, is_going, goes_on_telling, keeps_name, broken_part, in_cut, in_over}
+use Rattle.sg_engine.proofs.Paces.{ends_gain, run_paced}
 use Rattle.sg_engine.proofs.Uncut.{not_write}
+use Rattle.sg_engine.specs.RunContract.{is_cut}
+use Rattle.sg_edge.specs.declared.sinks.Stream.TheVariants.{Out}
+use Rattle.sg_edge.proofs.Writing.{gain-nil}
 use Rattle.sg_engine.proofs.whole_run.run_from.Goals as goal
 
 pub invariant_of-end : goal.invariant_of-end
@@ -89,3 +93,16 @@ returns-else-is_cut-clause-ending g c =
 
 pub finish-requires-clause-sound : goal.finish-requires-clause-sound
 finish-requires-clause-sound g c = c.simulate-how.ensures.cause.sound (not_write c.simulate-how.result (sym c.is_cut.ensures ∙ c.if-is_cut.false)) ∙ c.requires.sound
+
+pub returns-then-is_cut-clause-pace : goal.returns-then-is_cut-clause-pace
+returns-then-is_cut-clause-pace g c = λ source gives.
+    let going = is_going c.args.engine.now.plan.script _ _ source (λ over. g.met.F.Files.nothing_left c.simulate-how.new.files Script over) gives in
+    run_paced c.args.engine.now.plan.platform.now c.args.engine.now.plan.deployment.now c.args.engine.now.plan.script c.args.engine.now.plan.terms.budget (crew_in c.args.engine.now.plan c.args.sim.now) c.args.engine.now.plan.terms.show _ _ _ [] _ _ source going
+    (λ isnt. ap (λ (f : _). g.F.Files.shows f Script) (c.simulate-how.ensures.script.unscripted isnt)) c.simulate-how.ensures.pace (sym (gain-nil (g.O.Sinks.contents c.simulate-how.new.out Out)))
+
+pub returns-else-is_cut-clause-pace : goal.returns-else-is_cut-clause-pace
+returns-else-is_cut-clause-pace g c = λ source gives.
+    let going = is_going c.args.engine.now.plan.script _ _ source (λ over. g.met.F.Files.nothing_left c.simulate-how.new.files Script over) gives in
+    let gained = ends_gain (is_cut c.finish.result) _ _ _ _ _ c.finish.ensures.ends in
+    run_paced c.args.engine.now.plan.platform.now c.args.engine.now.plan.deployment.now c.args.engine.now.plan.script c.args.engine.now.plan.terms.budget (crew_in c.args.engine.now.plan c.args.sim.now) c.args.engine.now.plan.terms.show _ _ _ gained.0 _ _ source going
+    (λ isnt. ap (λ (f : _). g.F.Files.shows f Script) (c.simulate-how.ensures.script.unscripted isnt)) c.simulate-how.ensures.pace gained.1

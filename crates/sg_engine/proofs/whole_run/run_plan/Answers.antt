@@ -4,7 +4,8 @@ use Rattle.sg_engine.specs.kept.Invariant.{crew_in}
 use Rattle.sg_engine.specs.kept.Moments.{script_in}
 use Rattle.sg_engine.proofs.Endings.{is_begun, run_left_none, takes_none}
 use Rattle.sg_engine.proofs.Fronts.{fronts_none}
-use Rattle.sg_engine.proofs.Starting.{begins_with, first_taken_in_all, same_run}
+use Rattle.sg_engine.proofs.Paces.{none_paced}
+use Rattle.sg_engine.proofs.Starting.{begins_with, first_taken_in_all, same_pace, same_run}
 use Rattle.sg_engine.proofs.whole_run.run_plan.Goals as goal
 
 pub run_from-how-requires-clause-beginning : goal.run_from-how-requires-clause-beginning
@@ -33,3 +34,11 @@ returns-in-Err-clause-output g c = λ source gives. record {
   work = omega arith;
   needed = takes_none _ _ _ refl;
 }
+
+pub returns-in-Ok-clause-pace : goal.returns-in-Ok-clause-pace
+returns-in-Ok-clause-pace g c = λ source gives.
+    same_pace c.args.engine.now.plan source _ _ (crew_in c.args.engine.now.plan c.in-Ok.sim) (length c.args.crew.now.items) _ _ (sym c.in-Ok.ensures.crew.number) (c.run_from-how.ensures.pace source gives)
+
+pub returns-in-Err-clause-pace : goal.returns-in-Err-clause-pace
+returns-in-Err-clause-pace g c = λ source gives.
+    none_paced c.args.engine.now.plan.platform.now c.args.engine.now.plan.deployment.now c.args.engine.now.plan.script c.args.engine.now.plan.terms.budget (length c.args.crew.now.items) c.args.engine.now.plan.terms.show _ _ _ _ source refl refl

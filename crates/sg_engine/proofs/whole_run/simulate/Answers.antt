@@ -1,4 +1,4 @@
-use Rattle.std.proofs.Common.{◌≡◌, ◌≤◌, ◌∙◌, ◌+◌, ◌-◌, suc, sym, ap, ap₂, refl, arith, false, None, Some, [], subst}
+use Rattle.std.proofs.Common.{◌≡◌, ◌≤◌, ◌∙◌, ◌+◌, ◌-◌, suc, sym, ap, ap₂, refl, arith, false, None, Some, subst}
 use Rattle.sg_edge.specs.declared.files.Part.TheVariants.{Script}
 use Rattle.sg_edge.specs.declared.sinks.Stream.TheVariants.{Out}
 use Rattle.sg_calls.specs.Roads.{AreOver}
@@ -11,12 +11,14 @@ use Rattle.sg_engine.specs.declared.ended.Ended.TheVariants as ended
 use Rattle.sg_engine.specs.RunContract.{is_cut}
 use Rattle.sg_engine.specs.kept.Moments.{script_part}
 use Rattle.sg_engine.specs.kept.Invariant.{at_moment, crew_in}
+use Rattle.sg_engine.specs.Fuel.{parts_from}
 use Rattle.sg_engine.specs.Output.{first_of, trace_of, scene_of}
 use Rattle.sg_engine.specs.Roles.{firsts_of}
 use Rattle.sg_engine.specs.Run.{scene, run_of, run_from, next_work}
 use Rattle.sg_engine.proofs.Crews.{crew_all, crew_same, crew_then}
 use Rattle.sg_engine.proofs.Files.{script_then, script_unread}
 use Rattle.sg_engine.proofs.Simulating.{rest_of, far_first, far_on, far_ends, completed, part_as, trace_appends, trace_none, used_up, work_more}
+use Rattle.sg_engine.proofs.Paces.{paced_ends, paced_here, part_next, parts_none}
 use Rattle.sg_engine.proofs.Uncut.{none_not}
 use Rattle.sg_engine.proofs.whole_run.simulate.Goals as goal
 
@@ -29,9 +31,10 @@ loop-turn-init g c =
     let first = c.requires.beginning.first in
     let none : c.args.engine.now.plan.terms.budget + 1 - 0 ≡ c.args.engine.now.plan.terms.budget + 1 = omega arith in
     record {
-      far = far_first c.args.steps.now (known_in deployed) (trace_of c.args.engine.now.plan.terms.show platform deployed) (run_of at origin) (rest_of (c.args.engine.now.plan.terms.budget + 1 - 0) at) _ (script_part c.args.engine.now.plan.script (g.F.Files.shows c.args.files.now Script)) (kept_of c.args.sim.now.script) c.args.sim.now.kernel (g.O.Sinks.contents c.args.out.now Out)
+      far = far_first c.args.steps.now (known_in deployed) (trace_of c.args.engine.now.plan.terms.show platform deployed) (run_of at origin) (rest_of (c.args.engine.now.plan.terms.budget + 1 - 0) at) (λ answers. parts_from 0 at answers origin) _ (script_part c.args.engine.now.plan.script (g.F.Files.shows c.args.files.now Script)) (kept_of c.args.sim.now.script) c.args.sim.now.kernel (g.O.Sinks.contents c.args.out.now Out)
           origin first.kept.fits.begun first.stands
           (λ answers. sym (ap (λ n. run_from n at answers origin) none))
+          (λ answers. parts_none 0 at answers origin refl)
           refl (trace_none c.args.engine.now.plan.terms.show platform deployed);
       kept = first.kept;
       crew = crew_same c.args.sim.now c.args.sim.now refl (omega arith);
@@ -86,7 +89,7 @@ returns-in-Some-clause-run g c =
     let worked : c.advance.new.steps ≤ c.args.steps.now + next =
     work_more c.args.steps.now c.loop-turn.steps c.advance.new.steps far.spent far.reached.world.work (next_work c.loop-turn.sim.kernel.core) (next_work far.reached.world.core) far.worked far.reached.work
     (ap next_work far.reached.stands.core) c.in-Some.ensures.steps in
-    far_ends c.args.steps.now c.loop-turn.steps c.advance.new.steps names trace (trace_appends c.args.engine.now.plan.terms.show platform deployed) (run_of at origin) how (is_cut how) n m at _ _
+    far_ends c.args.steps.now c.loop-turn.steps c.advance.new.steps names trace (trace_appends c.args.engine.now.plan.terms.show platform deployed) (run_of at origin) how (is_cut how) n m at _ _ _
     _ _ _ _ _ _ c.args.sim.now.kernel c.loop-turn.sim.kernel c.advance.new.sim.kernel (g.O.Sinks.contents c.args.out.now Out) before after far more (sym c.ending.ensures.is ∙ c.if-ending.false) c.requires.beginning.first.kept.cleared inv.kept.cleared part' worked
 
 pub loop-turn-preserved : goal.loop-turn-preserved
@@ -115,8 +118,9 @@ loop-turn-preserved g c =
     work_more c.args.steps.now c.loop-turn.steps c.advance.new.steps far.spent far.reached.world.work (next_work c.loop-turn.sim.kernel.core) (next_work far.reached.world.core) far.worked far.reached.work
     (ap next_work far.reached.stands.core) c.in-None.ensures.steps in
     record {
-      far = far_on c.args.steps.now c.loop-turn.steps c.advance.new.steps names trace (trace_appends c.args.engine.now.plan.terms.show platform deployed) (run_of at origin) n m at _ _
-          _ _ _ _ _ _ c.args.sim.now.kernel c.loop-turn.sim.kernel c.advance.new.sim.kernel (g.O.Sinks.contents c.args.out.now Out) before after far more (sym c.ending.ensures.is ∙ c.if-ending.false) c.requires.beginning.first.kept.cleared inv.kept.cleared part' worked;
+      far = far_on c.args.steps.now c.loop-turn.steps c.advance.new.steps names trace (trace_appends c.args.engine.now.plan.terms.show platform deployed) (run_of at origin) n m at (λ answers. parts_from c.loop-turn._turn at answers origin) (λ answers. parts_from (c.loop-turn._turn + 1) at answers origin) _ _
+          _ _ _ _ _ _ c.args.sim.now.kernel c.loop-turn.sim.kernel c.advance.new.sim.kernel (g.O.Sinks.contents c.args.out.now Out) before after far more (sym c.ending.ensures.is ∙ c.if-ending.false) c.requires.beginning.first.kept.cleared inv.kept.cleared part' worked
+          (λ some answers here. part_next c.loop-turn._turn (c.loop-turn._turn + 1) at answers origin far.reached.world far.reached.made (omega arith) some here);
       kept = c.in-None.ensures.kept.kept;
       crew = crew_then false c.args.sim.now c.loop-turn.sim c.advance.new.sim inv.crew c.in-None.ensures.kept.crew;
       router = c.in-None.ensures.router ∙ inv.router;
@@ -142,7 +146,7 @@ pub returns-in-Some-clause-cause : goal.returns-in-Some-clause-cause
 returns-in-Some-clause-cause g c =
     let cause = c.in-Some.ensures.cause in
     record {
-      write = λ is. cause.write (ap (λ (h : Ended). Some h) is);
+      write = λ is. let failed = cause.write (ap (λ (h : Ended). Some h) is) in omega (arith, failed, c.loop-turn.invariant.sound);
       sound = λ isnt. cause.sound (λ is. isnt (cc is)) ∙ c.loop-turn.invariant.sound;
       read = λ is. cause.read (ap (λ (h : Ended). Some h) is);
     }
@@ -168,3 +172,31 @@ returns-in-Some-clause-crew g c =
 
 pub returns-clause-crew : goal.returns-clause-crew
 returns-clause-crew g c = crew_all false c.args.sim.now c.loop-turn.sim (c.loop-turn.invariant.same ∙ sym c.requires.beginning.first.setup) c.loop-turn.invariant.crew
+
+pub returns-then-ending-clause-pace : goal.returns-then-ending-clause-pace
+returns-then-ending-clause-pace g c = paced_here _ _ _ _ c.loop-turn._turn _ _ _ _ _ _ _ _ _ _ _ c.loop-turn.invariant.far
+
+pub returns-clause-pace : goal.returns-clause-pace
+returns-clause-pace g c = paced_here _ _ _ _ c.loop-turn._turn _ _ _ _ _ _ _ _ _ _ _ c.loop-turn.invariant.far
+
+pub returns-in-Some-clause-pace : goal.returns-in-Some-clause-pace
+returns-in-Some-clause-pace g c =
+    let platform = c.args.engine.now.plan.platform.now in
+    let deployed = c.args.engine.now.plan.deployment.now in
+    let origin = first_of platform deployed c.args.engine.now.plan.terms.budget (crew_in c.args.engine.now.plan c.args.sim.now) in
+    let at = scene_of platform deployed c.args.engine.now.plan.script c.args.engine.now.plan.terms.budget in
+    let names = known_in deployed in
+    let trace = trace_of c.args.engine.now.plan.terms.show platform deployed in
+    let inv = c.loop-turn.invariant in
+    let far = inv.far in
+    let how = c.in-Some.how in
+    let old = at_moment (script_part c.args.engine.now.plan.script (g.F.Files.shows c.loop-turn.files Script)) c.loop-turn.sim in
+    let new = at_moment (script_part c.args.engine.now.plan.script (g.F.Files.shows c.advance.new.files Script)) c.advance.new.sim in
+    let before = g.O.Sinks.contents c.loop-turn.out Out in
+    let after = g.O.Sinks.contents c.advance.new.out Out in
+    let leads = rw inv.router at c.in-Some.ensures.part in
+    let part = leads.1 far.reached.piece far.reached.world (record { script = far.reached.stands.script; core = far.reached.stands.core; cast = far.reached.stands.cast }) in
+    let next = far.reached.world.work + next_work far.reached.world.core in
+    let same : scene c.args.router.now c.loop-turn.sim.kernel.setup (firsts_of deployed) c.args.engine.now.plan.script ≡ at = ap₂ (λ (r : Roads) (t : Setup). scene r t (firsts_of deployed) c.args.engine.now.plan.script) c.requires.beginning.roads.are inv.same in
+    let part' = part_as next names trace _ at (Some how) far.reached.piece _ far.reached.world old new before after same part in
+    paced_ends next (is_cut how) names trace (run_of at origin) _ c.loop-turn._turn at origin (Some how) _ _ _ _ _ _ _ _ c.args.sim.now.kernel c.loop-turn.sim.kernel c.advance.new.sim.kernel (g.O.Sinks.contents c.args.out.now Out) before after far (sym c.ending.ensures.is ∙ c.if-ending.false) part'
