@@ -37,6 +37,16 @@ pub struct Case {
     pub calls: u64,
 }
 
+// Gives a part its name, so that one that is begun under another fails.
+fn named(alloc: Global, files: MemFiles, part: Part, name: &str) -> Result<MemFiles, Memory>
+    requires { (part : Part) → (mem_view files part).stage ≡ Fresh }
+    ensures { IfOk result (λ named. (part : Part) → (mem_view named part).stage ≡ Fresh) }
+{
+    let mut files = files;
+    files.rename(alloc, part, name)?;
+    Ok(files)
+}
+
 // A function of its own, so that a proof in which one is dropped doesn't go into its parts.
 impl Drop for Case {
     fn drop(self) {
@@ -177,13 +187,16 @@ impl Case {
     pub fn files(&self, alloc: Global) -> Result<MemFiles, Memory>
         ensures { IfOk result (λ files. (part : Part) → (mem_view files part).stage ≡ Fresh) }
     {
-        let mut files = MemFiles::new(
+        let files = MemFiles::new(
             alloc,
             Some(&self.platform),
             Some(&self.deployment),
             Some(&self.script),
             &[self.failing_call],
         )?;
+        let files = named(alloc, files, Part::Platform, "p")?;
+        let files = named(alloc, files, Part::Deployment, "d")?;
+        let mut files = named(alloc, files, Part::Script, "s")?;
         let gives = self.gives.max(1);
         files.pieces(Part::Platform, gives);
         files.pieces(Part::Deployment, gives);
