@@ -1,7 +1,7 @@
 -- The key of each serial, as an activity comes, changes and goes.
 use Rattle.std.proofs.Common.{◌≡◌, ◌≢◌, ℕ, ◌<◌, inl, inr, nat_eq, true, false, Option, None, Some, List, length, set, sym, ap, ◌∙◌, arith}
 use Rattle.sg_lives.specs.declared.lives.Live.{Live}
-use Rattle.sg_lives.specs.Pool.{slot_at, IsMissing, FindsEach}
+use Rattle.sg_lives.specs.Pool.{slot_at, IsMissing, FindsEach, SameSlots}
 use Rattle.sg_lives.proofs.Places.{eq_cases, some_same}
 use Rattle.sg_lives.proofs.Places.{set_cases}
 use Rattle.sg_lives.proofs.Places.{set_here, set_there}
@@ -56,6 +56,13 @@ module _ (slots : List (Option Live)) (find : ℕ → Option ℕ) (key : ℕ) (i
           (f.0, record { at = set_there slots key k None away ∙ f.1.at; is = f.1.is })
     ];
   }
+
+-- more keys
+pub found_wider : (old new : List (Option Live)) (find next : ℕ → Option ℕ) → SameSlots old new → ((serial : ℕ) → next serial ≡ find serial) → FindsEach old find → FindsEach new next
+found_wider old new find next same finds is = record {
+  each = λ key live e. finds live.serial ∙ is.each key live (sym (same key) ∙ e);
+  back = λ serial key e. let f = is.back serial key (sym (finds serial) ∙ e) in (f.0, record { at = same key ∙ f.1.at; is = f.1.is });
+}
 
 -- ---- what the map says of each serial
 pub agrees : (a : ℕ) → nat_eq a a ≡ true

@@ -1,4 +1,5 @@
 pub mod Places
-pub mod CellLemmas
+pub mod Listed
 pub mod Pooled
 pub mod Found
+pub mod Keeping

@@ -1,11 +1,13 @@
--- How an activity is kept in 96 bytes.
-use Rattle.std.specs.Prelude.{◌<◌, if◌then◌else◌, Option, None, Some, List, map}
+-- How activities are kept: each in 96 bytes, under a key of a slab.
+use Rattle.std.specs.Prelude.{ℕ, ◌<◌, if◌then◌else◌, Option, None, Some, option_map, List}
+use Rattle.slab.specs.Slab.{Slab, get}
 use Rattle.sg_lives.specs.declared.cells.Cell.{Cell}
 use Rattle.sg_lives.specs.declared.lives.Live.{Live}
+use Rattle.sg_lives.specs.Slots.{listed}
 
 -- the activity in a cell
-abbrev pub live_in : Cell → Option Live
-live_in cell = if cell.is_live then Some (record {
+abbrev pub live_of : Cell → Live
+live_of cell = record {
   serial = cell.serial;
   kind = cell.kind;
   links = cell.links;
@@ -18,10 +20,15 @@ live_in cell = if cell.is_live then Some (record {
   host = cell.host;
   peer = cell.peer;
   flow = cell.flow;
-}) else None
+}
 
-abbrev pub lives_in : List Cell → List (Option Live)
-lives_in cells = map live_in cells
+-- the activity under a key of a slab, or nothing
+abbrev pub live_at : Slab Cell → ℕ → Option Live
+live_at slab key = option_map live_of (get slab key)
+
+-- and under each of so many keys
+abbrev pub lives_in : ℕ → Slab Cell → List (Option Live)
+lives_in keys slab = listed keys (live_at slab)
 
 -- the numbers of its hosts have 32 bits
 pub record HasEnds (live : Live) : Type 0 where

@@ -1,15 +1,17 @@
 -- What contracts see of `Lives`.
-use Rattle.std.specs.Prelude.{◌≡◌, ◌≢◌, ℕ, ◌+◌, ◌<◌, ◌≤◌, Bool, Option, None, Some, is_some, List, All, AllPairs, length, count_by, slice_index_or, slice_set}
+use Rattle.std.specs.Prelude.{◌≡◌, ◌≢◌, ℕ, ◌+◌, ◌<◌, ◌≤◌, Bool, Option, None, Some, is_some, List, count_by, slice_index_or, slice_set}
+use Rattle.slab.specs.Slab.{Slab, get, slab_len}
+use Rattle.sg_lives.specs.declared.cells.Cell.{Cell}
 use Rattle.sg_lives.specs.declared.kinds.PhaseKind.{PhaseKind}
 use Rattle.sg_lives.specs.declared.kinds.PhaseKind.TheVariants as phase
 use Rattle.sg_lives.specs.declared.lives.Live.{Live}
 use Rattle.sg_lives.specs.Slots.{passes}
 use Rattle.sg_lives.specs.Kinds.{goes_by}
+use Rattle.sg_lives.specs.Cells.{lives_in}
 
--- the activity under each key, or nothing, how many keys are free, and room for so many activities more
+-- the activity under each key, or nothing, and room for so many activities more
 pub record Pool : Type 0 where
   pub slots : List (Option Live)
-  pub free : ℕ
   pub room : ℕ
 
 -- the activity under a key
@@ -42,23 +44,25 @@ pub record IsSet (old new : Pool) (key : ℕ) (slot : Option Live) : Type 0 wher
   pub slots : new.slots ≡ slice_set old.slots key slot
   pub room : new.room ≡ old.room
 
--- The free keys are different keys without an activity, and all of these; there is room for each key among them.
-pub record IsPool (slots : List (Option Live)) (free : List ℕ) (capacity : ℕ) : Type 0 where
-  pub idle : All (λ key. slot_at slots key ≡ None) free
-  pub below : All (λ key. key < length slots) free
-  pub once : AllPairs (λ a b. a ≢ b) free
-  pub counted : length free + count_by is_some slots ≡ length slots
-  pub fits : length slots ≤ capacity
-
 -- by serial the key of its activity, and nothing else
 pub record FindsEach (slots : List (Option Live)) (find : ℕ → Option ℕ) : Type 0 where
   pub each : (key : ℕ) (live : Live) → slot_at slots key ≡ Some live → find live.serial ≡ Some key
   pub back : (serial key : ℕ) → find serial ≡ Some key → (live : Live) × IsFound slots serial key live
 
+-- A key below this number is free, and the slab has room for it.
+pub record HasFree (keys : ℕ) (slab : Slab Cell) : Type 0 where
+  pub free : count_by is_some (lives_in keys slab) < keys
+  pub fits : keys ≤ slab.capacity
+
+-- The activities are all under keys below this number, for which the slab has room, and so many more are free at least.
+pub record IsPool (keys : ℕ) (slab : Slab Cell) (room : ℕ) : Type 0 where
+  pub above : (key : ℕ) → keys ≤ key → get slab key ≡ None
+  pub fits : keys ≤ slab.capacity
+  pub free : slab_len slab + room ≤ keys
+
 -- All that `Lives` keeps is of one mind.
-pub record IsLives (slots : List (Option Live)) (free : List ℕ) (capacity : ℕ) (find : ℕ → Option ℕ) (spare going room : ℕ) : Type 0 where
-  pub pool : IsPool slots free capacity
-  pub keyed : FindsEach slots find
-  pub goes : going ≡ count_by (passes goes_on) slots
-  pub free_room : room ≤ length free
+pub record IsLives (keys : ℕ) (slab : Slab Cell) (find : ℕ → Option ℕ) (spare going room : ℕ) : Type 0 where
+  pub pool : IsPool keys slab room
+  pub keyed : FindsEach (lives_in keys slab) find
+  pub goes : going ≡ count_by (passes goes_on) (lives_in keys slab)
   pub spare_room : room ≤ spare

@@ -1,11 +1,11 @@
 //! What is kept of an activity, in 96 bytes.
-ghost use Rattle.std.specs.Prelude.{◌≡◌, None, Some, IfSome, if◌then◌else◌};
-ghost use Rattle.sg_lives.specs.Cells.{HasEnds, live_in as live_in_spec};
+ghost use Rattle.std.specs.Prelude.{◌≡◌, None, Some, if◌then◌else◌};
+ghost use Rattle.sg_lives.specs.Cells.{HasEnds, live_of as live_of_spec};
 
 use crate::kinds::PhaseKind;
 use crate::lives::Live;
 
-/// A place for an activity.
+/// An activity as it is kept.
 #[derive(Clone, Copy)]
 pub(crate) struct Cell {
     kept: u128,
@@ -20,7 +20,6 @@ pub(crate) struct Cell {
     links: u32,
     weight: u32,
     kind: PhaseKind,
-    is_live: bool,
     has_bound: bool,
 }
 
@@ -31,15 +30,12 @@ fn bound_if(has: bool, bound: u64) -> Option<u64>
     if has { Some(bound) } else { None }
 }
 
-/// The activity in a place, where there is one.
-pub(crate) fn live_in(cell: Cell) -> Option<Live>
-    ensures is { result ≡ live_in_spec cell }
-    ensures ends { IfSome result HasEnds }
+/// The activity that is kept so.
+pub(crate) fn live_of(cell: &Cell) -> Live
+    ensures is { result ≡ live_of_spec cell.now }
+    ensures ends { HasEnds result }
 {
-    if !cell.is_live {
-        return None;
-    }
-    Some(Live {
+    Live {
         serial: cell.serial,
         kind: cell.kind,
         links: cell.links,
@@ -52,13 +48,13 @@ pub(crate) fn live_in(cell: Cell) -> Option<Live>
         host: cell.host as usize,
         peer: cell.peer as usize,
         flow: cell.flow,
-    })
+    }
 }
 
-/// A place with this activity.
-pub(crate) fn cell_with(live: Live) -> Cell
+/// This activity, as it is kept.
+pub(crate) fn cell_of(live: Live) -> Cell
     requires { HasEnds live }
-    ensures { live_in_spec result ≡ Some live }
+    ensures { live_of_spec result ≡ live }
 {
     Cell {
         kept: live.kept,
@@ -73,29 +69,6 @@ pub(crate) fn cell_with(live: Live) -> Cell
         links: live.links,
         weight: live.weight,
         kind: live.kind,
-        is_live: true,
         has_bound: live.bound.is_some(),
-    }
-}
-
-/// A place without an activity.
-pub(crate) fn free_cell() -> Cell
-    ensures { live_in_spec result ≡ None }
-{
-    Cell {
-        kept: 0,
-        stamp: 0,
-        serial: 0,
-        rate: 0,
-        bound: 0,
-        bytes: 0,
-        flow: 0,
-        host: 0,
-        peer: 0,
-        links: 0,
-        weight: 0,
-        kind: PhaseKind::Timer,
-        is_live: false,
-        has_bound: false,
     }
 }

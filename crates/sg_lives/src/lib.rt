@@ -1,7 +1,7 @@
 //! What activities are made of, and those under way, by key and by serial.
 //! One enters by `Lives`: `put` gives an activity a key, `get` and `find` tell the one of a key or of a serial, `set` puts
 //! another in its place, and `remove` takes it away.
-//! It stands on `sg_serials` for who is under a serial, and on `sg_base`.
+//! It stands on the kit's `slab` for keys, on `sg_serials` for who is under a serial, and on `sg_base`.
 #![tactic(auto)]
 
 mod cells;

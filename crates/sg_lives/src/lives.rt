@@ -1,16 +1,18 @@
 //! The activities under way, by key.
 
 ghost use Rattle.std.specs.Prelude.{◌≡◌, ◌<◌, ◌≤◌, ◌+◌, ◌-◌, ◌==◌, None, Some, IfSome, IsSome, MatchOption, OnOk, [], if◌then◌else◌, count_by, length, slice_set};
+ghost use Rattle.slab.specs.Slab.{get, slab_len, Updates};
 ghost use Rattle.sg_lives.specs.Slots.{passes};
 ghost use Rattle.sg_lives.specs.Kinds.{goes_by, is_exec as is_exec_spec, is_held as is_held_spec, takes_share as takes_share_spec};
 ghost use Rattle.sg_lives.specs.Cells.{HasEnds};
-ghost use Rattle.sg_lives.specs.Pool.{IsFound, IsMissing, IsSet, SameSlots, goes_on, slot_at, uses_ahead as uses_ahead_spec};
+ghost use Rattle.sg_lives.specs.Pool.{HasFree, IsFound, IsMissing, IsSet, SameSlots, goes_on, slot_at, uses_ahead as uses_ahead_spec};
 ghost use Rattle.sg_lives.specs.Kinds.{flows_ahead as flows_ahead_spec};
 
-use crate::cells::{Cell, cell_with, free_cell, live_in};
+use crate::cells::{Cell, cell_of, live_of};
 use crate::kinds::PhaseKind;
 use sg_base::{Memory, Serial};
 use sg_serials::BySerial;
+use slab::Slab;
 use std::alloc::Global;
 use std::marker::Model;
 
@@ -101,13 +103,33 @@ fn going_by(kind: PhaseKind) -> usize
     }
 }
 
+// Puts an activity under a free key below this number. A slab promises a key below its capacity, which may be more than
+// was asked for, and callers have no place for a key from there: it is given back once another was found.
+fn insert_below(slab: &mut Slab<Cell>, keys: usize, cell: Cell) -> usize
+    requires { HasFree keys slab.old }
+    ensures below { result < keys }
+    ensures vacant { get slab.old result ≡ None }
+    ensures updates { Updates slab.old slab.new result (Some cell) }
+    ensures len { slab_len slab.new ≡ slab_len slab.old + 1 }
+    ensures capacity { slab.new.capacity ≡ slab.old.capacity }
+{
+    let _most = slab.capacity();
+    let key = slab.insert_reserved(cell);
+    if key < keys {
+        return key;
+    }
+    let below = insert_below(slab, keys, cell);
+    slab.remove(key);
+    below
+}
+
 /// Activities under keys from 0 on, as many as there were at once at most. The key of one that is done is given to
 /// another. Nothing but `reserve` takes memory.
 #[derive(Drop)]
 pub struct Lives {
-    slots: Vec<Cell>,
-    // the keys without an activity; the last one is given next
-    free: Vec<usize>,
+    slab: Slab<Cell>,
+    // keys are below it
+    keys: usize,
     // by serial the key of its activity
     by_serial: BySerial<usize>,
     // how many go on
@@ -121,18 +143,16 @@ impl Model for Lives {
 
     ghost Value = { Pool };
 
-    ghost use Rattle.std.specs.Prelude.{length, vec_capacity};
     ghost use Rattle.sg_serials.specs.Serials as serials;
     ghost use Rattle.sg_lives.specs.Cells.{lives_in};
     ghost use Rattle.sg_lives.specs.Pool.{IsLives};
 
     ghost view = { λ s. record {
-      slots = lives_in s.slots.items;
-      free = length s.free.items;
+      slots = lives_in s.keys s.slab;
       room = s.room;
     } };
 
-    ghost invariant = { λ s. IsLives (lives_in s.slots.items) s.free.items (vec_capacity s.free)
+    ghost invariant = { λ s. IsLives s.keys s.slab
         (serials.at s.by_serial) (serials.room s.by_serial) s.going s.room };
 }
 
@@ -143,8 +163,8 @@ impl Lives {
         ensures room { result.room ≡ 0 }
     {
         Lives {
-            slots: Vec::new(alloc),
-            free: Vec::new(alloc),
+            slab: Slab::new(alloc),
+            keys: 0,
             by_serial: BySerial::new(alloc),
             going: 0,
             room: 0,
@@ -155,7 +175,7 @@ impl Lives {
     pub fn numbers(&self) -> usize
         ensures { result ≡ length self.now.slots }
     {
-        self.slots.len()
+        self.keys
     }
 
     /// Whether no activity goes on.
@@ -170,7 +190,10 @@ impl Lives {
         requires { key < length self.now.slots }
         ensures { result ≡ slot_at self.now.slots key }
     {
-        live_in(self.slots[key])
+        match self.slab.get(key) {
+            Some(cell) => Some(live_of(cell)),
+            None => None,
+        }
     }
 
     /// The activity of a serial, and its key.
@@ -181,10 +204,10 @@ impl Lives {
         let Some(key) = self.by_serial.get(serial.0) else {
             return None;
         };
-        let Some(live) = live_in(self.slots[key]) else {
+        let Some(cell) = self.slab.get(key) else {
             unreachable!()
         };
-        Some((key, live))
+        Some((key, live_of(cell)))
     }
 
     /// Puts an activity under a free key, and answers the key. No other is of its serial.
@@ -197,11 +220,8 @@ impl Lives {
         ensures slots { self.new.slots ≡ slice_set self.old.slots result (Some live) }
         ensures room { self.new.room + 1 ≡ self.old.room }
     {
-        let Some(key) = self.free.pop() else {
-            unreachable!()
-        };
+        let key = insert_below(&mut self.slab, self.keys, cell_of(live));
         self.by_serial.insert(live.serial, key);
-        self.slots[key] = cell_with(live);
         self.going += going_by(live.kind);
         self.room -= 1;
         key
@@ -215,10 +235,11 @@ impl Lives {
         requires peer { IfSome (slot_at self.old.slots key) (λ old. old.peer ≡ live.peer) }
         ensures { IsSet self.old self.new key (Some live) }
     {
-        let Some(old) = live_in(self.slots[key]) else {
+        let Some(cell) = self.slab.get_mut(key) else {
             unreachable!()
         };
-        self.slots[key] = cell_with(live);
+        let old = live_of(cell);
+        *cell = cell_of(live);
         self.going = self.going - going_by(old.kind) + going_by(live.kind);
     }
 
@@ -227,31 +248,9 @@ impl Lives {
         requires { IsSome (slot_at self.old.slots key) }
         ensures { IsSet self.old self.new key None }
     {
-        let Some(old) = live_in(self.slots[key]) else {
-            unreachable!()
-        };
+        let old = live_of(&self.slab.remove(key));
         self.by_serial.remove(old.serial);
-        self.slots[key] = free_cell();
-        self.free.push_reserved(key);
         self.going -= going_by(old.kind);
-    }
-
-    // One key more.
-    fn grow(&mut self) -> Result<(), Memory>
-        ensures same { SameSlots self.old.slots self.new.slots }
-        ensures longer { length self.old.slots ≤ length self.new.slots }
-        ensures few { length self.new.slots ≤ length self.old.slots + 1 }
-        ensures room { self.new.room ≡ self.old.room }
-        ensures free { OnOk result (self.new.free ≡ self.old.free + 1) }
-    {
-        let key = self.slots.len();
-        self.free.reserve(key + 1 - self.free.len())?;
-        match self.slots.push(free_cell()) {
-            Ok(()) => {}
-            Err(_) => return Err(Memory),
-        }
-        self.free.push_reserved(key);
-        Ok(())
     }
 
     /// Makes room for so many more.
@@ -262,10 +261,10 @@ impl Lives {
         ensures grows { self.old.room ≤ self.new.room }
         ensures room { OnOk result (n ≤ self.new.room) }
     {
-        for _key in self.free.len()..n {
-            self.grow()?;
-        }
+        self.slab.reserve(n)?;
         self.by_serial.reserve(n)?;
+        let _most = self.slab.capacity();
+        self.keys = self.keys.max(self.slab.len() + n);
         self.room = self.room.max(n);
         Ok(())
     }

@@ -1,11 +1,25 @@
-use Rattle.std.proofs.Common.{◌≡◌, ◌<◌, length, sym, subst, ◌∙◌}
-use Rattle.sg_lives.specs.Cells.{lives_in}
+use Rattle.std.proofs.Common.{◌<◌, Some, option_map, length, sym, ap, ◌∙◌, arith}
+use Rattle.std.specs.Option.{option_copied}
+use Rattle.sg_lives.specs.Cells.{live_of, live_at}
 use Rattle.sg_lives.specs.Pool.{Pool, slot_at}
-use Rattle.sg_lives.proofs.CellLemmas.{live_read}
+use Rattle.sg_lives.proofs.Keeping.{live_read}
+use Rattle.sg_lives.proofs.Listed.{length-listed}
 use Rattle.sg_lives.proofs.lives.Lives.get.Goals as goal
 
-pub returns : goal.returns
-returns c =
-    let within : c.args.key < length (lives_in c.self.inside.slots.items) = subst (λ (p : Pool). c.args.key < length p.slots) (sym c.self.view_is) c.requires in
-    subst (λ (p : Pool). c.live_in.result ≡ slot_at p.slots c.args.key) c.self.view_is
-    (c.live_in.ensures.is ∙ sym (live_read c.self.inside.slots.items c.args.key c.index.result.now within (sym c.index.ensures)))
+pub returns-in-Some : goal.returns-in-Some
+returns-in-Some c =
+    let keys = c.self.inside.keys in
+    let slab = c.self.inside.slab in
+    let key = c.args.key in
+    let within : key < keys = omega (arith, c.requires, ap (λ (p : Pool). length p.slots) c.self.view_is, length-listed keys (live_at slab)) in
+    ap Some c.live_of.ensures.is ∙ ap (option_map live_of) (sym (ap option_copied c.in-Some.is) ∙ c.get.ensures)
+    ∙ sym (live_read keys key slab within) ∙ ap (λ (p : Pool). slot_at p.slots key) c.self.view_is
+
+pub returns-in-None : goal.returns-in-None
+returns-in-None c =
+    let keys = c.self.inside.keys in
+    let slab = c.self.inside.slab in
+    let key = c.args.key in
+    let within : key < keys = omega (arith, c.requires, ap (λ (p : Pool). length p.slots) c.self.view_is, length-listed keys (live_at slab)) in
+    ap (option_map live_of) (sym (ap option_copied c.in-None.is) ∙ c.get.ensures)
+    ∙ sym (live_read keys key slab within) ∙ ap (λ (p : Pool). slot_at p.slots key) c.self.view_is
