@@ -13,7 +13,8 @@ use Rattle.sg_activity.specs.kept.Stamps.{left_at}
 use Rattle.sg_lives.specs.Pool.{IsMissing, slot_at}
 use Rattle.sg_activity.specs.kept.State.{State, task_of, stamp_of, date_of, dated, due_at, is_dated, is_now, is_so, told_at, told_by, under_of, doing_of}
 use Rattle.sg_activity.specs.kept.Sound.{IsKept}
-use Rattle.sg_activity.proofs.Listing.{eq_cases, some_same, length-listed, at_listed, past_listed, same_listed, serials_alike, soonest_none, soonest_is, up_to_each, map_listed}
+use Rattle.sg_lives.proofs.Listed.{length-listed, at_listed, past_listed, same_listed}
+use Rattle.sg_activity.proofs.Listing.{eq_cases, some_same, serials_alike, soonest_none, soonest_is, up_to_each, map_listed}
 use Rattle.sg_activity.proofs.Lookup.{Sought, sought, told_found, told_missed, told_from}
 use Rattle.sg_activity.proofs.Pairing.{there_within}
 use Rattle.sg_activity.proofs.Rates.{rate_told, wait_told, task_there}

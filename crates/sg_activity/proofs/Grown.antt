@@ -17,7 +17,7 @@ use Rattle.sg_lives.specs.Pool.{slot_at}
 use Rattle.sg_activity.specs.kept.State.{State, state_of, links_at, task_from, task_of, stamp_of, is_now, is_dated, is_so, told_at, told_by, is_marked, changed_at, changed_by, under_of, doing_of, ways_of}
 use Rattle.sg_activity.specs.kept.Sound.{AreApart, IsKept, IsSound, slot_ahead, slot_uses}
 use Rattle.sg_activity.proofs.Indexing.{ways_grown}
-use Rattle.sg_activity.proofs.Listing.{same_listed}
+use Rattle.sg_lives.proofs.Listed.{same_listed}
 use Rattle.sg_activity.proofs.Lookup.{told_alike}
 use Rattle.sg_activity.proofs.Told.{doing_same, made_same}
 use Rattle.sg_activity.proofs.Turned.{held_still}

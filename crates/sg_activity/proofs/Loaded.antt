@@ -24,7 +24,7 @@ use Rattle.sg_lives.specs.Pool.{slot_at}
 use Rattle.sg_activity.specs.kept.Sound.{IsKept, IsSound}
 use Rattle.sg_activity.specs.kept.State.{State, links_at, place_of, serial_at, serial_in, state_of, task_of, told_at, under_of, ways_of}
 use Rattle.sg_activity.specs.kept.Whole.{IsUsed}
-use Rattle.sg_activity.proofs.Listing.{at_listed}
+use Rattle.sg_lives.proofs.Listed.{at_listed}
 use Rattle.sg_activity.proofs.Loads.{load_fits_lem}
 use Rattle.sg_activity.proofs.Lookup.{told_from}
 use Rattle.sg_activity.proofs.Pairing.{paired_sums, part, sum_by-there, there_within}

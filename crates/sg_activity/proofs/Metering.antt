@@ -25,7 +25,8 @@ use Rattle.sg_activity.specs.kept.Stamps.{left_at}
 use Rattle.sg_activity.specs.kept.State.{State, links_at, place_of, state_of, task_of, under_of}
 use Rattle.sg_activity.specs.kept.Turns.{Turns}
 use Rattle.sg_activity.proofs.Elsewhere.{same_later, same_task}
-use Rattle.sg_activity.proofs.Listing.{at_listed, bool_cases, eq_cases, length-listed}
+use Rattle.sg_lives.proofs.Listed.{at_listed, length-listed}
+use Rattle.sg_activity.proofs.Listing.{bool_cases, eq_cases}
 use Rattle.sg_activity.proofs.Loads.{power_is_its_own_lem}
 use Rattle.sg_activity.proofs.Rates.{limits, task_there}
 use Rattle.sg_activity.proofs.Told.{in_last, in_more}

@@ -23,7 +23,8 @@ use Rattle.sg_activity.specs.kept.Stamps.{left_at}
 use Rattle.sg_lives.specs.Pool.{slot_at, IsMissing}
 use Rattle.sg_activity.specs.kept.State.{State, task_of, asked_by, serial_in, serial_at, is_so, told_at, told_by, is_marked, changed_at, under_of}
 use Rattle.sg_activity.specs.kept.Sound.{IsFlowOf, IsKept, run_of}
-use Rattle.sg_activity.proofs.Listing.{some_same, length-listed, at_listed, past_listed}
+use Rattle.sg_lives.proofs.Listed.{length-listed, at_listed, past_listed}
+use Rattle.sg_activity.proofs.Listing.{some_same}
 use Rattle.sg_activity.proofs.Lookup.{Sought, told_found, told_from, told_missed}
 use Rattle.sg_activity.proofs.Pairing.{part, paired_sums, there_within, sum_by-there, sum_alike}
 use Rattle.sg_activity.proofs.Told.{task_told}

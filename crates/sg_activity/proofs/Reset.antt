@@ -26,7 +26,8 @@ use Rattle.sg_activity.proofs.Moved.{IsMoved, bound_moved, flow_bound, in_times,
 use Rattle.sg_lives.proofs.Pooled.{within_there}
 use Rattle.sg_activity.proofs.Bounds.{some_is}
 use Rattle.sg_activity.proofs.Routed.{sooner_more}
-use Rattle.sg_activity.proofs.Listing.{at_listed, length-listed, map_listed, same_listed}
+use Rattle.sg_lives.proofs.Listed.{at_listed, length-listed, same_listed}
+use Rattle.sg_activity.proofs.Listing.{map_listed}
 use Rattle.sg_activity.proofs.Lookup.{sought, told_found, told_missed}
 use Rattle.sg_activity.proofs.Told.{made_same, member_at}
 

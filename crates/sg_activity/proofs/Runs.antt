@@ -8,7 +8,7 @@ use Rattle.sg_activity.specs.Underway.{is_running}
 use Rattle.sg_lives.specs.Pool.{goes_on}
 use Rattle.sg_activity.specs.kept.State.{State, task_of, told_at, told_by, under_of}
 use Rattle.sg_activity.specs.kept.Sound.{IsKept}
-use Rattle.sg_activity.proofs.Listing.{at_listed, past_listed}
+use Rattle.sg_lives.proofs.Listed.{at_listed, past_listed}
 use Rattle.sg_activity.proofs.Lookup.{sought, told_found, told_missed}
 use Rattle.sg_lives.proofs.Pooled.{none_counts, some_counts}
 use Rattle.sg_activity.proofs.Rates.{task_there}

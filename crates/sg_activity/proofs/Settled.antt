@@ -18,7 +18,8 @@ use Rattle.sg_lives.specs.Pool.{Pool, slot_at}
 use Rattle.sg_activity.specs.kept.State.{State, links_at, task_from, task_of, stamp_of, asked_by, date_of, is_so, key_from, is_marked, told_at, told_by, changed_at, changed_by, under_of, doing_of}
 use Rattle.sg_activity.specs.kept.Sound.{IsHeld, AreApart, IsKept, slot_ahead, slot_uses, run_of}
 use Rattle.sg_activity.specs.kept.Renewal.{IsKeyed, HaveKeys, rate_in, is_among, restamped, is_renewed, AreRestamped, AreSmall, date_in, AreRenewed}
-use Rattle.sg_activity.proofs.Listing.{eq_cases, length-listed, some_same, same_listed}
+use Rattle.sg_lives.proofs.Listed.{length-listed, same_listed}
+use Rattle.sg_activity.proofs.Listing.{eq_cases, some_same}
 use Rattle.sg_lives.specs.Slots.{listed, passes}
 use Rattle.sg_activity.proofs.Stamps.{fresh_in_time}
 use Rattle.sg_activity.proofs.Lookup.{Sought, sought, told_alike, told_found, told_missed}

@@ -9,7 +9,7 @@ use Rattle.sg_activity.specs.kept.Metered.{metered_in}
 use Rattle.sg_lives.specs.Pool.{slot_at}
 use Rattle.sg_activity.specs.kept.State.{State, task_of, told_at, told_by, stamp_of, under_of, doing_of}
 use Rattle.sg_activity.specs.kept.Sound.{IsKept}
-use Rattle.sg_activity.proofs.Listing.{at_listed, length-listed}
+use Rattle.sg_lives.proofs.Listed.{at_listed, length-listed}
 use Rattle.sg_activity.proofs.Lookup.{told_found, told_from}
 use Rattle.sg_activity.proofs.Rates.{rate_told, task_there}
 use Rattle.sg_activity.proofs.Told.{task_told}

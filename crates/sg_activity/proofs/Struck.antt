@@ -12,7 +12,8 @@ use Rattle.sg_lives.specs.Pool.{IsMissing, slot_at}
 use Rattle.sg_activity.specs.kept.State.{State, links_at, task_of, stamp_of, is_now, is_so, told_at, told_by, under_of, doing_of}
 use Rattle.sg_activity.specs.kept.Sound.{IsKept, place_at}
 use Rattle.sg_activity.specs.kept.Turns.{Turns}
-use Rattle.sg_activity.proofs.Listing.{bool_cases, some_same, length-listed, at_listed, past_listed, serials_none, serials_first}
+use Rattle.sg_lives.proofs.Listed.{length-listed, at_listed, past_listed}
+use Rattle.sg_activity.proofs.Listing.{bool_cases, some_same, serials_none, serials_first}
 use Rattle.sg_activity.proofs.Lookup.{Sought, sought, told_found, told_missed}
 use Rattle.sg_activity.proofs.Rates.{task_there}
 use Rattle.sg_activity.proofs.Told.{doing_same, stamps_set}

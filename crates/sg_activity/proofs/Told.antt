@@ -19,7 +19,8 @@ use Rattle.sg_activity.specs.kept.Stamps.{left_at}
 use Rattle.sg_activity.specs.kept.State.{State, links_at, task_from, task_of, stamp_of, is_now, is_so, told_at, told_by, is_marked, changed_at, changed_by, under_of, doing_of}
 use Rattle.sg_activity.specs.kept.Sound.{IsKept}
 use Rattle.sg_activity.specs.kept.Turns.{Turns}
-use Rattle.sg_activity.proofs.Listing.{bool_cases, at_listed}
+use Rattle.sg_lives.proofs.Listed.{at_listed}
+use Rattle.sg_activity.proofs.Listing.{bool_cases}
 use Rattle.sg_activity.proofs.Turned.{told_here, told_gone, told_set, told_pushed, tasks_set, tasks_pushed, due_pushed, due_stays}
 
 -- ---- marks

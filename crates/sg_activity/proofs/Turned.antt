@@ -15,7 +15,8 @@ use Rattle.sg_activity.specs.kept.State.{State, links_at, place_of, task_from, t
 use Rattle.sg_activity.specs.kept.Sound.{IsPlace, IsHeld, AreApart, IsKept, place_at}
 use Rattle.sg_activity.specs.kept.Turns.{Turns}
 use Rattle.std.specs.Option.{IfSome}
-use Rattle.sg_activity.proofs.Listing.{eq_cases, same_listed, set_listed, listed_more, at_listed}
+use Rattle.sg_lives.proofs.Listed.{same_listed, set_listed, at_listed}
+use Rattle.sg_activity.proofs.Listing.{eq_cases, listed_more}
 use Rattle.sg_activity.proofs.Lookup.{told_found, told_missed, told_alike}
 use Rattle.sg_activity.proofs.Serials.{serials_push, serials_set}
 

@@ -13,7 +13,7 @@ use Rattle.sg_activity.specs.kept.Sound.{IsKept, IsPath, slot_ahead, slot_uses}
 use Rattle.sg_activity.specs.kept.Turns.{Turns}
 use Rattle.sg_activity.proofs.Hitting.{hits_more}
 use Rattle.sg_activity.proofs.Indexing.{all_used, long_used, row_idle, used_turned, way_back}
-use Rattle.sg_activity.proofs.Listing.{length-listed}
+use Rattle.sg_lives.proofs.Listed.{length-listed}
 use Rattle.sg_activity.proofs.Roomy.{ahead_set, uses_set}
 use Rattle.sg_activity.proofs.Starts.{idle_serial, set_here, set_there}
 use Rattle.sg_activity.proofs.Told.{mark_self, begun_told, task_told}

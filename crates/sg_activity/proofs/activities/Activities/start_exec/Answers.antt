@@ -13,7 +13,7 @@ use Rattle.sg_activity.specs.Doing.{Doing, started_in}
 use Rattle.sg_activity.specs.kept.State.{State, state_of, told_at, task_of, doing_of}
 use Rattle.sg_activity.specs.kept.Sound.{IsKept, slot_ahead, slot_uses}
 use Rattle.sg_activity.specs.kept.Turns.{Turns}
-use Rattle.sg_activity.proofs.Listing.{length-listed}
+use Rattle.sg_lives.proofs.Listed.{length-listed}
 use Rattle.sg_activity.proofs.Roomy.{ahead_set, uses_set}
 use Rattle.sg_activity.proofs.Told.{mark_self, started_told}
 use Rattle.sg_activity.proofs.Turned.{turned}
