@@ -36,7 +36,7 @@ use Rattle.sg_tree.specs.Spelling.{is_name}
 use Rattle.sg_tree.specs.Tree.{rows_at, text_at, tree_of}
 use Rattle.sg_tree.specs.declared.fault.Fault.{Fault}
 use Rattle.sg_tree.specs.declared.fault.Kind.TheVariants.{BadName, Duplicate}
-use Rattle.toml.specs.Data.{Data, Members}
+use Rattle.sg_tree.specs.kept.Data.{Row, Tree}
 use Rattle.sg_collective_laws.specs.Expanded.{HasNames, name_of, row_name}
 use Rattle.sg_collective_laws.specs.Laws.{TextsHaveNames}
 
@@ -65,16 +65,16 @@ mapped_at f (x ∷ xs) (suc place) y at =
     record { item = there.item; at = there.at; is = there.is }
 
 -- ---- the numbers of texts
-abbrev texts_from : List ℕ → ℕ → List Data → List (List ℕ × ℕ)
+abbrev texts_from : List ℕ → ℕ → List Row → List (List ℕ × ℕ)
 texts_from key from rows = numbered (texts_at key) from rows
 
 -- a text that a row has stands under a number that is no greater than the row's
-record StandsBy (text key : List ℕ) (from place : ℕ) (rows : List Data) : Type 0 where
+record StandsBy (text key : List ℕ) (from place : ℕ) (rows : List Row) : Type 0 where
   number : ℕ
   is : lookup (bytes_eq text) (texts_from key from rows) ≡ Some number
   early : number ≤ from + place
 
-stands_behind : (key text : List ℕ) (from place : ℕ) (row : Data) (rows : List Data) (found : Option (List ℕ)) → text_at key row ≡ found → StandsBy text key (from + 1) place rows →
+stands_behind : (key text : List ℕ) (from place : ℕ) (row : Row) (rows : List Row) (found : Option (List ℕ)) → text_at key row ≡ found → StandsBy text key (from + 1) place rows →
     StandsBy text key from (suc place) (row ∷ rows)
 stands_behind key text from place row rows None e behind = record {
   number = behind.number;
@@ -96,7 +96,7 @@ stands_behind key text from place row rows (Some other) e behind = elim (cases_B
   }
 ]
 
-stands_by : (key text : List ℕ) (from : ℕ) (rows : List Data) (place : ℕ) (row : Data) → slice_get rows place ≡ Some row → text_at key row ≡ Some text → StandsBy text key from place rows
+stands_by : (key text : List ℕ) (from : ℕ) (rows : List Row) (place : ℕ) (row : Row) → slice_get rows place ≡ Some row → text_at key row ≡ Some text → StandsBy text key from place rows
 stands_by key text from [] place row at there = absurd (cc at)
 stands_by key text from (other ∷ rows) zero row at there =
     let same : text_at key other ≡ Some text = ap (text_at key) (same_Some other row at) ∙ there in
@@ -110,7 +110,7 @@ stands_by key text from (other ∷ rows) (suc place) row at there =
     stands_behind key text from place other rows (text_at key other) refl (stands_by key text (from + 1) rows place row at there)
 
 -- ---- a row without faults
-keys_free : (names : Known) (number t r : ℕ) (row : Data) (i : ℕ) (keys : List Key) → along (key_faults names number t r row) i keys ≡ [] → KeysKept names number row keys
+keys_free : (names : Known) (number t r : ℕ) (row : Row) (i : ℕ) (keys : List Key) → along (key_faults names number t r row) i keys ≡ [] → KeysKept names number row keys
 keys_free names number t r row i [] empty = tt
 keys_free names number t r row i (k ∷ ks) empty =
     let here = key_faults names number t r row i k in
@@ -118,13 +118,13 @@ keys_free names number t r row i (k ∷ ks) empty =
     (empty_at t r (i + 1) (key_kinds names number row k) (empty_left here rest empty), keys_free names number t r row (i + 1) ks (empty_right here rest empty))
 
 -- its name is spelled so, and no row before it has the name
-record HasOwnName (names : Known) (number : ℕ) (row : Data) : Type 0 where
+record HasOwnName (names : Known) (number : ℕ) (row : Row) : Type 0 where
   text : List ℕ
   there : text_at (codes "name") row ≡ Some text
   spelled : is_name text ≡ true
   free : is_taken (names.actors text) number ≡ false
 
-row_named : (names : Known) (number : ℕ) (row : Data) → KeysKept names number row (keys_of Actor) → HasOwnName names number row
+row_named : (names : Known) (number : ℕ) (row : Row) → KeysKept names number row (keys_of Actor) → HasOwnName names number row
 unfolding id_kinds
 row_named names number row kept =
     let name = required_text names number row word.Name text_rule.NewActor kept.0 in
@@ -135,12 +135,12 @@ row_named names number row kept =
       free = unbroken (is_taken (names.actors name.0) number) Duplicate (empty_right _ _ name.2);
     }
 
-module _ (names : Known) (tree : Members) (none : first (faults_of names deployment_tables tree) ≡ None) where
+module _ (names : Known) (tree : Tree) (none : first (faults_of names deployment_tables tree) ≡ None) where
   actors_free : table_faults names tree 1 Actor ≡ []
   unfolding faults_of
   actors_free = empty_left _ _ (empty_right _ _ (none_empty _ none))
 
-  data_named : (place : ℕ) (row : Data) → slice_get (rows_at (codes "actor") tree) place ≡ Some row → HasOwnName names place row
+  data_named : (place : ℕ) (row : Row) → slice_get (rows_at (codes "actor") tree) place ≡ Some row → HasOwnName names place row
   unfolding table_faults row_faults
   data_named place row at =
       let number : 0 + (0 + place) ≡ place = omega arith in
@@ -151,7 +151,7 @@ module _ (names : Known) (tree : Members) (none : first (faults_of names deploym
 
   -- a row of the deployment, with the row of the tree that it was made from
   record IsRow (place : ℕ) (row : ActorRow) : Type 0 where
-    data_row : Data
+    data_row : Row
     at : slice_get (rows_at (codes "actor") tree) place ≡ Some data_row
     own : HasOwnName names place data_row
     name : row.name ≡ own.text
@@ -252,7 +252,7 @@ member_named deployed apart member is =
     ap (replay_actor_named deployed) name ∙ ap (option_map (λ row. record { 0 = row + 1 })) found ∙ (λ i. Some (record { 0 = number i }))
 
 -- ---- texts
-tree_named : (names : Known) (tree : Members) → ((text : List ℕ) → names.actors text ≡ lookup (bytes_eq text) (numbered (texts_at (codes "name")) 0 (rows_at (codes "actor") tree))) →
+tree_named : (names : Known) (tree : Tree) → ((text : List ℕ) → names.actors text ≡ lookup (bytes_eq text) (numbered (texts_at (codes "name")) 0 (rows_at (codes "actor") tree))) →
     first (faults_of names deployment_tables tree) ≡ None → HasNames (rows_of names tree)
 unfolding members_among AreNumbered
 tree_named names tree numbered none = record {
@@ -261,7 +261,7 @@ tree_named names tree numbered none = record {
       (member_named (rows_of names tree) (apart names tree none numbered)) (members_of (rows_of names tree)) (all_members (rows_of names tree).actors 0);
 }
 
-numbered_on : (platform : Platform) (tree : Members) (text : List ℕ) →
+numbered_on : (platform : Platform) (tree : Tree) (text : List ℕ) →
     (names_on platform tree).actors text ≡ lookup (bytes_eq text) (numbered (texts_at (codes "name")) 0 (rows_at (codes "actor") tree))
 unfolding known_by
 numbered_on platform tree text = refl
@@ -270,12 +270,12 @@ abbrev Has : Result Deployed (Option Fault) → Type 0
 Has (Ok deployed) = HasNames deployed
 Has (Err why) = Unit {0}
 
-unless_named : (platform : Platform) (tree : Members) (fault : Option Fault) → first (faults_of (names_on platform tree) deployment_tables tree) ≡ fault →
+unless_named : (platform : Platform) (tree : Tree) (fault : Option Fault) → first (faults_of (names_on platform tree) deployment_tables tree) ≡ fault →
     Has (rows_unless fault (rows_of (names_on platform tree) tree))
 unless_named platform tree None e = tree_named (names_on platform tree) tree (numbered_on platform tree) e
 unless_named platform tree (Some fault) e = tt
 
-read_named : (platform : Platform) (tree : Option Members) → Has (option_map_or (tree_deployment platform) tree (Err None))
+read_named : (platform : Platform) (tree : Option Tree) → Has (option_map_or (tree_deployment platform) tree (Err None))
 unfolding tree_deployment
 read_named platform None = tt
 read_named platform (Some tree) = unless_named platform tree (first (faults_of (names_on platform tree) deployment_tables tree)) refl

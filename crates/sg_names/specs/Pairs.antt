@@ -1,5 +1,5 @@
 -- The ordered pairs that routes give.
-use Rattle.std.specs.Prelude.{Bool, true, false, ℕ, List, [], ◌∷◌, if◌then◌else◌, Option, Some, None, option_and_then, unwrap_or, codes}
+use Rattle.std.specs.Prelude.{Bool, true, false, ℕ, List, [], ◌∷◌, if◌then◌else◌, Option, Some, option_and_then, unwrap_or, codes}
 use Rattle.std.specs.Option.{option_map_or}
 use Rattle.sg_tree.specs.Names.{Finds, Pair}
 use Rattle.sg_tree.specs.Tree.{text_at}

@@ -6,7 +6,7 @@ ghost use Rattle.sg_tree.specs.Names.{SameNames, SamePairs, pair_eq};
 ghost use Rattle.sg_tree.specs.Tree.{rows_at};
 ghost use Rattle.sg_names.specs.kept.NamesView.{names_view};
 ghost use Rattle.sg_names.specs.kept.Parts.{AreActors, AreLinks, AreLocks, ArePoints, AreProfiled, AreRoutes, AreSubjects, pair_rows, parts_view};
-ghost use Rattle.sg_toml.specs.View.{view, table_view};
+ghost use Rattle.toml.specs.View.{view, table_view};
 
 use crate::links::{declared_links, taken_links};
 use crate::pairs::pairs_in;
@@ -14,9 +14,9 @@ use crate::subjects::Subjects;
 use crate::workers::workers_in;
 use indexmap::IndexMap;
 use sg_base::Memory;
-use sg_toml::{Table, Value};
 use sg_tree::{add_names, names_at, rows_at, small_number};
 use std::alloc::Global;
+use toml::{Table, Value};
 
 /// What is known of the names of a whole tree: under which number each stands first. Zones, hosts and routers are
 /// numbered one after the other.

@@ -5,13 +5,13 @@ ghost use Rattle.sg_names.specs.Pairs.{pairs_of, truth_at};
 ghost use Rattle.sg_names.specs.kept.Parts.{pair_rows};
 ghost use Rattle.sg_tree.specs.Names.{AddsPairs, SamePairs, numbered, pair_eq, with_number};
 ghost use Rattle.sg_tree.specs.Tree.{text_at};
-ghost use Rattle.sg_toml.specs.View.{view};
+ghost use Rattle.toml.specs.View.{view};
 
 use indexmap::IndexMap;
 use sg_base::Memory;
-use sg_toml::Value;
 use sg_tree::{add_pair, text_at};
 use std::alloc::Global;
+use toml::Value;
 
 /// The number of the point, or zone, that a key names.
 pub fn point_at(points: &IndexMap<String, u32>, row: &Value, key: &str) -> Option<u32>

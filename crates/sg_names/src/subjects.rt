@@ -1,13 +1,13 @@
 //! What the profiles of a table are of.
 ghost use Rattle.std.specs.Prelude.{IfOk, map};
 ghost use Rattle.sg_names.specs.kept.Parts.{AreSubjects};
-ghost use Rattle.sg_toml.specs.View.{view};
+ghost use Rattle.toml.specs.View.{view};
 
 use indexmap::IndexMap;
 use sg_base::Memory;
-use sg_toml::Value;
 use sg_tree::names_at;
 use std::alloc::Global;
+use toml::Value;
 
 /// The hosts and links that a table has profiles of, under the rows in which each stands first.
 #[derive(Drop)]

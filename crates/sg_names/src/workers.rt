@@ -4,13 +4,13 @@ ghost use Rattle.std.specs.HashMap.{get_by_text};
 ghost use Rattle.sg_names.specs.Workers.{has_function, worker_names};
 ghost use Rattle.sg_tree.specs.Along.{along};
 ghost use Rattle.sg_tree.specs.Names.{Adds, SameNames, found_in, numbered, with_number};
-ghost use Rattle.sg_toml.specs.View.{view};
+ghost use Rattle.toml.specs.View.{view};
 
 use indexmap::IndexMap;
 use sg_base::Memory;
-use sg_toml::Value;
 use sg_tree::{add_name, text_at, text_or_empty};
 use std::alloc::Global;
+use toml::Value;
 
 /// Whether the row is that of an actor of this function.
 pub fn has_function(row: &Value, word: &str) -> bool

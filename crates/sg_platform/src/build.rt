@@ -1,5 +1,5 @@
 //! Makes rows of a tree that has no fault.
-ghost use Rattle.std.specs.Prelude.{◌≡◌, List, IfOk, codes, map, option_and_then, unwrap_or};
+ghost use Rattle.std.specs.Prelude.{◌≡◌, ◌∷◌, [], List, IfOk, codes, map, option_and_then, unwrap_or};
 ghost use Rattle.std.specs.HashMap.{get_by_text};
 ghost use Rattle.sg_platform.specs.Build.{actor_row, amounts_at, child_of, down_links, gateway, host_row, link_id, link_row, links_at, mutex_row, network_of, network_row, point_id, policy_of, power_of, profile_row, route_row, router_row, routing_of, semaphore_row, spoke_row, state_profile_row, states_at, subject_of, value_at, whole_at, zone_id, zone_route_row, zone_row};
 ghost use Rattle.sg_rows.specs.declared.ends.LinkEnd.{LinkEnd};
@@ -7,9 +7,10 @@ ghost use Rattle.sg_names.specs.Names.{Known};
 ghost use Rattle.sg_tables.specs.Units.{quantity_value};
 ghost use Rattle.sg_tables.specs.declared.units.Quantity.TheVariants as quantity;
 ghost use Rattle.sg_names.specs.kept.NamesView.{names_view};
-ghost use Rattle.sg_tree.specs.Tree.{text_at};
+ghost use Rattle.sg_tree.specs.Tree.{rows_at, text_at};
+ghost use Rattle.sg_tree.specs.kept.Rows.{KeepsBut};
 ghost use Rattle.toml.specs.Data.{Data};
-ghost use Rattle.sg_toml.specs.View.{view};
+ghost use Rattle.toml.specs.View.{table_view, view};
 
 use crate::functions::function_of;
 use indexmap::IndexMap;
@@ -22,9 +23,9 @@ use sg_rows::{
 };
 use sg_rules::{amount_in, items_at, powers_in, quantity_of, state_in, text_of};
 use sg_tables::{Quantity, whole_value};
-use sg_toml::Value;
-use sg_tree::{text_at, text_or_empty};
+use sg_tree::{take_rows, text_at, text_or_empty};
 use std::alloc::Global;
+use toml::{Table, Value};
 
 fn number_of(space: &IndexMap<String, u32>, name: &str) -> u32
     ensures { result ≡ unwrap_or (get_by_text space.now name.now) 0 }
@@ -260,22 +261,40 @@ pub trait Row: Sized {
             (λ made. made ≡ row_of (names_view names.now) ends.now (view row.now)) };
 }
 
-/// The rows of a table.
-pub fn read_rows<R: Row + Drop>(
+/// What rows of a tree give; each of them is let go once it is read.
+fn read_rows<R: Row + Drop>(
     alloc: Global,
     names: &Names,
     ends: &[LinkEnd],
-    rows: &[Value],
+    rows: Vec<Value>,
 ) -> Result<Vec<R>, Memory>
     ensures { IfOk result
         (λ made. made.items
-        ≡ map (R.row_of (names_view names.now) ends.now) (map view rows.now)) }
+        ≡ map (R.row_of (names_view names.now) ends.now) (map view rows.items)) }
 {
     let mut made = Vec::new(alloc);
     for row in rows {
-        made.push(R::read(alloc, names, ends, row)?)?;
+        made.push(R::read(alloc, names, ends, &row)?)?;
     }
     Ok(made)
+}
+
+/// The rows of a table, which is taken out of the tree.
+pub fn read_table<R: Row + Drop>(
+    alloc: Global,
+    names: &Names,
+    ends: &[LinkEnd],
+    tree: &mut Table,
+    name: &str,
+) -> Result<Vec<R>, Memory>
+    ensures rows { IfOk result
+        (λ made. made.items
+        ≡ map (R.row_of (names_view names.now) ends.now)
+        (rows_at name.now (table_view tree.old))) }
+    ensures others { KeepsBut (name.now ∷ []) (table_view tree.old) (table_view tree.new) }
+{
+    let rows = take_rows(alloc, tree, name);
+    read_rows::<R>(alloc, names, ends, rows)
 }
 
 impl Row for ZoneRow {

@@ -6,15 +6,15 @@ ghost use Rattle.sg_platform.specs.BrokenRules.{deployment_rule};
 ghost use Rattle.sg_platform.specs.DeploymentOf.{deployment_of, names_on, rows_of, tree_deployment};
 ghost use Rattle.sg_platform.specs.declared.deployment.DeploymentFault.TheVariants.{Memory};
 ghost use Rattle.sg_names.specs.kept.NamesView.{names_view};
-ghost use Rattle.sg_toml.specs.View.{table_view};
+ghost use Rattle.toml.specs.View.{table_view};
 
-use crate::build::read_rows;
+use crate::build::read_table;
 use crate::platform::GREATEST_TEXT;
 use sg_names::{Names, deployment_names};
 use sg_rows::{ActorRow, Deployment, MutexRow, PlatformText, SemaphoreRow, hosts_by_name};
 use sg_rules::first_fault;
 use sg_tables::DEPLOYMENT;
-use sg_tree::{Fault, Kind, NoTree, Place, read_tree, rows_at};
+use sg_tree::{Fault, Kind, NoTree, Place, read_tree};
 use std::alloc::Global;
 use thiserror::Error;
 
@@ -95,21 +95,21 @@ fn fault_of(fault: Fault) -> DeploymentFault
 fn rows_of(
     alloc: Global,
     names: &Names,
-    tree: &sg_toml::Table,
+    tree: &mut toml::Table,
 ) -> Result<Deployment, sg_base::Memory>
-    requires { IsDeployment (rows_of (names_view names.now) (table_view tree.now)) }
-    ensures { IfOk result (λ d. d ≡ rows_of (names_view names.now) (table_view tree.now)) }
+    requires { IsDeployment (rows_of (names_view names.now) (table_view tree.old)) }
+    ensures { IfOk result (λ d. d ≡ rows_of (names_view names.now) (table_view tree.old)) }
 {
-    let actors = read_rows::<ActorRow>(alloc, names, &[], rows_at(tree, "actor"))?;
-    let mutexes = read_rows::<MutexRow>(alloc, names, &[], rows_at(tree, "mutex"))?;
-    let semaphores = read_rows::<SemaphoreRow>(alloc, names, &[], rows_at(tree, "semaphore"))?;
+    let actors = read_table::<ActorRow>(alloc, names, &[], tree, "actor")?;
+    let mutexes = read_table::<MutexRow>(alloc, names, &[], tree, "mutex")?;
+    let semaphores = read_table::<SemaphoreRow>(alloc, names, &[], tree, "semaphore")?;
     Deployment::with_rows(alloc, actors, mutexes, semaphores)
 }
 
 /// The names that stand beside a platform.
 fn names_on(
     alloc: Global,
-    tree: &sg_toml::Table,
+    tree: &toml::Table,
     platform: &PlatformText,
 ) -> Result<Names, sg_base::Memory>
     ensures { IfOk result
@@ -120,17 +120,17 @@ fn names_on(
     Ok(names)
 }
 
-/// The deployment of a tree whose names on the platform these are.
+/// The deployment of a tree whose names on the platform these are. Its tables are taken out of it.
 #[tactic(auto, unfolding(crate::specs::DeploymentOf::tree_deployment))]
 fn deployment_in(
     alloc: Global,
     names: &Names,
-    tree: &sg_toml::Table,
+    tree: &mut toml::Table,
     platform: &PlatformText,
 ) -> Result<Deployment, DeploymentFault>
-    requires { names_view names.now ≡ names_on platform.now (table_view tree.now) }
+    requires { names_view names.now ≡ names_on platform.now (table_view tree.old) }
     ensures value { result ≢ Err Memory → result_map_both (λ d. d) deployment_rule result
-        ≡ tree_deployment platform.now (table_view tree.now) }
+        ≡ tree_deployment platform.now (table_view tree.old) }
     ensures deployed { IfOk result (IsDeployedOn platform.now) }
 {
     match first_fault(alloc, names, &DEPLOYMENT, tree)? {
@@ -141,11 +141,11 @@ fn deployment_in(
 
 fn tree_deployment(
     alloc: Global,
-    tree: &sg_toml::Table,
+    tree: &mut toml::Table,
     platform: &PlatformText,
 ) -> Result<Deployment, DeploymentFault>
     ensures value { result ≢ Err Memory → result_map_both (λ d. d) deployment_rule result
-        ≡ tree_deployment platform.now (table_view tree.now) }
+        ≡ tree_deployment platform.now (table_view tree.old) }
     ensures deployed { IfOk result (IsDeployedOn platform.now) }
 {
     let names = names_on(alloc, tree, platform)?;
@@ -176,7 +176,7 @@ pub fn read_deployment(
         return Err(DeploymentFault::Limit(place));
     }
     match read_tree(alloc, bytes) {
-        Ok(tree) => tree_deployment(alloc, &tree, platform),
+        Ok(mut tree) => tree_deployment(alloc, &mut tree, platform),
         Err(NoTree::BadToml) => Err(DeploymentFault::BadToml),
         Err(NoTree::Memory) => Err(DeploymentFault::Memory),
     }

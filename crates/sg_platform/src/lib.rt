@@ -1,6 +1,6 @@
 //! Reads platforms and deployments in TOML. A text that is refused is told its fault of least place: table, then row,
 //! then key; at one place the one of least kind.
-//! One enters by `read_platform` and `read_deployment`.
+//! One enters by `read_platform` and `read_deployment`; the types of rows and places are those of the crates below.
 //! It stands on `sg_rules`, which finds the fault, `sg_rows`, which it makes, and what is below these.
 #![tactic(auto)]
 
@@ -12,4 +12,10 @@ mod platform;
 
 pub use deployment::{DeploymentFault, read_deployment};
 pub use laws::bad_toml_exactly;
-pub use platform::{GREATEST_TEXT, PlatformFault, read_platform};
+pub use platform::{GREATEST_TEXT, PlatformFault, read_platform, take_platform};
+pub use sg_rows::{
+    ActorRow, Deployment, Function, HostRow, LinkRow, MutexRow, Network, Numbers, PlatformText,
+    Policy, Power, ProfileRow, Profiled, RouteRow, RouterRow, Routing, SemaphoreRow, SpokeRow,
+    StateProfileRow, States, ZoneRouteRow, ZoneRow,
+};
+pub use sg_tree::Place;

@@ -1,7 +1,7 @@
 //! Reads platforms.
-ghost use Rattle.std.specs.Prelude.{◌≡◌, ◌≢◌, ◌≤◌, Err, IfOk, Some, codes, length, map};
+ghost use Rattle.std.specs.Prelude.{◌≡◌, ◌≢◌, ◌≤◌, ◌∷◌, [], Err, IfErr, IfOk, OnOk, Some, codes, length, map};
 ghost use Rattle.std.specs.Result.{result_map_both};
-ghost use Rattle.sg_rows.specs.Platform.{IsPlatform};
+ghost use Rattle.sg_rows.specs.Platform.{IsPlatform, rows_view};
 ghost use Rattle.sg_rows.specs.Ends.{link_ends};
 ghost use Rattle.sg_platform.specs.Build.{host_row, profile_row, route_row, router_row, spoke_row, state_profile_row, zone_route_row, zone_row};
 ghost use Rattle.sg_platform.specs.BrokenRules.{platform_rule};
@@ -11,9 +11,10 @@ ghost use Rattle.sg_names.specs.Names.{platform_known};
 ghost use Rattle.sg_rules.specs.PlatformKinds.{IsPlatformFault};
 ghost use Rattle.sg_names.specs.kept.NamesView.{names_view};
 ghost use Rattle.sg_tree.specs.Tree.{rows_at};
-ghost use Rattle.sg_toml.specs.View.{table_view};
+ghost use Rattle.sg_tree.specs.kept.Rows.{KeepsBut};
+ghost use Rattle.toml.specs.View.{table_view};
 
-use crate::build::{network_of, read_rows};
+use crate::build::{network_of, read_table};
 use sg_names::{Names, platform_names};
 use sg_rows::{
     HostRow, LinkEnd, LinkRow, PlatformRows, PlatformText, ProfileRow, RouteRow, RouterRow,
@@ -23,6 +24,7 @@ use sg_rules::first_fault;
 use sg_tables::PLATFORM;
 use sg_tree::{Fault, Kind, NoTree, Place, read_tree, rows_at};
 use std::alloc::Global;
+use std::mem;
 use thiserror::Error;
 
 /// Why a text is no platform.
@@ -105,22 +107,25 @@ struct Places {
 fn read_places(
     alloc: Global,
     names: &Names,
-    tree: &sg_toml::Table,
+    tree: &mut toml::Table,
 ) -> Result<Places, sg_base::Memory>
     ensures zones { IfOk result
         (λ made. made.zones.items
-        ≡ map (zone_row (names_view names.now)) (rows_at (codes "zone") (table_view tree.now))) }
+        ≡ map (zone_row (names_view names.now)) (rows_at (codes "zone") (table_view tree.old))) }
     ensures hosts { IfOk result
         (λ made. made.hosts.items
-        ≡ map (host_row (names_view names.now)) (rows_at (codes "host") (table_view tree.now))) }
+        ≡ map (host_row (names_view names.now)) (rows_at (codes "host") (table_view tree.old))) }
     ensures routers { IfOk result
         (λ made. made.routers.items
         ≡ map (router_row (names_view names.now))
-        (rows_at (codes "router") (table_view tree.now))) }
+        (rows_at (codes "router") (table_view tree.old))) }
+    ensures others { OnOk result
+        (KeepsBut (codes "zone" ∷ codes "host" ∷ codes "router" ∷ [])
+        (table_view tree.old) (table_view tree.new)) }
 {
-    let zones = read_rows::<ZoneRow>(alloc, names, &[], rows_at(tree, "zone"))?;
-    let hosts = read_rows::<HostRow>(alloc, names, &[], rows_at(tree, "host"))?;
-    let routers = read_rows::<RouterRow>(alloc, names, &[], rows_at(tree, "router"))?;
+    let zones = read_table::<ZoneRow>(alloc, names, &[], tree, "zone")?;
+    let hosts = read_table::<HostRow>(alloc, names, &[], tree, "host")?;
+    let routers = read_table::<RouterRow>(alloc, names, &[], tree, "router")?;
     Ok(Places {
         zones,
         hosts,
@@ -140,23 +145,26 @@ fn read_routes(
     alloc: Global,
     names: &Names,
     ends: &[LinkEnd],
-    tree: &sg_toml::Table,
+    tree: &mut toml::Table,
 ) -> Result<Routes, sg_base::Memory>
     ensures routes { IfOk result
         (λ made. made.routes.items
-        ≡ map (route_row (names_view names.now)) (rows_at (codes "route") (table_view tree.now))) }
+        ≡ map (route_row (names_view names.now)) (rows_at (codes "route") (table_view tree.old))) }
     ensures zone_routes { IfOk result
         (λ made. made.zone_routes.items
         ≡ map (zone_route_row (names_view names.now))
-        (rows_at (codes "zone_route") (table_view tree.now))) }
+        (rows_at (codes "zone_route") (table_view tree.old))) }
     ensures spokes { IfOk result
         (λ made. made.spokes.items
         ≡ map (spoke_row (names_view names.now) ends.now)
-        (rows_at (codes "spoke") (table_view tree.now))) }
+        (rows_at (codes "spoke") (table_view tree.old))) }
+    ensures others { OnOk result
+        (KeepsBut (codes "route" ∷ codes "zone_route" ∷ codes "spoke" ∷ [])
+        (table_view tree.old) (table_view tree.new)) }
 {
-    let routes = read_rows::<RouteRow>(alloc, names, &[], rows_at(tree, "route"))?;
-    let zone_routes = read_rows::<ZoneRouteRow>(alloc, names, &[], rows_at(tree, "zone_route"))?;
-    let spokes = read_rows::<SpokeRow>(alloc, names, ends, rows_at(tree, "spoke"))?;
+    let routes = read_table::<RouteRow>(alloc, names, &[], tree, "route")?;
+    let zone_routes = read_table::<ZoneRouteRow>(alloc, names, &[], tree, "zone_route")?;
+    let spokes = read_table::<SpokeRow>(alloc, names, ends, tree, "spoke")?;
     Ok(Routes {
         routes,
         zone_routes,
@@ -168,23 +176,26 @@ fn read_routes(
 fn read_ways(
     alloc: Global,
     names: &Names,
-    tree: &sg_toml::Table,
+    tree: &mut toml::Table,
 ) -> Result<(Vec<LinkRow>, Routes), sg_base::Memory>
-    requires { length (links_of (table_view tree.now)) ≤ 65536 }
-    ensures links { IfOk result (λ made. made.0.items ≡ links_of (table_view tree.now)) }
+    requires { length (links_of (table_view tree.old)) ≤ 65536 }
+    ensures links { IfOk result (λ made. made.0.items ≡ links_of (table_view tree.old)) }
     ensures routes { IfOk result
         (λ made. made.1.routes.items
-        ≡ map (route_row (names_view names.now)) (rows_at (codes "route") (table_view tree.now))) }
+        ≡ map (route_row (names_view names.now)) (rows_at (codes "route") (table_view tree.old))) }
     ensures zone_routes { IfOk result
         (λ made. made.1.zone_routes.items
         ≡ map (zone_route_row (names_view names.now))
-        (rows_at (codes "zone_route") (table_view tree.now))) }
+        (rows_at (codes "zone_route") (table_view tree.old))) }
     ensures spokes { IfOk result
         (λ made. made.1.spokes.items
         ≡ map (spoke_row (names_view names.now) (link_ends made.0.items))
-        (rows_at (codes "spoke") (table_view tree.now))) }
+        (rows_at (codes "spoke") (table_view tree.old))) }
+    ensures others { OnOk result
+        (KeepsBut (codes "link" ∷ codes "route" ∷ codes "zone_route" ∷ codes "spoke" ∷ [])
+        (table_view tree.old) (table_view tree.new)) }
 {
-    let links = read_rows::<LinkRow>(alloc, names, &[], rows_at(tree, "link"))?;
+    let links = read_table::<LinkRow>(alloc, names, &[], tree, "link")?;
     let ends = link_ends(alloc, links.as_slice())?;
     let routes = read_routes(alloc, names, ends.as_slice(), tree)?;
     Ok((links, routes))
@@ -200,39 +211,40 @@ struct Profiles {
 fn read_profiles(
     alloc: Global,
     names: &Names,
-    tree: &sg_toml::Table,
+    tree: &mut toml::Table,
 ) -> Result<Profiles, sg_base::Memory>
     ensures profiles { IfOk result
         (λ made. made.profiles.items
         ≡ map (profile_row (names_view names.now))
-        (rows_at (codes "profile") (table_view tree.now))) }
+        (rows_at (codes "profile") (table_view tree.old))) }
     ensures state_profiles { IfOk result
         (λ made. made.state_profiles.items
         ≡ map (state_profile_row (names_view names.now))
-        (rows_at (codes "state_profile") (table_view tree.now))) }
+        (rows_at (codes "state_profile") (table_view tree.old))) }
 {
-    let profiles = read_rows::<ProfileRow>(alloc, names, &[], rows_at(tree, "profile"))?;
-    let states = rows_at(tree, "state_profile");
-    let state_profiles = read_rows::<StateProfileRow>(alloc, names, &[], states)?;
+    let profiles = read_table::<ProfileRow>(alloc, names, &[], tree, "profile")?;
+    let state_profiles = read_table::<StateProfileRow>(alloc, names, &[], tree, "state_profile")?;
     Ok(Profiles {
         profiles,
         state_profiles,
     })
 }
 
-#[tactic(auto, unfolding(crate::specs::PlatformOf::rows_of))]
-fn rows_of(
+/// The rows of a tree, all of whose tables are taken out of it.
+fn read_all(
     alloc: Global,
     names: &Names,
-    tree: &sg_toml::Table,
-) -> Result<PlatformText, sg_base::Memory>
-    requires { IsPlatform (rows_of (names_view names.now) (table_view tree.now)) }
-    ensures { IfOk result (λ p. p ≡ rows_of (names_view names.now) (table_view tree.now)) }
+    tree: &mut toml::Table,
+) -> Result<PlatformRows, sg_base::Memory>
+    requires { length (links_of (table_view tree.old)) ≤ 65536 }
+    ensures { IfOk result
+        (λ rows. rows_view rows ≡ rows_of (names_view names.now) (table_view tree.old)) }
 {
+    let network = network_of(rows_at(tree, "network"));
     let places = read_places(alloc, names, tree)?;
     let ways = read_ways(alloc, names, tree)?;
     let profiles = read_profiles(alloc, names, tree)?;
-    Ok(PlatformText::with_rows(PlatformRows {
+    Ok(PlatformRows {
         zones: places.zones,
         hosts: places.hosts,
         routers: places.routers,
@@ -240,22 +252,34 @@ fn rows_of(
         routes: ways.1.routes,
         zone_routes: ways.1.zone_routes,
         spokes: ways.1.spokes,
-        network: network_of(rows_at(tree, "network")),
+        network,
         profiles: profiles.profiles,
         state_profiles: profiles.state_profiles,
-    }))
+    })
 }
 
-/// The platform of a tree whose names these are.
+fn rows_of(
+    alloc: Global,
+    names: &Names,
+    tree: &mut toml::Table,
+) -> Result<PlatformText, sg_base::Memory>
+    requires { IsPlatform (rows_of (names_view names.now) (table_view tree.old)) }
+    ensures { IfOk result (λ p. p ≡ rows_of (names_view names.now) (table_view tree.old)) }
+{
+    let rows = read_all(alloc, names, tree)?;
+    Ok(PlatformText::with_rows(rows))
+}
+
+/// The platform of a tree whose names these are. Its tables are taken out of it.
 #[tactic(auto, unfolding(crate::specs::PlatformOf::tree_platform))]
 fn platform_in(
     alloc: Global,
     names: &Names,
-    tree: &sg_toml::Table,
+    tree: &mut toml::Table,
 ) -> Result<PlatformText, PlatformFault>
-    requires { names_view names.now ≡ platform_known (table_view tree.now) }
+    requires { names_view names.now ≡ platform_known (table_view tree.old) }
     ensures { result ≢ Err Memory
-        → result_map_both (λ p. p) platform_rule result ≡ tree_platform (table_view tree.now) }
+        → result_map_both (λ p. p) platform_rule result ≡ tree_platform (table_view tree.old) }
 {
     match first_fault(alloc, names, &PLATFORM, tree)? {
         Some(fault) => Err(fault_of(fault)),
@@ -263,9 +287,9 @@ fn platform_in(
     }
 }
 
-fn tree_platform(alloc: Global, tree: &sg_toml::Table) -> Result<PlatformText, PlatformFault>
+fn tree_platform(alloc: Global, tree: &mut toml::Table) -> Result<PlatformText, PlatformFault>
     ensures { result ≢ Err Memory
-        → result_map_both (λ p. p) platform_rule result ≡ tree_platform (table_view tree.now) }
+        → result_map_both (λ p. p) platform_rule result ≡ tree_platform (table_view tree.old) }
 {
     let names = platform_names(alloc, tree)?;
     platform_in(alloc, &names, tree)
@@ -274,15 +298,12 @@ fn tree_platform(alloc: Global, tree: &sg_toml::Table) -> Result<PlatformText, P
 /// The greatest text that is read, in bytes.
 pub const GREATEST_TEXT: usize = 16_777_216;
 
-/// Reads a platform.
-///
-/// # Errors
-///
-/// The text's fault of least place, and there of least kind, or want of memory.
+/// The tree of a text that is not too long.
 #[tactic(auto, unfolding(crate::specs::PlatformOf::platform_of))]
-pub fn read_platform(alloc: Global, bytes: &[u8]) -> Result<PlatformText, PlatformFault>
-    ensures { result ≢ Err Memory
-        → result_map_both (λ p. p) platform_rule result ≡ platform_of bytes.now }
+fn text_tree(alloc: Global, bytes: &[u8]) -> Result<toml::Table, PlatformFault>
+    ensures tree { IfOk result (λ tree. platform_of bytes.now ≡ tree_platform (table_view tree)) }
+    ensures fault { IfErr result
+        (λ why. why ≢ Memory → Err (platform_rule why) ≡ platform_of bytes.now) }
 {
     if bytes.len() > GREATEST_TEXT {
         let place = Place {
@@ -293,8 +314,40 @@ pub fn read_platform(alloc: Global, bytes: &[u8]) -> Result<PlatformText, Platfo
         return Err(PlatformFault::Limit(place));
     }
     match read_tree(alloc, bytes) {
-        Ok(tree) => tree_platform(alloc, &tree),
+        Ok(tree) => Ok(tree),
         Err(NoTree::BadToml) => Err(PlatformFault::BadToml),
         Err(NoTree::Memory) => Err(PlatformFault::Memory),
+    }
+}
+
+/// Reads a platform.
+///
+/// # Errors
+///
+/// The text's fault of least place, and there of least kind, or want of memory.
+pub fn read_platform(alloc: Global, bytes: &[u8]) -> Result<PlatformText, PlatformFault>
+    ensures { result ≢ Err Memory
+        → result_map_both (λ p. p) platform_rule result ≡ platform_of bytes.now }
+{
+    match text_tree(alloc, bytes) {
+        Ok(mut tree) => tree_platform(alloc, &mut tree),
+        Err(why) => Err(why),
+    }
+}
+
+/// Reads a platform as `read_platform` does, and lets its text go as soon as its tree stands.
+///
+/// # Errors
+///
+/// Those of `read_platform`.
+pub fn take_platform(alloc: Global, text: Vec<u8>) -> Result<PlatformText, PlatformFault>
+    ensures { result ≢ Err Memory
+        → result_map_both (λ p. p) platform_rule result ≡ platform_of text.items }
+{
+    let tree = text_tree(alloc, &text);
+    mem::drop(text);
+    match tree {
+        Ok(mut tree) => tree_platform(alloc, &mut tree),
+        Err(why) => Err(why),
     }
 }

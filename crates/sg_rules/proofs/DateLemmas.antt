@@ -3,8 +3,8 @@ use Rattle.std.proofs.Common.{◌≡◌, ℕ, ◌+◌, ◌<◌, Bool, List, ◌�
 use Rattle.std.proofs.lemmas.List.{drop_more}
 use Rattle.sg_rules.specs.Profiles.{amount_in, are_rising}
 use Rattle.sg_tables.specs.declared.units.Quantity.TheVariants.{Time}
-use Rattle.sg_toml.specs.View.{view}
-use Rattle.sg_toml.specs.declared.value.Value.{Value}
+use Rattle.toml.specs.View.{view}
+use Rattle.toml.specs.declared.value.Value.{Value}
 
 -- those behind the last one, where there is one, rise with it
 abbrev pub rise_from : Option ℕ → List (Option ℕ) → Bool

@@ -6,8 +6,8 @@ use Rattle.std.specs.List.{AllByRecursion, IsDistinct, list_any}
 use Rattle.std.specs.Str.{bytes_eq}
 use Rattle.sg_rules.specs.Arguments.{has_repeat, text_of}
 use Rattle.sg_tree.specs.Names.{Finds, or_else}
-use Rattle.sg_toml.specs.View.{view}
-use Rattle.sg_toml.specs.declared.value.Value.{Value}
+use Rattle.toml.specs.View.{view}
+use Rattle.toml.specs.declared.value.Value.{Value}
 
 or_assoc : (a b c : Bool) → ((a || b) || c) ≡ (a || (b || c))
 or_assoc true b c = refl

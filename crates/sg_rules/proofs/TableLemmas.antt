@@ -2,8 +2,8 @@
 use Rattle.std.proofs.Common.{◌≡◌, ℕ, ◌<◌, ◌≤◌, true, nat_lt, List, map, length, Option, Some, None, option_and_then, ap, ◌∙◌, sym, inl, inr, arith}
 use Rattle.std.proofs.lemmas.List.{length-map}
 use Rattle.toml.specs.Data.{Members, get_member, Data, Items, as_array}
-use Rattle.sg_toml.specs.View.{view}
-use Rattle.sg_toml.specs.declared.value.Value.{Value}
+use Rattle.toml.specs.View.{view}
+use Rattle.toml.specs.declared.value.Value.{Value}
 use Rattle.sg_tree.specs.Tree.{rows_at, items_or_none, list_of}
 use Rattle.sg_names.specs.Names.{Known}
 use Rattle.sg_tree.specs.Along.{first, along}

@@ -1,5 +1,5 @@
 -- The arguments that go with what an actor does.
-use Rattle.std.specs.Prelude.{is_some, ℕ, ◌==◌, Bool, false, not, ◌&&◌, ◌||◌, nat_le, List, [], ◌∷◌, Option, length, map, codes, unwrap_or}
+use Rattle.std.specs.Prelude.{is_some, ℕ, ◌==◌, Bool, false, not, ◌&&◌, ◌||◌, nat_le, List, [], ◌∷◌, length, map, codes, unwrap_or}
 use Rattle.std.specs.List.{list_all, list_any}
 use Rattle.std.specs.Option.{option_map_or}
 use Rattle.std.specs.Str.{bytes_eq}

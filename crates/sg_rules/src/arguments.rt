@@ -7,15 +7,15 @@ ghost use Rattle.sg_rules.specs.Arguments.{are_for_master, are_workers, argument
 ghost use Rattle.sg_tables.specs.Units.{quantity_value};
 ghost use Rattle.sg_tables.specs.declared.units.Quantity.TheVariants.{Amount};
 ghost use Rattle.sg_tree.specs.Along.{first};
-ghost use Rattle.sg_toml.specs.View.{view};
+ghost use Rattle.toml.specs.View.{view};
 
 use indexmap::IndexMap;
 use sg_base::Memory;
 use sg_names::has_function;
 use sg_tables::Quantity;
-use sg_toml::Value;
 use sg_tree::{Kind, add_name};
 use std::alloc::Global;
+use toml::Value;
 
 /// The text of an item, and the empty text where it is none.
 pub fn text_of(item: &Value) -> &str

@@ -17,7 +17,7 @@ ghost use Rattle.toml.specs.Data.{as_integer, as_str};
 ghost use Rattle.sg_rules.specs.Arguments.{text_of};
 ghost use Rattle.sg_rules.specs.Power.{powers_in};
 ghost use Rattle.sg_rules.specs.Rules.{default_kinds, end_kinds, host_kinds, id_kinds, is_pair_taken, is_required, is_taken, is_zone, key_kinds, link_id_kinds, link_list_kinds, list_kinds, point_kinds, profiled_link_kinds, text_kinds, texts_kinds, value_kinds, word_kinds, zone_kinds};
-ghost use Rattle.sg_toml.specs.View.{view};
+ghost use Rattle.toml.specs.View.{view};
 
 use crate::arguments::{argument_fault, text_of};
 use crate::power::powers_fault;
@@ -27,9 +27,9 @@ use indexmap::IndexMap;
 use sg_base::Memory;
 use sg_names::{Names, is_split, is_symmetrical, point_at};
 use sg_tables::{Key, Need, Rule, TextRule, TextsRule, whole_value};
-use sg_toml::Value;
 use sg_tree::Kind;
 use std::alloc::Global;
+use toml::Value;
 
 fn is_name_byte(byte: u8) -> bool
     ensures { result ≡ is_name_byte byte }

@@ -1,9 +1,10 @@
 //! The first fault of a tree.
-ghost use Rattle.std.specs.Prelude.{◌≡◌, IfOk, ◌<◌, ◌+◌, ◌^◌, length, map, not};
+ghost use Rattle.std.specs.Prelude.{◌≡◌, IfOk, ◌<◌, ◌+◌, ◌^◌, length, map, not, string_bytes};
+ghost use Rattle.std.specs.BTreeMap.{keys as map_keys};
 ghost use Rattle.toml.specs.Data.{as_table, get_member};
 ghost use Rattle.std.specs.List.{list_any, list_all};
 ghost use Rattle.std.specs.Str.{bytes_eq};
-ghost use Rattle.sg_toml.specs.View.{view, table_view, word_bytes};
+ghost use Rattle.toml.specs.View.{view, table_view};
 ghost use Rattle.sg_names.specs.kept.NamesView.{names_view};
 ghost use Rattle.sg_tree.specs.Along.{first, along};
 ghost use Rattle.sg_tree.specs.Faults.{at_place, kind_if, of_type};
@@ -17,9 +18,9 @@ use crate::checks::key_fault;
 use sg_base::Memory;
 use sg_names::Names;
 use sg_tables::{Key, Table};
-use sg_toml::Value;
 use sg_tree::{Fault, Kind, Place, rows_at, small_number, value_at};
 use std::alloc::Global;
+use toml::Value;
 
 /// The first fault of the keys of the row at a place.
 fn keys_fault(
@@ -61,15 +62,15 @@ fn is_key(keys: &[Key], name: &str) -> bool
     false
 }
 
-fn are_keys(keys: &[Key], members: &sg_toml::Table) -> bool
+fn are_keys(keys: &[Key], members: &toml::Table) -> bool
     ensures { result
-        ≡ list_all (λ e. list_any (λ t. bytes_eq (word_bytes e.0) t) (map key_text keys.now))
-        members.now.items }
+        ≡ list_all (λ k. list_any (λ t. bytes_eq (string_bytes k) t) (map key_text keys.now))
+        (map_keys members.now) }
 {
-    members.iter().all(|entry| is_key(keys, entry.0.as_str()))
+    members.keys().all(|name| is_key(keys, name.as_str()))
 }
 
-fn has_only(keys: &[Key], members: &sg_toml::Table) -> bool
+fn has_only(keys: &[Key], members: &toml::Table) -> bool
     ensures { result ≡ has_only (map key_text keys.now) (table_view members.now) }
 {
     are_keys(keys, members)
@@ -153,7 +154,7 @@ fn rows_fault(
 
 /// The first rule that a table breaks as a whole.
 #[tactic(auto, using(sg_tree::proofs::TreeLemmas::length_of_items))]
-fn head_fault(tree: &sg_toml::Table, table: Table) -> Option<Kind>
+fn head_fault(tree: &toml::Table, table: Table) -> Option<Kind>
     ensures { result
         ≡ first (table_kinds table (get_member (table_text table) (table_view tree.now))) }
 {
@@ -188,7 +189,7 @@ fn before(names: &Names, table: Table) -> usize
 fn table_fault(
     alloc: Global,
     names: &Names,
-    tree: &sg_toml::Table,
+    tree: &toml::Table,
     number: u32,
     table: Table,
 ) -> Result<Option<Fault>, Memory>
@@ -230,17 +231,15 @@ fn is_table(tables: &[Table], name: &str) -> bool
     false
 }
 
-fn are_tables(tables: &[Table], members: &sg_toml::Table) -> bool
+fn are_tables(tables: &[Table], members: &toml::Table) -> bool
     ensures { result
-        ≡ list_all (λ e. list_any (λ t. bytes_eq (word_bytes e.0) t) (map table_text tables.now))
-        members.now.items }
+        ≡ list_all (λ k. list_any (λ t. bytes_eq (string_bytes k) t) (map table_text tables.now))
+        (map_keys members.now) }
 {
-    members
-        .iter()
-        .all(|entry| is_table(tables, entry.0.as_str()))
+    members.keys().all(|name| is_table(tables, name.as_str()))
 }
 
-fn has_only_tables(tables: &[Table], members: &sg_toml::Table) -> bool
+fn has_only_tables(tables: &[Table], members: &toml::Table) -> bool
     ensures { result ≡ has_only (map table_text tables.now) (table_view members.now) }
 {
     are_tables(tables, members)
@@ -250,7 +249,7 @@ fn has_only_tables(tables: &[Table], members: &sg_toml::Table) -> bool
 fn tables_fault(
     alloc: Global,
     names: &Names,
-    tree: &sg_toml::Table,
+    tree: &toml::Table,
     tables: &[Table],
 ) -> Result<Option<Fault>, Memory>
     ensures { IfOk result
@@ -275,7 +274,7 @@ pub fn first_fault(
     alloc: Global,
     names: &Names,
     tables: &[Table],
-    tree: &sg_toml::Table,
+    tree: &toml::Table,
 ) -> Result<Option<Fault>, Memory>
     ensures { IfOk result
         (λ fault. fault

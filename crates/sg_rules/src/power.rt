@@ -4,11 +4,11 @@ ghost use Rattle.sg_rules.specs.Power.{milliwatts_in, powers_in, powers_of};
 ghost use Rattle.sg_tree.specs.Along.{first};
 ghost use Rattle.sg_tree.specs.Faults.{kind_if};
 ghost use Rattle.sg_tree.specs.declared.fault.Kind.TheVariants.{BadValue};
-ghost use Rattle.sg_toml.specs.View.{view};
+ghost use Rattle.toml.specs.View.{view};
 
 use sg_tables::whole_value;
-use sg_toml::Value;
 use sg_tree::Kind;
+use toml::Value;
 
 /// What a host that is on draws, in milliwatts.
 #[derive(Clone, Copy)]

@@ -5,13 +5,13 @@ ghost use Rattle.std.specs.List.{list_all};
 ghost use Rattle.sg_tree.specs.Along.{first};
 ghost use Rattle.sg_rules.specs.Profiles.{amount_in, are_rising, dates_kinds, each_date_kinds, items_at, quantity_of, state_in};
 ghost use Rattle.sg_tables.specs.declared.units.Quantity.TheVariants.{Time};
-ghost use Rattle.sg_toml.specs.View.{view};
+ghost use Rattle.toml.specs.View.{view};
 ghost use Rattle.toml.specs.Data.{get};
 
 use crate::arguments::text_of;
 use sg_tables::Quantity;
-use sg_toml::Value;
 use sg_tree::Kind;
+use toml::Value;
 
 /// Whether the row of a profile names a host.
 pub fn is_of_host(row: &Value) -> bool

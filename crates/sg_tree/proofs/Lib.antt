@@ -3,3 +3,4 @@ pub mod Bounds
 pub mod Kept
 pub mod NameLemmas
 pub mod TreeLemmas
+pub mod TakenRows

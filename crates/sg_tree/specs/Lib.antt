@@ -3,3 +3,4 @@ pub mod Tree
 pub mod Names
 pub mod Faults
 pub mod Spelling
+pub mod kept

@@ -4,13 +4,13 @@ ghost use Rattle.std.specs.HashMap.{get_by, get_by_text, IsUnchanged};
 ghost use Rattle.std.specs.Str.{bytes_eq};
 ghost use Rattle.sg_tree.specs.Along.{along};
 ghost use Rattle.sg_tree.specs.Names.{Adds, AddsFront, Pair, SameNames, found_in, pair_eq, numbered, with_number, or_else, texts_at};
-ghost use Rattle.sg_toml.specs.View.{view};
+ghost use Rattle.toml.specs.View.{view};
 
 use crate::tree::text_at;
 use indexmap::IndexMap;
 use sg_base::Memory;
-use sg_toml::Value;
 use std::alloc::Global;
+use toml::Value;
 
 /// The number in the 32 bits that a space of names has for it; one that is greater is want of memory.
 pub fn small_number(number: usize) -> Result<u32, Memory>

@@ -1,12 +1,12 @@
 //! The tree of a text, and what stands at its keys.
-ghost use Rattle.std.specs.Prelude.{◌≡◌, ◌≢◌, IfOk, IsErrOf, Some, None, map, option_map, option_copied};
-ghost use Rattle.sg_tree.specs.Tree.{tree_of, rows_at, text_at, text_or_empty};
-ghost use Rattle.toml.specs.Data.{get_member};
-ghost use Rattle.sg_toml.specs.View.{view, table_view};
+ghost use Rattle.std.specs.Prelude.{◌≡◌, ◌∷◌, [], IfOk, IsErrOf, Some, None, map, option_map, option_copied};
+ghost use Rattle.sg_tree.specs.Tree.{items_or_none, tree_of, rows_at, text_at, text_or_empty};
+ghost use Rattle.sg_tree.specs.kept.Rows.{KeepsBut};
+ghost use Rattle.toml.specs.Data.{as_array, get_member};
+ghost use Rattle.toml.specs.View.{view, table_view};
 
-use sg_toml::{Table, Value, member, read_document};
 use std::alloc::Global;
-use toml_parser::ParseError;
+use toml::{Table, Value};
 
 /// Why there is no tree.
 #[derive(Clone, Copy)]
@@ -16,26 +16,20 @@ pub enum NoTree {
     Memory,
 }
 
-fn no_tree(error: ParseError) -> NoTree
-    ensures { result ≡ NoTree.BadToml → error ≢ ParseError.OutOfMemory }
-{
-    match error {
-        ParseError::OutOfMemory => NoTree::Memory,
-        ParseError::At(..) => NoTree::BadToml,
-    }
-}
-
 /// The tree of some bytes.
 pub fn read_tree(alloc: Global, bytes: &[u8]) -> Result<Table, NoTree>
     ensures ok { IfOk result (λ t. tree_of bytes.now ≡ Some (table_view t)) }
     ensures bad { IsErrOf result NoTree.BadToml → tree_of bytes.now ≡ None }
 {
-    let Ok(text) = std::str::from_utf8(bytes) else {
-        return Err(NoTree::BadToml);
-    };
-    match read_document(alloc, text) {
+    match toml::table_from_slice(alloc, bytes) {
         Ok(table) => Ok(table),
-        Err(e) => Err(no_tree(e)),
+        Err(e) => {
+            if e.is_memory() {
+                Err(NoTree::Memory)
+            } else {
+                Err(NoTree::BadToml)
+            }
+        }
     }
 }
 
@@ -43,7 +37,7 @@ pub fn read_tree(alloc: Global, bytes: &[u8]) -> Result<Table, NoTree>
 pub fn value_at<'a>(tree: &'a Table, name: &str) -> Option<&'a Value>
     ensures { option_map (λ v. view v.now) result ≡ get_member name.now (table_view tree.now) }
 {
-    member(tree, name)
+    tree.get(name)
 }
 
 /// The rows of a table: none where it is absent or no array.
@@ -57,6 +51,36 @@ pub fn rows_at<'a>(tree: &'a Table, name: &str) -> &'a [Value]
             None => &[],
         },
         None => &[],
+    }
+}
+
+// Takes what stands at a key out of the tree.
+fn take_value(tree: &mut Table, name: &str) -> Option<Value>
+    ensures value { option_map view result ≡ get_member name.now (table_view tree.old) }
+    ensures others { KeepsBut (name.now ∷ []) (table_view tree.old) (table_view tree.new) }
+{
+    tree.remove(name)
+}
+
+// The items of an array: none where it is none.
+fn items_of(alloc: Global, value: Value) -> Vec<Value>
+    ensures { map view result.items ≡ items_or_none (as_array (view value)) }
+{
+    match value {
+        Value::Array(items) => items,
+        _ => Vec::new(alloc),
+    }
+}
+
+/// Takes the rows of a table out of the tree: none where it is absent or no array.
+#[tactic(auto, unfolding(crate::specs::Tree::rows_at))]
+pub fn take_rows(alloc: Global, tree: &mut Table, name: &str) -> Vec<Value>
+    ensures rows { map view result.items ≡ rows_at name.now (table_view tree.old) }
+    ensures others { KeepsBut (name.now ∷ []) (table_view tree.old) (table_view tree.new) }
+{
+    match take_value(tree, name) {
+        Some(value) => items_of(alloc, value),
+        None => Vec::new(alloc),
     }
 }
 

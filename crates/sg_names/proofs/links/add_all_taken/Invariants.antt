@@ -5,7 +5,7 @@ use Rattle.std.specs.Str.{bytes_eq}
 use Rattle.sg_names.specs.LinkNames.{taken_names}
 use Rattle.sg_tree.specs.Along.{along}
 use Rattle.sg_tree.specs.Names.{with_number, or_else}
-use Rattle.sg_toml.specs.View.{view}
+use Rattle.toml.specs.View.{view}
 use Rattle.sg_names.proofs.links.add_all_taken.Given as goal
 
 abbrev pub invariant-loop-i : goal.invariant-loop-i

@@ -3,7 +3,7 @@ use Rattle.std.specs.HashMap.{get_by_text}
 use Rattle.std.specs.List.{flat_map}
 use Rattle.sg_names.specs.LinkNames.{link_names}
 use Rattle.sg_tree.specs.Names.{found_in, numbered, or_else}
-use Rattle.sg_toml.specs.View.{view}
+use Rattle.toml.specs.View.{view}
 use Rattle.sg_names.proofs.links.add_links.Given as goal
 
 abbrev pub invariant-loop-row : goal.invariant-loop-row

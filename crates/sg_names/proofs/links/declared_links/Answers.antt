@@ -2,7 +2,7 @@ use Rattle.std.proofs.Common.{◌≡◌, ◌∙◌, None}
 use Rattle.std.specs.HashMap.{get_by_text}
 use Rattle.sg_names.specs.LinkNames.{link_names}
 use Rattle.sg_tree.proofs.NameLemmas.{flat_map_map}
-use Rattle.sg_toml.specs.View.{view}
+use Rattle.toml.specs.View.{view}
 use Rattle.sg_names.proofs.links.declared_links.Goals as goal
 
 pub returns : goal.returns

@@ -3,7 +3,7 @@ use Rattle.std.specs.Str.{bytes_eq}
 use Rattle.sg_names.specs.LinkNames.{taken_names}
 use Rattle.sg_tree.proofs.NameLemmas.{made_along}
 use Rattle.sg_tree.specs.Names.{with_number}
-use Rattle.sg_toml.specs.View.{view}
+use Rattle.toml.specs.View.{view}
 use Rattle.sg_names.proofs.links.taken_links.Goals as goal
 
 pub returns : goal.returns

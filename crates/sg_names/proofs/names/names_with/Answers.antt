@@ -1,6 +1,6 @@
 use Rattle.std.proofs.Common.{◌∙◌}
 use Rattle.sg_names.proofs.NameLemmas.{collected}
-use Rattle.sg_toml.specs.View.{table_view}
+use Rattle.toml.specs.View.{table_view}
 use Rattle.sg_names.proofs.names.names_with.Goals as goal
 
 pub returns : goal.returns

@@ -2,7 +2,7 @@ use Rattle.std.proofs.Common.{◌≡◌, IfOk, subst}
 use Rattle.std.specs.HashMap.{get_by_text}
 use Rattle.sg_names.specs.Names.{Known, known_by, platform_known}
 use Rattle.sg_names.specs.kept.NamesView.{names_view}
-use Rattle.sg_toml.specs.View.{table_view}
+use Rattle.toml.specs.View.{table_view}
 use Rattle.sg_names.proofs.names.platform_names.Goals as goal
 
 pub returns : goal.returns

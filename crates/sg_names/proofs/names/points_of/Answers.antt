@@ -4,7 +4,7 @@ use Rattle.std.specs.Str.{bytes_eq}
 use Rattle.sg_names.proofs.NameLemmas.{three_numbered}
 use Rattle.sg_tree.proofs.NameLemmas.{lookup_append}
 use Rattle.sg_tree.specs.Names.{found_in, numbered, or_else, texts_at}
-use Rattle.sg_toml.specs.View.{view}
+use Rattle.toml.specs.View.{view}
 use Rattle.sg_names.proofs.names.points_of.Goals as goal
 
 pub returns : goal.returns

@@ -1,8 +1,8 @@
 use Rattle.std.proofs.Common.{◌∙◌, ap, ℕ, List}
 use Rattle.std.specs.HashMap.{get_by_text, get_by}
 use Rattle.std.specs.Map.{lookup}
-use Rattle.sg_toml.specs.View.{view}
-use Rattle.sg_toml.specs.declared.value.Value.{Value}
+use Rattle.toml.specs.View.{view}
+use Rattle.toml.specs.declared.value.Value.{Value}
 use Rattle.sg_tree.specs.Names.{with_number, or_else, Pair, pair_eq}
 use Rattle.sg_names.specs.Pairs.{pairs_of}
 use Rattle.sg_tree.proofs.NameLemmas.{along_turn}

@@ -1,7 +1,7 @@
 use Rattle.std.proofs.Common.{◌≡◌, drop}
 use Rattle.std.specs.HashMap.{get_by_text, get_by}
 use Rattle.std.specs.Map.{lookup}
-use Rattle.sg_toml.specs.View.{view}
+use Rattle.toml.specs.View.{view}
 use Rattle.sg_tree.specs.Along.{along}
 use Rattle.sg_tree.specs.Names.{with_number, or_else, Pair, pair_eq}
 use Rattle.sg_names.specs.Pairs.{pairs_of}

@@ -1,5 +1,5 @@
 use Rattle.std.specs.HashMap.{get_by_text, get_by}
-use Rattle.sg_toml.specs.View.{view}
+use Rattle.toml.specs.View.{view}
 use Rattle.sg_tree.specs.Names.{with_number, pair_eq}
 use Rattle.sg_names.specs.Pairs.{pairs_of}
 use Rattle.sg_tree.proofs.NameLemmas.{made_along}

@@ -2,7 +2,7 @@ use Rattle.std.proofs.Common.{◌≡◌, ◌∙◌, None}
 use Rattle.std.specs.HashMap.{get_by_text}
 use Rattle.sg_names.specs.Workers.{worker_names}
 use Rattle.sg_tree.proofs.NameLemmas.{numbered_from}
-use Rattle.sg_toml.specs.View.{view}
+use Rattle.toml.specs.View.{view}
 use Rattle.sg_names.proofs.workers.workers_in.Goals as goal
 
 pub returns : goal.returns

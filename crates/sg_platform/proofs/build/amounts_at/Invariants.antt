@@ -1,6 +1,6 @@
 use Rattle.std.proofs.Common.{◌≡◌, map, take}
 use Rattle.sg_platform.specs.Functions.{amount_or_zero}
-use Rattle.sg_toml.specs.View.{view}
+use Rattle.toml.specs.View.{view}
 use Rattle.sg_platform.proofs.build.amounts_at.Given as goal
 
 abbrev pub invariant-loop-item : goal.invariant-loop-item

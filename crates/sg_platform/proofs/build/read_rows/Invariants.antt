@@ -1,7 +1,7 @@
-use Rattle.std.proofs.Common.{◌≡◌, map, take}
+use Rattle.std.proofs.Common.{◌≡◌, map}
 use Rattle.sg_names.specs.kept.NamesView.{names_view}
-use Rattle.sg_toml.specs.View.{view}
+use Rattle.toml.specs.View.{view}
 use Rattle.sg_platform.proofs.build.read_rows.Given as goal
 
 abbrev pub invariant-loop-row : goal.invariant-loop-row
-invariant-loop-row g l = l.made.items ≡ map (g.R.Row.row_of (names_view l.names) l.ends) (map view (take l.row-index l.rows))
+invariant-loop-row g l = l.made.items ≡ map (g.R.Row.row_of (names_view l.names) l.ends) (map view l.yielded)

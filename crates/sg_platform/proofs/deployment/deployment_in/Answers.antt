@@ -5,7 +5,7 @@ use Rattle.sg_rows.specs.Index.{host_number}
 use Rattle.sg_rules.proofs.KeptArguments.{known_workers}
 use Rattle.sg_names.specs.Names.{Known}
 use Rattle.sg_names.specs.kept.NamesView.{names_view}
-use Rattle.sg_toml.specs.View.{table_view}
+use Rattle.toml.specs.View.{table_view}
 use Rattle.sg_platform.proofs.deployment.deployment_in.Goals as goal
 
 pub rows_of-requires : goal.rows_of-requires

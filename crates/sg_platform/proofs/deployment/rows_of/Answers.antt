@@ -1,4 +1,4 @@
-use Rattle.std.proofs.Common.{◌≡◌, ◌∙◌, List, IfOk, ap, codes, map, subst, sym}
+use Rattle.std.proofs.Common.{◌≡◌, ◌∙◌, List, IfOk, ap, codes, map, refl, subst, sym}
 use Rattle.sg_platform.specs.Build.{actor_row, mutex_row, semaphore_row}
 use Rattle.sg_platform.specs.DeploymentOf.{rows_of}
 use Rattle.sg_rows.specs.Deployment.{Deployed, IsDeployment, deployment_of_rows}
@@ -8,7 +8,7 @@ use Rattle.sg_rows.specs.declared.rows.SemaphoreRow.{SemaphoreRow}
 use Rattle.sg_names.specs.Names.{Known}
 use Rattle.sg_names.specs.kept.NamesView.{names_view}
 use Rattle.sg_tree.specs.Tree.{rows_at}
-use Rattle.sg_toml.specs.View.{table_view}
+use Rattle.toml.specs.View.{table_view}
 use Rattle.toml.specs.Data.{Members}
 use Rattle.sg_platform.proofs.deployment.rows_of.Goals as goal
 
@@ -20,11 +20,15 @@ made_of names tree a m s actors mutexes semaphores = λ i. record { actors = act
 pub with_rows-requires : goal.with_rows-requires
 with_rows-requires c =
     let names = names_view c.args.names.now in
-    let same = made_of names (table_view c.args.tree.now) _ _ _ (c.in_ok-actors.ensures ∙ ap (map (actor_row names)) c.rows_at.ensures) (c.in_ok-mutexes.ensures ∙ ap (map mutex_row) c.rows_at-2.ensures) (c.in_ok-semaphores.ensures ∙ ap (map semaphore_row) c.rows_at-3.ensures) in
+    let mutexes = c.in_ok-mutexes.ensures.rows ∙ ap (map mutex_row) (c.in_ok-actors.ensures.others (codes "mutex") (refl, tt)) in
+    let left = c.in_ok-mutexes.ensures.others (codes "semaphore") (refl, tt) ∙ c.in_ok-actors.ensures.others (codes "semaphore") (refl, tt) in
+    let same = made_of names (table_view c.args.tree.now) _ _ _ c.in_ok-actors.ensures.rows mutexes (c.in_ok-semaphores.ensures.rows ∙ ap (map semaphore_row) left) in
     subst IsDeployment (sym same) c.requires
 
 pub returns : goal.returns
 returns c =
     let names = names_view c.args.names.now in
-    let same = made_of names (table_view c.args.tree.now) _ _ _ (c.in_ok-actors.ensures ∙ ap (map (actor_row names)) c.rows_at.ensures) (c.in_ok-mutexes.ensures ∙ ap (map mutex_row) c.rows_at-2.ensures) (c.in_ok-semaphores.ensures ∙ ap (map semaphore_row) c.rows_at-3.ensures) in
+    let mutexes = c.in_ok-mutexes.ensures.rows ∙ ap (map mutex_row) (c.in_ok-actors.ensures.others (codes "mutex") (refl, tt)) in
+    let left = c.in_ok-mutexes.ensures.others (codes "semaphore") (refl, tt) ∙ c.in_ok-actors.ensures.others (codes "semaphore") (refl, tt) in
+    let same = made_of names (table_view c.args.tree.now) _ _ _ c.in_ok-actors.ensures.rows mutexes (c.in_ok-semaphores.ensures.rows ∙ ap (map semaphore_row) left) in
     subst (λ (rows : Deployed). IfOk c.with_rows.result (λ d. d ≡ rows)) same c.with_rows.ensures

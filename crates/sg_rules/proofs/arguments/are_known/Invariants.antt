@@ -2,7 +2,7 @@ use Rattle.std.proofs.Common.{◌≡◌, drop, is_some, map}
 use Rattle.std.specs.HashMap.{get_by_text}
 use Rattle.std.specs.List.{list_all}
 use Rattle.sg_rules.specs.Arguments.{text_of}
-use Rattle.sg_toml.specs.View.{view}
+use Rattle.toml.specs.View.{view}
 use Rattle.sg_rules.proofs.arguments.are_known.Given as goal
 
 abbrev pub invariant-loop-item : goal.invariant-loop-item

@@ -1,6 +1,6 @@
 use Rattle.std.proofs.Common.{◌≡◌, drop, is_some, map}
 use Rattle.std.specs.List.{list_all}
-use Rattle.sg_toml.specs.View.{view}
+use Rattle.toml.specs.View.{view}
 use Rattle.toml.specs.Data.{as_integer}
 use Rattle.sg_rules.proofs.checks.are_wholes.Given as goal
 

@@ -3,4 +3,4 @@ use Rattle.sg_tree.proofs.TreeLemmas.{has_only-members_view}
 use Rattle.sg_rules.proofs.faults.has_only.Goals as goal
 
 pub returns : goal.returns
-returns c = c.are_keys.ensures ∙ has_only-members_view _ c.args.members.now.items
+returns c = c.are_keys.ensures ∙ has_only-members_view _ c.args.members.now.entries

@@ -4,4 +4,4 @@ use Rattle.sg_tree.proofs.TreeLemmas.{has_only-members_view}
 use Rattle.sg_rules.proofs.faults.has_only_tables.Goals as goal
 
 pub returns : goal.returns
-returns c = c.are_tables.ensures ∙ has_only-members_view (map table_text c.args.tables.now) c.args.members.now.items
+returns c = c.are_tables.ensures ∙ has_only-members_view (map table_text c.args.tables.now) c.args.members.now.entries

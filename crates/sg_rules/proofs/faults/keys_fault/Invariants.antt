@@ -1,5 +1,5 @@
 use Rattle.std.proofs.Common.{◌≡◌, drop}
-use Rattle.sg_toml.specs.View.{view}
+use Rattle.toml.specs.View.{view}
 use Rattle.sg_names.specs.kept.NamesView.{names_view}
 use Rattle.sg_tree.specs.Along.{first, along}
 use Rattle.sg_rules.proofs.FaultParts.{key_faults}

@@ -1,5 +1,5 @@
 use Rattle.std.proofs.Common.{◌≡◌, ◌+◌, drop}
-use Rattle.sg_toml.specs.View.{table_view}
+use Rattle.toml.specs.View.{table_view}
 use Rattle.sg_names.specs.kept.NamesView.{names_view}
 use Rattle.sg_tree.specs.Along.{first, along}
 use Rattle.sg_rules.specs.Faults.{table_faults}

@@ -2,7 +2,7 @@ use Rattle.std.proofs.Common.{◌≡◌, map}
 use Rattle.sg_rules.proofs.DateLemmas.{dates_from, rise_from}
 use Rattle.sg_rules.specs.Profiles.{amount_in, are_rising}
 use Rattle.sg_tables.specs.declared.units.Quantity.TheVariants.{Time}
-use Rattle.sg_toml.specs.View.{view}
+use Rattle.toml.specs.View.{view}
 use Rattle.sg_rules.proofs.profiles.are_rising.Given as goal
 
 abbrev pub invariant-loop-item : goal.invariant-loop-item

@@ -1,7 +1,7 @@
 use Rattle.std.proofs.Common.{◌≡◌, drop, is_some, map}
 use Rattle.std.specs.List.{list_all}
 use Rattle.sg_rules.specs.Profiles.{state_in}
-use Rattle.sg_toml.specs.View.{view}
+use Rattle.toml.specs.View.{view}
 use Rattle.sg_rules.proofs.profiles.are_states.Given as goal
 
 abbrev pub invariant-loop-item : goal.invariant-loop-item

@@ -2,7 +2,7 @@ use Rattle.std.proofs.Common.{ap, is_some, map, ◌∙◌}
 use Rattle.std.specs.List.{list_all}
 use Rattle.sg_rules.specs.Profiles.{amount_in, each_date_kinds}
 use Rattle.sg_tree.specs.Along.{first}
-use Rattle.sg_toml.specs.View.{view}
+use Rattle.toml.specs.View.{view}
 use Rattle.sg_rules.proofs.profiles.values_fault.Goals as goal
 
 pub returns : goal.returns

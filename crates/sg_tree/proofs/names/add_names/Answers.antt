@@ -3,7 +3,7 @@ use Rattle.std.proofs.lemmas.List.{length-map, take-map}
 use Rattle.std.specs.HashMap.{get_by_text}
 use Rattle.sg_tree.proofs.NameLemmas.{numbered_from, on_err}
 use Rattle.sg_tree.specs.Names.{AddsFront, found_in, numbered, or_else, texts_at}
-use Rattle.sg_toml.specs.View.{view}
+use Rattle.toml.specs.View.{view}
 use Rattle.sg_tree.proofs.names.add_names.Goals as goal
 
 pub returns-clause-added : goal.returns-clause-added

@@ -2,8 +2,8 @@ use Rattle.std.proofs.Common.{◌+◌, ℕ, List}
 use Rattle.std.specs.Str.{bytes_eq}
 use Rattle.sg_tree.proofs.NameLemmas.{along_front}
 use Rattle.sg_tree.specs.Names.{with_number, texts_at}
-use Rattle.sg_toml.specs.View.{view}
-use Rattle.sg_toml.specs.declared.value.Value.{Value}
+use Rattle.toml.specs.View.{view}
+use Rattle.toml.specs.declared.value.Value.{Value}
 use Rattle.sg_tree.proofs.names.add_texts.Goals as goal
 
 pub loop-i-preserved : goal.loop-i-preserved

@@ -2,7 +2,7 @@ use Rattle.std.proofs.Common.{◌+◌, take}
 use Rattle.std.specs.HashMap.{get_by_text}
 use Rattle.sg_tree.specs.Along.{along}
 use Rattle.sg_tree.specs.Names.{Adds, with_number, texts_at}
-use Rattle.sg_toml.specs.View.{view}
+use Rattle.toml.specs.View.{view}
 use Rattle.sg_tree.proofs.names.add_texts.Given as goal
 
 abbrev pub invariant-loop-i : goal.invariant-loop-i

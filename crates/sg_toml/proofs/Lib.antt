@@ -1,5 +1,0 @@
-pub mod Views
-pub mod Steps
-pub mod Runs
-pub mod Opened
-pub mod Grouped

@@ -1,3 +1,0 @@
-pub mod View
-pub mod Reading
-pub mod Sections

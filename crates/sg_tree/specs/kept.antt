@@ -1,0 +1,3 @@
+-- The types of trees, and what is left of one.
+pub mod Data
+pub mod Rows
