@@ -12,7 +12,7 @@ ghost use Rattle.simgrid_replay.specs.Settings.{platform_given, deployment_given
 use crate::refusal::Refusal;
 use crate::routed_platform::RoutedPlatform;
 use sg_edge::{Files, Loaded, Part, load};
-use sg_platform::{DeploymentFault, GREATEST_TEXT, PlatformFault, read_deployment, read_platform};
+use sg_platform::{DeploymentFault, GREATEST_TEXT, PlatformFault, read_deployment, take_platform};
 use sg_rows::{Deployment, PlatformText};
 use sg_tree::{Fault, Kind, Place};
 use std::alloc::Global;
@@ -27,12 +27,12 @@ const TOO_LONG: Fault = Fault {
     kind: Kind::Limit,
 };
 
-fn platform_of(alloc: Global, text: &[u8]) -> Result<RoutedPlatform, Refusal>
+fn platform_of(alloc: Global, text: Vec<u8>) -> Result<RoutedPlatform, Refusal>
     ensures given { result ≢ Err Refusal.Memory
-        → result ≡ or_platform_fault (platform_of_text text.now) }
+        → result ≡ or_platform_fault (platform_of_text text.items) }
     ensures read { IfErr result (λ why. ¬ IsReadFault why) }
 {
-    match read_platform(alloc, text) {
+    match take_platform(alloc, text) {
         Ok(platform) => RoutedPlatform::new(alloc, platform),
         Err(PlatformFault::Memory) => Err(Refusal::Memory),
         Err(fault) => Err(Refusal::Platform(fault.rule())),
@@ -73,7 +73,7 @@ pub fn load_platform<F: Files>(
     ensures others { Only Part.Platform (F.shows files.old) (F.shows files.new) }
 {
     match load(alloc, files, Part::Platform, name, GREATEST_TEXT) {
-        Loaded::Whole(text) => platform_of(alloc, &text),
+        Loaded::Whole(text) => platform_of(alloc, text),
         Loaded::TooLong => Err(Refusal::Platform(Some(TOO_LONG))),
         Loaded::Fault => Err(Refusal::ReadPlatform),
         Loaded::Memory => Err(Refusal::Memory),
