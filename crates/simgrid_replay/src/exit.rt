@@ -51,6 +51,7 @@ pub fn exit_of<R: Threads + Sync, F: Files, O: Sinks, L: Ledger>(
 ) -> ExitCode
     requires fresh { (part : Part) → (F.shows files.old part).stage ≡ Fresh }
     requires blank { All (λ b. mind b ≡ None) crew.old.items }
+    requires sound { O.faults out.old ≡ 0 }
     ensures output { ForJob (map string_bytes words.now) (F.shows files.old) (F.shows files.new)
         (λ job p d s. Exits (exit_status result)
         (λ how. Prints (outcome job (length crew.old.items) p d s) how

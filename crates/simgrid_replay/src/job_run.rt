@@ -86,6 +86,7 @@ pub fn run_job<R: Threads + Sync, F: Files, O: Sinks, L: Ledger>(
     requires setup { IsSetupOfJob on.job.now (length crew.old.items) on.setup }
     requires fresh { (F.shows files.old Part.Script).stage ≡ Fresh }
     requires blank { All (λ b. mind b ≡ None) crew.old.items }
+    requires sound { O.faults out.old ≡ 0 }
     ensures output { (s : Source) → ScriptGives (request_of on.entry.job.now) (F.shows files.old)
         (F.shows files.new) s → ComesTo (run_on (job_view on.entry.job.now) (length crew.old.items)
         s (setting_in on.entry.setup)) result (O.contents out.old) (O.contents out.new)

@@ -19,6 +19,7 @@ use std::alloc::Global;
 // Writes a text, with which a call of this status ends.
 fn say<O: Sinks>(to: Stream, text: &str, status: Status, out: &mut O) -> Status
     requires status { is_cut status ≡ false }
+    requires sound { O.faults out.old ≡ 0 }
     ensures prints { Prints (one_text to text.now status) result
         (O.contents out.old) (O.contents out.new) }
     ensures cause { IsCallCause result (O.faults out.old) (O.faults out.new)
@@ -34,6 +35,7 @@ fn say<O: Sinks>(to: Stream, text: &str, status: Status, out: &mut O) -> Status
 // Writes a line on Err that took memory.
 fn say_made<O: Sinks>(line: Result<String, Memory>, status: Status, out: &mut O) -> Status
     requires status { is_cut status ≡ false }
+    requires sound { O.faults out.old ≡ 0 }
     ensures prints { (want : List ℕ) → IfOk line (λ text. string_bytes text ≡ want)
         → Prints (one_text Stream.Err want status) result
         (O.contents out.old) (O.contents out.new) }
@@ -49,6 +51,7 @@ fn say_made<O: Sinks>(line: Result<String, Memory>, status: Status, out: &mut O)
 
 /// Tells words that ask for no run: help and the version on Out, any other text on Err.
 pub fn report_words<O: Sinks>(fault: WordsFault, out: &mut O) -> Status
+    requires { O.faults out.old ≡ 0 }
     ensures tells { (kinds : Kinds) (asked : Option Asked) → Answers kinds asked (Err fault)
         → kinds ≢ [] → ReportsWords kinds result (O.contents out.old) (O.contents out.new) }
     ensures silent { (asked : Option Asked) → Answers [] asked (Err fault)
@@ -68,6 +71,7 @@ pub fn report_words<O: Sinks>(fault: WordsFault, out: &mut O) -> Status
 
 /// Writes the line of a refusal.
 pub fn refuse<O: Sinks>(alloc: Global, refusal: Refusal, out: &mut O) -> Status
+    requires { O.faults out.old ≡ 0 }
     ensures prints { Prints (refusal_outcome refusal) result
         (O.contents out.old) (O.contents out.new) }
     ensures memory { refusal ≡ Refusal.Memory → result ≡ Status.Memory }

@@ -65,6 +65,7 @@ fn code_of<R: Threads + Sync, F: Files, O: Sinks, L: Ledger>(
 ) -> u8
     requires fresh { (part : Part) → (F.shows files.old part).stage ≡ Fresh }
     requires blank { All (λ b. mind b ≡ None) crew.old.items }
+    requires sound { O.faults out.old ≡ 0 }
     requires name { blank.name ≡ L.name }
     requires parts { blank.parts ≡ L.parts }
     requires some { 0 < blank.parts }

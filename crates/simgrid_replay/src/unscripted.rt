@@ -69,6 +69,7 @@ fn run_counted<R: Threads + Sync + Abort, F: Files, O: Sinks, L: Ledger>(
     blank: Blank,
 ) -> Ended
     requires begun { IsTrue setup.old.script → (F.shows files.old Part.Script).stage ≢ Fresh }
+    requires sound { O.faults out.old ≡ 0 }
     requires name { blank.name ≡ L.name }
     requires parts { blank.parts ≡ L.parts }
     requires some { 0 < blank.parts }

@@ -38,6 +38,7 @@ fn do_job<R: Threads + Sync, F: Files, O: Sinks, L: Ledger>(
     steps: &mut Steps<L>,
 ) -> Status
     requires start { IsStart (F.shows files.old) (λ b. mind b) crew.old.items }
+    requires sound { O.faults out.old ≡ 0 }
     ensures output { (p d s : Source)
         → PartsGive (request_of job.now) (F.shows files.old) (F.shows files.new) p d s
         → ComesTo (outcome (job_view job.now) (length crew.old.items) p d s) result
@@ -76,6 +77,7 @@ pub fn simgrid<R: Threads + Sync, F: Files, O: Sinks, L: Ledger>(
 ) -> Status
     requires fresh { (part : Part) → (F.shows files.old part).stage ≡ Fresh }
     requires blank { All (λ b. mind b ≡ None) crew.old.items }
+    requires sound { O.faults out.old ≡ 0 }
 
     // Words that are accepted ask for a job.
     ensures job { refusals (map string_bytes words.now) ≡ []
