@@ -35,6 +35,9 @@ pub struct Case {
     pub need: Option<usize>,
     /// How many calls of its parts it makes: of each the begin, a read of all bytes, and where the end is met another.
     pub calls: u64,
+    /// How many writes it makes of lines that go out at once: one for each round and each pass with lines, and those of
+    /// its end.
+    pub writes: u64,
 }
 
 // Gives a part its name, so that one that is begun under another fails.
@@ -67,6 +70,7 @@ impl Drop for Case {
             back: _,
             need: _,
             calls: _,
+            writes: _,
         } = self;
     }
 }
@@ -91,6 +95,7 @@ impl Case {
             back: Vec::new(alloc),
             need: None,
             calls: 0,
+            writes: 0,
         })
     }
 
@@ -168,6 +173,7 @@ impl Case {
             "err" => push_line(alloc, &mut self.err, text)?,
             "need" => self.need = Some(text.parse()?),
             "calls" => self.calls = text.parse()?,
+            "writes" => self.writes = text.parse()?,
             "" | "--" => {}
             _ => return Err(Fail::new("no such key")),
         }

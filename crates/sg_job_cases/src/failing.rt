@@ -77,9 +77,9 @@ fn fail_all<F: Fn(Global, &Case) -> Result<Done, Fail>>(
     let bytes = case.out.len().saturating_add(case.err.len()) as u64;
     fail_writes(alloc, case, status, (1, bytes, bytes), does)?;
     fail_writes(alloc, case, status, (7, bytes.div_ceil(7), bytes), does)?;
-    // The lines wait over all parts of a run: each stream takes one write.
-    let streams = 1 + u64::from(!case.err.is_empty());
-    fail_writes(alloc, case, status, (4096, streams, streams), does)?;
+    // What is written at once takes one write.
+    let writes = case.writes;
+    fail_writes(alloc, case, status, (4096, writes, writes), does)?;
     case.gives = 1;
     if !does(alloc, case)?.is_whole(case, status) {
         return Err(case.failure(alloc, "reads of a byte", 1));

@@ -91,6 +91,7 @@ job simgrid_replay replay p d s
 over LINE TWO
 script p0 send p1 1e6 | p1 recv p0
 calls 9
+writes 2
 out [h1:p0:(1) 1.010000000] send p1 1000000 1.010000000
 out [h2:p1:(2) 1.010000000] recv p0 1000000 1.010000000
 out Simulation time 1.010000000
@@ -99,6 +100,7 @@ job simgrid_replay replay p d s
 over LINE TWO
 script p0 compute 1e9 | p1 compute 5e8 | p0 jump 5
 calls 8
+writes 2
 out [h2:p1:(2) 0.500000000] compute 500000000 0.500000000
 err script line 3: unknown action
 ends 5
@@ -107,12 +109,14 @@ over LINE ONE
 script p0 compute 1e9
 unended p0 comp
 calls 9
+writes 2
 out [h1:p0:(1) 1.000000000] compute 1000000000 1.000000000
 err script line 2: unknown action
 ends 5
 job simgrid_replay run p d
 over LINE MASTER
 calls 6
+writes 4
 out [h1:m:(1) 1.010000000] send w1 1000000 1.010000000
 out [h2:w1:(2) 1.010000000] recv w1 1000000 1.010000000
 out [h2:w1:(2) 2.010000000] compute 1000000000 1.000000000
