@@ -10,7 +10,7 @@ use Rattle.sg_lives.specs.declared.lives.Live.{Live}
 use Rattle.sg_activity.specs.Links.{Switches}
 use Rattle.sg_activity.specs.Task.{uses_off}
 use Rattle.sg_activity.specs.kept.Grows.{Grows}
-use Rattle.sg_activity.specs.kept.Hits.{AreHit, AreHits, hit_in}
+use Rattle.sg_activity.specs.kept.Hits.{AreHit, AreHits, hit_in, noted}
 use Rattle.sg_lives.specs.Pool.{slot_at}
 use Rattle.sg_activity.specs.kept.Rows.{Indexed, IsRow, way_in}
 use Rattle.sg_activity.specs.kept.Renewal.{is_among, rate_in, restamped}
@@ -29,16 +29,28 @@ module _ (on : Switches) (slots : List (Option Live)) (ways : ℕ → List LinkI
     long = omega (arith, is.long, long);
   }
 
-  -- one that was idle begins, and is not hit
-  pub hits_more : (key : ℕ) (live : Live) (others : List (Option Live)) (paths : ℕ → List LinkId) → slot_at slots key ≡ None → key < length slots → uses_off on (place_of live.kind live.host live.peer (links_at paths key)) ≡ false → others ≡ set slots key (Some live) → ((k : ℕ) → k ≢ key → links_at paths k ≡ links_at ways k) →
-      AreHits on others paths hits
-  hits_more key live others paths free within off others_are same = hits_still others paths (λ k. elim (eq_cases k key) [
+  -- one that was idle begins, and is hit or not
+  pub hits_more : (key : ℕ) (live : Live) (others : List (Option Live)) (paths : ℕ → List LinkId) (off : Bool) → slot_at slots key ≡ None → key < length slots → uses_off on (place_of live.kind live.host live.peer (links_at paths key)) ≡ off → others ≡ set slots key (Some live) → ((k : ℕ) → k ≢ key → links_at paths k ≡ links_at ways k) →
+      AreHits on others paths (noted off key live.serial hits)
+  hits_more key live others paths false free within off others_are same = hits_still others paths (λ k. elim (eq_cases k key) [
     | inl e ↦
         ap (λ n. hit_in on (links_at paths n) (slot_at others n)) e ∙ ap (hit_in on (links_at paths key)) (ap (λ l. slot_at l key) others_are ∙ set_here slots key (Some live) within)
         ∙ ap (λ b. cond b (Some (record { date = 0; serial = live.serial })) None) off
         ∙ sym (ap (λ n. hit_in on (links_at ways n) (slot_at slots n)) e ∙ ap (hit_in on (links_at ways key)) free)
     | inr ne ↦ ap₂ (hit_in on) (same k ne) (ap (λ l. slot_at l k) others_are ∙ set_there slots key k (Some live) ne)
   ]) (ap length others_are ∙ length-set slots key (Some live))
+  hits_more key live others paths true free within off others_are same =
+      let hit : Option Key = Some (record { date = 0; serial = live.serial }) in
+      record {
+        each = λ k. elim (eq_cases k key) [
+          | inl e ↦
+              ap (key_at (set hits key hit)) e ∙ set_here hits key hit (omega (arith, within, is.long))
+              ∙ sym (ap (λ n. hit_in on (links_at paths n) (slot_at others n)) e ∙ ap (hit_in on (links_at paths key)) (ap (λ l. slot_at l key) others_are ∙ set_here slots key (Some live) within)
+              ∙ ap (λ b. cond b hit None) off)
+          | inr ne ↦ set_there hits key k hit ne ∙ is.each k ∙ sym (ap₂ (hit_in on) (same k ne) (ap (λ l. slot_at l k) others_are ∙ set_there slots key k (Some live) ne))
+        ];
+        long = omega (arith, is.long, ap length others_are, length-set slots key (Some live), length-set hits key hit);
+      }
 
   -- one goes
   pub hits_gone : (key : ℕ) (others : List (Option Live)) (paths : ℕ → List LinkId) → key < length slots → others ≡ set slots key None → ((k : ℕ) → k ≢ key → links_at paths k ≡ links_at ways k) → AreHits on others paths (set hits key None)

@@ -6,10 +6,9 @@ use Rattle.sg_base.specs.Limits.{IsAmount}
 use Rattle.sg_lives.specs.declared.kinds.HostCap.{HostCap}
 use Rattle.sg_lives.specs.declared.kinds.LinkCap.{LinkCap}
 use Rattle.sg_lives.specs.declared.kinds.Phase.{Phase}
-use Rattle.sg_lives.specs.declared.kinds.Transfer.{Transfer}
 use Rattle.sg_activity.specs.Links.{machines}
 use Rattle.sg_activity.specs.Stamp.{Stamp, stamped, anew, all_rerated}
-use Rattle.sg_activity.specs.Task.{Task, Way, is_cut, task_at}
+use Rattle.sg_activity.specs.Task.{Task, Way, task_at}
 use Rattle.sg_activity.specs.Underway.{Underway, next_in, due_in, later, drawn, started, begun, ended, settled, given_up, held, gone_on, hits, is_computing, is_kept, nothing_on, rate}
 
 -- What is under way, the serials that are due and not ended yet, whether the rates are up to date, room for so many starts, and by serial the stamp of the phase that is under way, or nothing.
@@ -164,25 +163,20 @@ pub record CanGoOn (doing : Doing) (serial : ℕ) : Type 0 where
   pub held : IsTrue (is_kept doing.under serial)
   pub room : 0 < doing.room
 
--- the way of a transfer over these links
-abbrev pub way_of : List LinkId → Transfer → Way
-way_of links transfer = record {
-  links = links;
-  sender = transfer.sender.0;
-  receiver = transfer.receiver.0;
-}
+-- the way over these links, from one host to another
+abbrev pub way_of : List LinkId → ℕ → ℕ → Way
+way_of links sender receiver = record { links = links; sender = sender; receiver = receiver }
 
--- The links and hosts exist, are all different links, at least one and 64 at most, and on; the latency and the bytes keep to their limits.
-pub record IsTransfer (under : Underway) (links : List LinkId) (transfer : Transfer) : Type 0 where
-  pub some : links ≢ []
-  pub apart : AllPairs (λ a b. a ≢ b) links
-  pub exist : All (λ (link : LinkId). link.0 < length under.capacities.links) links
-  pub few : length links ≤ 64
-  pub sender : transfer.sender.0 < length under.capacities.hosts
-  pub receiver : transfer.receiver.0 < length under.capacities.hosts
-  pub on : is_cut under.on (way_of links transfer) ≡ false
-  pub latency : transfer.latency ≤ 10 ^ 20
-  pub bytes : IsAmount transfer.bytes
+-- The links and hosts exist, are all different links, at least one and 64 at most; the latency and the bytes keep to their limits.
+pub record IsTransfer (under : Underway) (way : Way) (lasts amount : ℕ) : Type 0 where
+  pub some : way.links ≢ []
+  pub apart : AllPairs (λ a b. a ≢ b) way.links
+  pub exist : All (λ (link : LinkId). link.0 < length under.capacities.links) way.links
+  pub few : length way.links ≤ 64
+  pub sender : way.sender < length under.capacities.hosts
+  pub receiver : way.receiver < length under.capacities.hosts
+  pub latency : lasts ≤ 10 ^ 20
+  pub bytes : IsAmount amount
 
 -- this phase is the first of those due
 pub record IsDue (doing : Doing) (phase : Phase) : Type 0 where

@@ -1,6 +1,6 @@
 //! Activities under way.
 
-ghost use Rattle.std.specs.Prelude.{◌≡◌, ◌≢◌, ◌+◌, ◌-◌, ◌*◌, ◌<◌, ◌≤◌, ◌^◌, ◌++◌, false, true, None, Some, IsTrue, IfOk, OnOk, OnErr, All, AllPairs, MatchOption, [], ◌∷◌, length, map, slice_index_or};
+ghost use Rattle.std.specs.Prelude.{◌≡◌, ◌≢◌, ◌+◌, ◌-◌, ◌*◌, ◌<◌, ◌≤◌, ◌^◌, ◌++◌, true, None, Some, IsTrue, IfOk, OnOk, OnErr, All, AllPairs, MatchOption, [], ◌∷◌, length, map, slice_index_or};
 ghost use Rattle.sg_base.specs.declared.ids.LinkId.{LinkId};
 ghost use Rattle.sg_base.specs.Limits.{IsAmount, IsPriority, IsTime};
 ghost use Rattle.sg_activity.specs.Hosts.{IsHost, offers_of};
@@ -17,12 +17,12 @@ use crate::power::{first_meter, load, note, set_powers};
 use crate::renewal::{renew, restamp};
 use crate::room::grow;
 use crate::routes::write_things;
-use crate::switches::{is_way_cut, set_host_on, set_link_on};
+use crate::switches::{is_way_cut, note_hit, set_host_on, set_link_on};
 use sg_base::{LinkId, Marks, Memory, PointId, Serial, Steps};
 use sg_energy::Meter;
 use sg_heap::Agenda;
 use sg_lazy::Lazy;
-use sg_lives::{HostCap, LinkCap, Live, Lives, Phase, PhaseKind, Transfer, is_exec, is_held};
+use sg_lives::{HostCap, LinkCap, Live, Lives, Phase, PhaseKind, is_exec, is_held};
 use std::alloc::Global;
 use std::marker::Model;
 use std::sync::ledger::Ledger;
@@ -138,10 +138,10 @@ impl Activities {
     }
 
     /// Starts an execution of so many flops on a host, and answers its serial. Beside others there it gets as many
-    /// times the flops of one of priority 1 as its priority says, and at most the host's speed.
+    /// times the flops of one of priority 1 as its priority says, and at most the host's speed. It goes on as any other
+    /// where the host is off, and is told by `hit` until it is given up.
     pub fn start_exec(&mut self, host: PointId, flops: u64, priority: u32) -> Serial
         requires host { host.0 < length self.old.under.capacities.hosts }
-        requires on { is_off self.old.under.on.hosts host.0 ≡ false }
         requires flops { IsAmount flops }
         requires priority { IsPriority priority }
         requires start { CanStart self.old }
@@ -149,6 +149,7 @@ impl Activities {
         ensures starts { self.new ≡ started_in (exec_of host.0 flops priority) self.old }
     {
         let serial = self.next_serial();
+        let off = self.is_host_off(host);
         let host = host.0 as usize;
         let bound = self.kept.hosts[host].speed;
         let flow = self.kept.lazy.start(&[host], priority, Some(bound));
@@ -174,6 +175,7 @@ impl Activities {
         self.kept.room -= 1;
         self.kept.flows -= 1;
         self.kept.uses -= 64;
+        note_hit(&mut self.hits, key, serial, off);
         self.touched.insert(host);
         serial
     }
@@ -209,28 +211,39 @@ impl Activities {
         serial
     }
 
-    /// Starts the communication of a serial that was drawn and isn't under way: a transfer over the links of a route,
-    /// which are all different. The latency passes first; then the bytes flow.
-    pub fn start_comm(&mut self, serial: Serial, links: &[LinkId], transfer: Transfer)
+    /// Starts the communication of a serial that was drawn and isn't under way, over the links of a route, which are all
+    /// different, from one host to another. The latency passes first; then so many bytes flow, at most so many a second
+    /// as the bound says. It goes on as any other where a link or a host is off, and is told by `hit` until it is given up.
+    pub fn start_comm(
+        &mut self,
+        serial: Serial,
+        links: &[LinkId],
+        latency: u128,
+        bytes: u64,
+        bound: Option<u64>,
+        sender: PointId,
+        receiver: PointId,
+    )
         requires serial { CanBegin self.old serial.0 }
-        requires transfer { IsTransfer self.old.under links.now transfer }
+        requires transfer { IsTransfer self.old.under (way_of links.now sender.0 receiver.0)
+            latency bytes }
         ensures { self.new ≡ begun_in serial.0
-            (comm_of (way_of links.now transfer) transfer.latency transfer.bytes transfer.bound)
-            self.old }
+            (comm_of (way_of links.now sender.0 receiver.0) latency bytes bound) self.old }
     {
         let count = links.len();
-        let sender = transfer.sender.0 as usize;
-        let receiver = transfer.receiver.0 as usize;
+        let cut = self.is_cut(links, sender, receiver);
+        let sender = sender.0 as usize;
+        let receiver = receiver.0 as usize;
         let key = self.kept.lives.put(Live {
             serial: serial.0,
             kind: PhaseKind::Latency,
             links: count as u32,
-            kept: transfer.latency,
+            kept: latency,
             stamp: self.kept.date,
             rate: 1,
             weight: 1,
-            bound: transfer.bound,
-            bytes: transfer.bytes,
+            bound,
+            bytes,
             host: sender,
             peer: receiver,
             flow: 0,
@@ -248,6 +261,7 @@ impl Activities {
         self.kept.settled = false;
         self.kept.room -= 1;
         self.kept.uses -= 64 - count;
+        note_hit(&mut self.hits, key, serial, cut);
     }
 
     /// Gives each core of a host this speed, from now on. How fast its executions go is brought up to date by

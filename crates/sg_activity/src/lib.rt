@@ -20,4 +20,4 @@ mod switches;
 
 pub use activities::Activities;
 pub use laws::{load_fits, load_is_its_own};
-pub use sg_lives::{HostCap, LinkCap, Phase, PhaseKind, Power, Transfer};
+pub use sg_lives::{HostCap, LinkCap, Phase, PhaseKind, Power};

@@ -6,7 +6,7 @@ ghost use Rattle.sg_base.specs.declared.ids.LinkId.{LinkId};
 ghost use Rattle.sg_chains.specs.Chained.{users_on};
 ghost use Rattle.sg_activity.specs.Links.{is_off};
 ghost use Rattle.sg_activity.specs.Task.{is_cut, uses_off as uses_off_spec};
-ghost use Rattle.sg_activity.specs.kept.Hits.{AreLooked, AreSwitches, hit_in};
+ghost use Rattle.sg_activity.specs.kept.Hits.{AreLooked, AreSwitches, hit_in, noted};
 ghost use Rattle.sg_lives.specs.Pool.{slot_at};
 ghost use Rattle.sg_activity.specs.kept.Sound.{place_at};
 ghost use Rattle.sg_activity.specs.kept.State.{links_at, state_of, ways_of};
@@ -57,6 +57,16 @@ fn uses_off(kept: &Kept, key: usize, live: &Live) -> bool
             is_way_cut(kept, way.as_slice(), live.host, live.peer)
         }
         PhaseKind::Timer => false,
+    }
+}
+
+/// Notes the activity that begins under a key, where it uses something that is off.
+pub(crate) fn note_hit(hits: &mut Agenda, key: usize, serial: Serial, off: bool)
+    requires { key < length hits.old }
+    ensures { hits.new ≡ noted off key serial.0 hits.old }
+{
+    if off {
+        hits.set(key, 0, serial);
     }
 }
 

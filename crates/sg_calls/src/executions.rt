@@ -31,7 +31,7 @@ fn home_of(fields: &Fields, actor: ActorId) -> PointId
     fields.homes[actor.index()]
 }
 
-// An execution of the actor begins on its host, which is on.
+// An execution of the actor begins on its host.
 fn start(fields: &mut Fields, actor: ActorId, host: PointId, flops: u64, priority: u32) -> Serial
     requires computes { CanMake fields.old actor.0 (Call.Compute flops priority) }
     requires home { IsHome fields.old actor.0 host }
@@ -53,7 +53,7 @@ fn start(fields: &mut Fields, actor: ActorId, host: PointId, flops: u64, priorit
     serial
 }
 
-// The actor computes on its host, which is on. That is held as soon as it begins, where the actor is suspended.
+// The actor computes on its host. That is held as soon as it begins, where the actor is suspended.
 fn execute(fields: &mut Fields, actor: ActorId, host: PointId, flops: u64, priority: u32)
     requires computes { CanMake fields.old actor.0 (Call.Compute flops priority) }
     requires home { IsHome fields.old actor.0 host }

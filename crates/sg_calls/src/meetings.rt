@@ -1,7 +1,6 @@
 //! Sides of communications come to mailboxes, and actors wait for their requests.
 
-ghost use Rattle.std.specs.Prelude.{◌≡◌, ◌≢◌, ◌<◌, ◌^◌, AllPairs, IfSome, None, false, length};
-ghost use Rattle.sg_activity.specs.Task.{is_cut};
+ghost use Rattle.std.specs.Prelude.{◌≡◌, ◌≢◌, ◌<◌, ◌^◌, AllPairs, IfSome, None, length};
 ghost use Rattle.sg_base.specs.declared.ids.BoxId.{BoxId};
 ghost use Rattle.sg_base.specs.Limits.{IsActorIn};
 ghost use Rattle.sg_mailbox.specs.Posts.{partner, waiters, IsFound};
@@ -9,7 +8,7 @@ ghost use Rattle.sg_states.specs.Records.{IsTellable};
 ghost use Rattle.sg_calls.specs.World.{extent};
 ghost use Rattle.sg_calls.specs.Steps.{blocked_by};
 ghost use Rattle.sg_calls.specs.Answers.{bare_side, side_of};
-ghost use Rattle.sg_calls.specs.Meetings.{answer_of_over as answer_of_over_spec, comer_fails, fails_with, joins_on, joins_with, other_fails, party_of, point_of, posts, receiver_of, receives_by, sender_of, sends_by, stop_of, takes_part, waits as waits_spec, way_with};
+ghost use Rattle.sg_calls.specs.Meetings.{answer_of_over as answer_of_over_spec, comer_fails, fails_with, joins_on, joins_with, other_fails, party_of, point_of, posts, receiver_of, receives_by, sender_of, sends_by, stop_of, takes_part, waits as waits_spec};
 ghost use Rattle.sg_calls.specs.Roads.{AreOver, IsOver};
 ghost use Rattle.sg_calls.specs.kept.Acts.{Answers, CanCome, CanMeet, CanTakePart, Completes, Counts, Replies};
 ghost use Rattle.sg_calls.specs.kept.Sound.{setup_in, comes_in, IsComer, IsMade, IsSide, IsSound, StepsBy};
@@ -21,7 +20,6 @@ use crate::fields::Fields;
 use crate::network::{latency_over, own_bound};
 use crate::stop::Stop;
 use arrayvec::ArrayVec;
-use sg_activity::Transfer;
 use sg_base::{ActorId, Answer, Await, BoxId, Call, LinkId, Msg, Party, PointId, Serial};
 use sg_mailbox::{Found, Side};
 use sg_owners::{How, Whose};
@@ -185,9 +183,6 @@ fn begin(
     requires route { IsOver fields.old.links
         (record { links = links.now; latency = latency }) }
     requires apart { AllPairs (λ a b. a ≢ b) links.now }
-    requires on { is_cut fields.old.doing.under.on
-        (way_with (record { links = links.now; latency = latency }) (setup_in fields.old)
-        comer.now met.1) ≡ false }
     ensures { Answers
         (joins_with (record { links = links.now; latency = latency }) (setup_in fields.old)
         comer.now met.0 met.1)
@@ -200,19 +195,14 @@ fn begin(
     let bound = own_bound(fields, links, latency, sender.rate);
     let from = point_of(fields, sender);
     let to = point_of(fields, receiver);
-    let transfer = Transfer {
-        latency: lasts,
-        bytes: sender.bytes,
-        bound,
-        sender: from,
-        receiver: to,
-    };
     fields.events += 1;
     let next = fields.doing.next_serial();
     fields
         .boxes
         .enter(comer.mailbox, comer.sends, found, comer.side, next);
-    fields.doing.start_comm(serial, links, transfer);
+    fields
+        .doing
+        .start_comm(serial, links, lasts, sender.bytes, bound, from, to);
     fields.whose.put(serial, Whose::Pair(sender, receiver));
     take_part(fields, comer, serial);
 }

@@ -1,5 +1,5 @@
 //! What activities are made of.
-use sg_base::{PointId, Serial};
+use sg_base::Serial;
 
 /// What an activity does in one of its phases.
 #[derive(Clone, Copy)]
@@ -47,15 +47,4 @@ pub struct HostCap {
 pub struct LinkCap {
     pub bandwidth: u64,
     pub fatpipe: bool,
-}
-
-/// What a communication carries: so many bytes, after a latency in nanoseconds, at most so many a second as the bound
-/// says, from one host to another.
-#[derive(Clone, Copy)]
-pub struct Transfer {
-    pub latency: u128,
-    pub bytes: u64,
-    pub bound: Option<u64>,
-    pub sender: PointId,
-    pub receiver: PointId,
 }

@@ -1,4 +1,3 @@
 pub mod Pairs
 pub mod OneEach
 pub mod Alone
-pub mod AllOn

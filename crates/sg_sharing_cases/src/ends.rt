@@ -1,8 +1,7 @@
 //! What an end costs doesn't grow with the hosts.
 ghost use Rattle.std.specs.Prelude.{◌≡◌, ◌+◌, ◌<◌, ◌^◌, All, IfOk, OnOk, length};
 ghost use Rattle.sg_activity.specs.Hosts.{IsHost};
-ghost use Rattle.sg_activity.specs.Links.{all_on};
-ghost use Rattle.sg_sharing_cases.specs.Ends.{AreOn, KeepsHosts};
+ghost use Rattle.sg_sharing_cases.specs.Ends.{HasHosts, KeepsHosts};
 ghost use Rattle.sg_sharing_cases.specs.Ledgers.{IsBlankOf};
 
 use sg_activity::{Activities, HostCap};
@@ -65,7 +64,6 @@ fn compute(
 ) -> Result<(), Memory>
     requires few { length doing.old.under.tasks < 10 ^ 9 }
     requires host { host < length doing.old.under.capacities.hosts }
-    requires on { doing.old.under.on ≡ all_on doing.old.under.capacities }
     ensures hosts { KeepsHosts doing.old doing.new }
     ensures drawn { OnOk result (length doing.new.under.tasks ≡ length doing.old.under.tasks + 1) }
 {
@@ -88,7 +86,7 @@ fn compute_anew<L: Ledger>(
     steps: &mut Steps<L>,
 ) -> Result<(), Memory>
     requires few { length doing.old.under.tasks < 10 ^ 9 }
-    requires hosts { AreOn 16384 doing.old }
+    requires hosts { HasHosts 16384 doing.old }
     ensures hosts { KeepsHosts doing.old doing.new }
     ensures drawn { OnOk result (length doing.new.under.tasks ≡ length doing.old.under.tasks + 1) }
 {
@@ -110,7 +108,7 @@ fn compute_long<L: Ledger>(
     noted: &mut Vec<(u32, u64)>,
     steps: &mut Steps<L>,
 ) -> Result<(), Memory>
-    requires hosts { AreOn 16384 doing.old }
+    requires hosts { HasHosts 16384 doing.old }
     requires tasks { length doing.old.under.tasks ≡ 0 }
 {
     for host in 0..HOSTS {

@@ -1,5 +1,5 @@
 -- Which activities use something that is off.
-use Rattle.std.specs.Prelude.{◌≡◌, ℕ, ◌+◌, ◌<◌, ◌≤◌, ◌^◌, Option, None, Some, if◌then◌else◌, List, length}
+use Rattle.std.specs.Prelude.{◌≡◌, ℕ, ◌+◌, ◌<◌, ◌≤◌, ◌^◌, Bool, Option, None, Some, if◌then◌else◌, List, length, slice_set}
 use Rattle.sg_base.specs.declared.ids.LinkId.{LinkId}
 use Rattle.sg_base.specs.MarkSet.{is_in}
 use Rattle.sg_heap.specs.Agenda.{Key, key_at}
@@ -18,6 +18,11 @@ hit_in on links (Some live) =
     if uses_off on (place_of live.kind live.host live.peer links)
     then Some (record { date = 0; serial = live.serial })
     else None
+
+-- the activity of this serial has begun under a key, and uses something that is off, or doesn't
+abbrev pub noted : Bool → ℕ → ℕ → List (Option Key) → List (Option Key)
+noted off key serial hits =
+    if off then slice_set hits key (Some (record { date = 0; serial = serial })) else hits
 
 -- by key the activities that use something that is off
 pub record AreHits (on : Switches) (slots : List (Option Live)) (ways : ℕ → List LinkId) (hits : List (Option Key)) : Type 0 where

@@ -5,7 +5,6 @@ use Rattle.sg_base.specs.declared.ids.ActorId.{ActorId}
 use Rattle.sg_base.specs.declared.ids.BoxId.{BoxId}
 use Rattle.sg_base.specs.declared.ids.PointId.{PointId}
 use Rattle.sg_base.specs.Limits.{Extent, IsActorIn, IsActorNumber, IsAmount, IsMsg, IsRate}
-use Rattle.sg_activity.specs.Links.{is_off}
 use Rattle.sg_mailbox.specs.declared.sides.Side.{Side}
 use Rattle.sg_mailbox.specs.Posts.{waiters}
 use Rattle.sg_profile.specs.Ahead.{IsAhead}
@@ -113,11 +112,10 @@ pub record IsTimetable (hosts links date : ℕ) (table : Timetable) : Type 0 whe
 abbrev pub IsTimely : Fields → Type 0
 IsTimely fields = IsTimetable fields.hosts fields.links fields.doing.under.date fields.profiles
 
--- the host of an actor, which is on
+-- the host of an actor
 pub record IsHome (fields : Fields) (actor : ℕ) (host : PointId) : Type 0 where
   pub is : host.0 ≡ host_of (setup_in fields) actor
   pub exists : host.0 < length fields.doing.under.capacities.hosts
-  pub on : is_off fields.doing.under.on.hosts host.0 ≡ false
 
 -- ---- what keeps to its limits
 pub record IsSide (extent : Extent) (side : Side) : Type 0 where

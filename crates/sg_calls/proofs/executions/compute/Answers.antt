@@ -11,7 +11,7 @@ use Rattle.sg_calls.proofs.Each.{called_alone}
 use Rattle.sg_calls.proofs.executions.compute.Goals as goal
 
 pub execute-requires-clause-home : goal.execute-requires-clause-home
-execute-requires-clause-home c = record { is = c.home_of-host.ensures.is; exists = c.home_of-host.ensures.exists; on = sym c.is_host_off.ensures ∙ c.if-is_host_off.false }
+execute-requires-clause-home c = record { is = c.home_of-host.ensures.is; exists = c.home_of-host.ensures.exists }
 
 pub returns-then-is_host_off : goal.returns-then-is_host_off
 returns-then-is_host_off c = record {

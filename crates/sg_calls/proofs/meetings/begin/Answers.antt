@@ -3,7 +3,7 @@ use Rattle.std.specs.List.{All}
 use Rattle.std.proofs.lemmas.List.{length-set}
 use Rattle.std.proofs.lemmas.List.Elements.{All-set}
 use Rattle.sg_activity.specs.Doing.{Doing}
-use Rattle.sg_activity.specs.Task.{Task, comm_of, is_cut}
+use Rattle.sg_activity.specs.Task.{Task, comm_of}
 use Rattle.sg_base.specs.declared.ids.LinkId.{LinkId}
 use Rattle.sg_base.specs.declared.ids.PointId.{PointId}
 use Rattle.sg_base.specs.declared.ids.Serial.{Serial}
@@ -68,7 +68,6 @@ start_comm-requires-clause-transfer c =
       few = c.requires.route.few;
       sender = omega (arith, from, home_exists old c.sender_of-sender.result.actor sound sender.actor);
       receiver = omega (arith, to, home_exists old c.receiver_of-receiver.result.actor sound receiver.actor);
-      on = ap₂ (λ (a b : ℕ). is_cut old.doing.under.on (record { links = c.args.links.now; sender = a; receiver = b })) (from ∙ ap (λ (s : Side). host_of (setup_in old) s.actor.0) c.sender_of-sender.ensures) (to ∙ ap (λ (s : Side). host_of (setup_in old) s.actor.0) c.receiver_of-receiver.ensures) ∙ c.requires.on;
       latency = c.latency_over-lasts.ensures.limit;
       bytes = sender.bytes;
     }

@@ -47,16 +47,6 @@ is_cut-requires-clause-receiver c =
     let side = subst (IsSide e) (sym c.receiver_of.ensures) (sides_limited e c.args.comer.now c.args.met.1 c.requires.meets.comer.side m.limited).1 in
     omega (arith, ap (λ (p : PointId). p.0) c.point_of-receiver.ensures, home_exists old c.receiver_of.result.actor c.requires.meets.able.whole.sound side.actor)
 
-pub begin-requires-clause-on : goal.begin-requires-clause-on
-begin-requires-clause-on c =
-    let old = c.args.fields.now in
-    let setup = setup_in old in
-    let route : Route = record { links = c.args.links.now; latency = c.args.latency } in
-    let from = ap (λ (p : PointId). p.0) c.point_of-sender.ensures ∙ ap (λ (s : Side). host_of setup s.actor.0) c.sender_of.ensures in
-    let to = ap (λ (p : PointId). p.0) c.point_of-receiver.ensures ∙ ap (λ (s : Side). host_of setup s.actor.0) c.receiver_of.ensures in
-    let way : c.is_cut.result ≡ is_cut old.doing.under.on (way_with route setup c.args.comer.now c.args.met.1) = c.is_cut.ensures ∙ ap₂ (λ (a b : ℕ). is_cut old.doing.under.on (record { links = c.args.links.now; sender = a; receiver = b })) from to in
-    sym way ∙ c.if-is_cut.false
-
 pub returns-then-is_cut : goal.returns-then-is_cut
 returns-then-is_cut c = record {
   known =

@@ -23,6 +23,7 @@ use Rattle.sg_activity.specs.kept.Index.{used_by}
 use Rattle.sg_activity.specs.kept.Rows.{way_in}
 use Rattle.sg_activity.specs.kept.State.{links_at, ways_of}
 use Rattle.sg_activity.specs.Links.{is_off}
+use Rattle.sg_activity.specs.kept.Hits.{AreHits}
 use Rattle.sg_activity.proofs.Hitting.{hits_more}
 use Rattle.sg_activity.proofs.Indexing.{row_idle, used_turned, ways_same}
 use Rattle.sg_activity.proofs.Routed.{all_cons}
@@ -50,6 +51,9 @@ enter-requires-clause-exist c =
 
 pub enter-requires-clause-room : goal.enter-requires-clause-room
 enter-requires-clause-room c = omega (arith, c.self.invariant.used.uses_free, ap (λ (d : Doing). d.room) c.self.view_is, c.requires.start.room)
+
+pub note_hit-requires : goal.note_hit-requires
+note_hit-requires c = omega (arith, c.put-key.ensures.in_range, c.self.invariant.hit.long)
 
 pub put-key-requires-clause-apart : goal.put-key-requires-clause-apart
 put-key-requires-clause-apart c =
@@ -112,7 +116,8 @@ invariant_of-self c =
           (λ k ne. ap (λ l. get_or l k None) c.put-key.ensures.slots ∙ set_there s.slots key k (Some live) ne) (λ k ne. ap (way_in (length kept.hosts.items)) (c.enter.ensures.row.others k ne)) (ap length c.put-key.ensures.slots ∙ length-set s.slots key (Some live)) c.enter.ensures.users
           (omega (arith, c.self.invariant.used.uses_free, c.enter.ensures.room, room, c.requires.start.room));
       switches = c.self.invariant.switches;
-      hit = hits_more s.on s.slots s.ways c.self.inside.hits c.self.invariant.hit key live c.put-key.new.self.slots ways free within (subst (λ (d : Doing). is_off d.under.on.hosts c.args.host.0 ≡ false) (sym c.self.view_is) c.requires.on) c.put-key.ensures.slots (λ k ne. ap (way_in (length kept.hosts.items)) (c.enter.ensures.row.others k ne));
+      hit = subst (λ h. AreHits s.on c.put-key.new.self.slots ways h) (sym c.note_hit.ensures)
+          (hits_more s.on s.slots s.ways c.self.inside.hits c.self.invariant.hit key live c.put-key.new.self.slots ways c.is_host_off-off.result free within (ap (λ (d : Doing). is_off d.under.on.hosts c.args.host.0) c.self.view_is ∙ sym c.is_host_off-off.ensures) c.put-key.ensures.slots (λ k ne. ap (way_in (length kept.hosts.items)) (c.enter.ensures.row.others k ne)));
       metered = subst (IsMetered _ c.self.inside.meter) (sym c.insert-2.ensures)
           (metered_marked kept _ c.self.inside.meter c.self.inside.touched c.args.host.0 c.self.invariant.metered refl refl is.are are
           (λ other ne. subst (λ u. IsSameHost (under_of s) u other) (sym (ap (λ (d : Doing). d.under) told)) (same_started (under_of s) other (exec_of c.args.host.0 c.args.flops c.args.priority) (ne_eqb c.args.host.0 other (λ e. ne (sym e))))));

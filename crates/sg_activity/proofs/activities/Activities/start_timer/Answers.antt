@@ -81,7 +81,7 @@ invariant_of-self c =
           ])
           (ap length c.put-key.ensures.slots ∙ length-set s.slots key (Some live)) (omega arith);
       switches = c.self.invariant.switches;
-      hit = hits_more s.on s.slots s.ways c.self.inside.hits c.self.invariant.hit key live c.put-key.new.self.slots s.ways free within refl c.put-key.ensures.slots (λ k ne. refl);
+      hit = hits_more s.on s.slots s.ways c.self.inside.hits c.self.invariant.hit key live c.put-key.new.self.slots s.ways false free within refl c.put-key.ensures.slots (λ k ne. refl);
       metered = metered_kept kept _ c.self.inside.meter c.self.inside.touched c.self.invariant.metered refl refl is.are are
           (λ host. subst (λ u. IsSameHost (under_of s) u host) (sym (ap (λ (d : Doing). d.under) told)) (same_started (under_of s) host (timer_of c.args.ns) refl));
     }
