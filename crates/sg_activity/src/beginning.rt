@@ -12,6 +12,7 @@ use sg_base::{Marks, Memory};
 use sg_heap::Agenda;
 use sg_lazy::Lazy;
 use sg_lives::{HostCap, LinkCap, Lives};
+use sg_maxmin::System;
 use std::alloc::Global;
 
 /// All that is kept but for the meter.
@@ -119,7 +120,8 @@ pub(crate) fn first_parts(
     let machines = own_machines(alloc, hosts, links)?;
     let (agenda, hits) = agendas(alloc)?;
     let index = Index::new(alloc, capacities.len() + hosts.len())?;
-    let lazy = Lazy::new(alloc, &capacities)?;
+    let system = System::new(alloc, &capacities)?;
+    let lazy = Lazy::new(alloc, system)?;
     Ok(Parts {
         kept: Kept {
             hosts: machines.hosts,

@@ -1,7 +1,7 @@
 //! Flows whose rates are brought up to date only where something changed.
 ghost use Rattle.std.specs.Prelude.{◌≡◌, ◌≤◌, ◌<◌, ◌+◌, ◌-◌, IsSome, IfSome, IfOk, OnOk, None, Some, length};
 ghost use Rattle.sg_maxmin.specs.Fill.{flow};
-ghost use Rattle.sg_maxmin.specs.Sharing.{IsFlow};
+ghost use Rattle.sg_maxmin.specs.Sharing.{HoldsNone, IsFlow};
 ghost use Rattle.sg_lazy.specs.RunningFlow.{is_same_bound, running_at};
 ghost use Rattle.sg_lazy.specs.Lazily.{IsFresh, IsRoomier, IsSettled, KeepUntouched, looks_of, with_bound, with_capacity, with_flow, with_other_bound, with_other_capacity, without_flow};
 
@@ -79,17 +79,21 @@ fn is_bound(bound: Option<u64>, other: u64) -> bool
 }
 
 impl Lazy {
-    /// No flow yet, on resources with these capacities.
-    pub fn new(alloc: Global, capacities: &[u64]) -> Result<Lazy, Memory>
-        ensures { IfOk result (IsFresh capacities.now) }
+    /// Keeps flows on the resources of a system, with their capacities; no flow runs yet. The system holds no flow.
+    /// It is gone afterwards, also where there is no memory, and so is what room it had.
+    pub fn new(alloc: Global, system: System) -> Result<Lazy, Memory>
+        requires { HoldsNone system.slots }
+        ensures { IfOk result (IsFresh system.capacities) }
     {
+        let capacities = system.capacities();
         let pending = Pending::new(alloc, capacities.len())?;
         let solver = Solver::new(alloc, capacities)?;
-        let system = System::new(alloc, capacities)?;
-        system.is_sound();
+        // one that was reserved has numbers of flows, for which nothing is kept here yet
+        let empty = System::new(alloc, capacities)?;
+        empty.is_sound();
         all_fit(capacities);
         Ok(Lazy {
-            system,
+            system: empty,
             pending,
             rated: Rated {
                 rates: Vec::new(alloc),

@@ -35,6 +35,10 @@ flow_at slots id = slice_index_or slots id None
 abbrev pub held : List (Option Flow) → List Flow
 held slots = filter_map (λ slot. slot) slots
 
+-- no flow is held
+abbrev pub HoldsNone : List (Option Flow) → Type 0
+HoldsNone slots = (id : ℕ) → flow_at slots id ≡ None
+
 -- what a slot adds to a sum over the flows
 abbrev pub slot_part : (Flow → ℕ) → Option Flow → ℕ
 slot_part amount None = 0

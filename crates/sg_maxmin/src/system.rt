@@ -243,6 +243,13 @@ impl System {
         self.chains.look(i, steps)
     }
 
+    /// Returns the capacities of the resources.
+    pub fn capacities(&self) -> &[u64]
+        ensures { result.now ≡ self.now.capacities }
+    {
+        &self.capacities
+    }
+
     /// The capacity of a resource.
     pub fn capacity(&self, resource: usize) -> u64
         requires { resource < length self.now.capacities }

@@ -5,6 +5,7 @@ ghost use Rattle.sg_sharing_cases.specs.OneEach.{HasOneAt, IsCalm, IsIdle, IsOne
 
 use sg_base::{Memory, Steps};
 use sg_lazy::Lazy;
+use sg_maxmin::System;
 use std::alloc::Global;
 use std::marker::Brand;
 use std::process::Abort;
@@ -72,7 +73,8 @@ fn changes_two_of_100<L: Ledger>(rt: &impl Abort, alloc: Global, blank: Blank) -
     let mut steps = Steps::<L>::new(blank);
     for host in 0..HOSTS {
         let mut flows = Vec::new(alloc);
-        let mut lazy = Lazy::new(alloc, &[10; HOSTS])?;
+        let system = System::new(alloc, &[10; HOSTS])?;
+        let mut lazy = Lazy::new(alloc, system)?;
         changes_two(rt, &mut lazy, &mut flows, host, &mut steps)?;
     }
     Ok(())
@@ -121,7 +123,8 @@ fn changes_one_of_100<L: Ledger>(rt: &impl Abort, alloc: Global, blank: Blank) -
     let mut steps = Steps::<L>::new(blank);
     for host in 0..HOSTS {
         let mut flows = Vec::new(alloc);
-        let mut lazy = Lazy::new(alloc, &[10; HOSTS])?;
+        let system = System::new(alloc, &[10; HOSTS])?;
+        let mut lazy = Lazy::new(alloc, system)?;
         changes_one(rt, &mut lazy, &mut flows, host, &mut steps)?;
     }
     Ok(())

@@ -1,7 +1,8 @@
 //! Settlings beside fillings of the whole: each rate is the share there.
-ghost use Rattle.std.specs.Prelude.{◌≡◌, ◌<◌, ◌≤◌, ◌+◌, ℕ, List, Option, [], IsSome, OnOk, length};
+ghost use Rattle.std.specs.Prelude.{◌≡◌, ◌<◌, ◌≤◌, ◌+◌, ℕ, List, Option, [], IfOk, IsSome, OnOk, length};
 ghost use Rattle.sg_maxmin.specs.Fill.{flow};
 ghost use Rattle.sg_maxmin.specs.Sharing.{IsFlow, flow_at};
+ghost use Rattle.sg_lazy.specs.Lazily.{IsFresh};
 ghost use Rattle.sg_lazy.specs.RunningFlow.{running_at};
 ghost use Rattle.sg_sharing_cases.specs.Ledgers.{IsBlankOf};
 ghost use Rattle.sg_sharing_cases.specs.Pairs.{ArePaired, CanChange, StayPaired, twin_of};
@@ -232,6 +233,14 @@ fn settle_often<L: Ledger>(
     Ok(())
 }
 
+// No flow yet, on resources with these capacities.
+fn lazy_on(alloc: Global, capacities: &[u64]) -> Result<Lazy, Memory>
+    ensures { IfOk result (IsFresh capacities.now) }
+{
+    let system = System::new(alloc, capacities)?;
+    Lazy::new(alloc, system)
+}
+
 // On these resources, where about half of so many flows run at once.
 fn agrees_with_the_whole<L: Ledger>(
     rt: &impl Abort,
@@ -255,7 +264,7 @@ fn agrees_with_the_whole<L: Ledger>(
         picked,
     };
     let mut whole = System::new(alloc, &capacities)?;
-    let mut lazy = Lazy::new(alloc, &capacities)?;
+    let mut lazy = lazy_on(alloc, &capacities)?;
     settle_often(rt, &mut draw, &mut lazy, &mut whole, &mut twins, &mut steps)
 }
 
