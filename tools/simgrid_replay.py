@@ -8,6 +8,7 @@ The program is the one that the environment variable SIMGRID_REPLAY names, or on
 """
 
 import functools
+import gzip
 import io
 import json
 import os
@@ -16,13 +17,15 @@ import shutil
 import subprocess
 import sys
 import tempfile
+from array import array
 from collections import deque
+from collections.abc import Sequence
 from decimal import Decimal
 from itertools import chain, islice
 from pathlib import Path
 from typing import NamedTuple
 
-__all__ = ["run", "toml", "Result", "Row", "Fault", "Reader", "BadTrace", "STATUSES"]
+__all__ = ["run", "toml", "Result", "Row", "Rows", "Fault", "Reader", "BadTrace", "COLUMNS", "STATUSES"]
 
 # A word for each exit status of the program.
 STATUSES = {0: "completed", 2: "invalid arguments", 3: "platform refused", 4: "deployment refused", 5: "bad script line", 6: "deadlock",
@@ -58,23 +61,32 @@ class Fault(Exception):
 
 
 class Result:
-    """How a run ended, and what it wrote. What is told of the trace is read from it when it is first asked for."""
+    """How a run ended, and what it wrote. The trace is kept packed, and read when something in it is first asked for."""
 
-    def __init__(self, status, text):
-        self.status, self.word, self.text = status, STATUSES.get(status, f"status {status}"), text
+    def __init__(self, status, packed):
+        self.status, self.word, self._packed = status, STATUSES.get(status, f"status {status}"), packed
 
     def __repr__(self):
         return f"<Result: {self.word}, {self.seconds} s>"
 
+    def lines(self):
+        """What the program wrote, as a file of text."""
+        file = gzip.GzipFile(fileobj=io.BytesIO(self._packed))
+        return io.TextIOWrapper(file, "ascii", "backslashreplace", newline="\n")
+
+    @property
+    def text(self):
+        """What the program wrote."""
+        return self.lines().read()
+
     @functools.cached_property
     def _read(self):
-        reader = Reader(io.StringIO(self.text))
-        rows = [row_of(action) for action in reader]
-        return rows, reader
+        reader = Reader(self.lines(), late=True)
+        return Rows(reader), reader
 
     @property
     def rows(self):
-        """The actions of the trace in order, each a Row."""
+        """The actions of the trace in order: a sequence whose items are each a Row."""
         return self._read[0]
 
     @property
@@ -104,11 +116,8 @@ class Result:
         return int(match[1]) if match else None
 
     def to_pandas(self):
-        """The rows as a DataFrame of pandas, in which dates and durations are floats."""
-        import pandas
-        frame = pandas.DataFrame(self.rows, columns=Row._fields)
-        return frame.assign(words=frame["words"].map(" ".join), **{
-            name: frame[name].map(float, na_action="ignore").astype(float) for name in ("date", "seconds")})
+        """The rows as a DataFrame of pandas with the columns of `totable`: names are categories, dates and durations floats."""
+        return self.rows.to_pandas()
 
 
 def run(platform, deployment, script=None, *, budget=None, quiet=False, threads=None, timeout=None, program=None):
@@ -125,12 +134,22 @@ def run(platform, deployment, script=None, *, budget=None, quiet=False, threads=
         for name, value in (("--budget", budget), ("--nthreads", threads)):
             options += [name, str(whole(value))] if value is not None else []
         command = [program or find_program(), "replay" if script is not None else "run", *options, "--", *names]
-        done = subprocess.run(command, stdin=subprocess.DEVNULL, capture_output=True, timeout=timeout)
-        result = Result(done.returncode, done.stdout.decode("ascii", "backslashreplace"))
+        with tempfile.TemporaryFile() as file:
+            done = subprocess.run(command, stdin=subprocess.DEVNULL, stdout=file, stderr=subprocess.PIPE, timeout=timeout)
+            result = Result(done.returncode, packed(file))
         if result.status not in ENDED:
             line = done.stderr.decode("utf-8", "replace").rstrip("\n")
             raise Fault(result, line, explanation(line, names) if line and result.status != 101 else "")
         return result
+
+
+def packed(file):
+    """What was written into a file, in a tenth of its bytes."""
+    file.seek(0)
+    found = io.BytesIO()
+    with gzip.GzipFile(fileobj=found, mode="wb", compresslevel=1) as pack:
+        shutil.copyfileobj(file, pack)
+    return found.getvalue()
 
 
 def whole(value):
@@ -143,6 +162,8 @@ def whole(value):
 def file_of(part, folder, name):
     """The name of the file that a part is, which is written into the folder where it is none yet."""
     if isinstance(part, os.PathLike) or (isinstance(part, str) and part and "\n" not in part):
+        if re.search("[ =]", os.fspath(part)) and not os.path.exists(part):
+            raise ValueError(f"there is no file {part!r}; a text has more than one line, and a script of one line is a list of one")
         return os.fspath(part)
     if isinstance(part, dict):
         part = toml(part)
@@ -274,11 +295,11 @@ class Call:
 class Action:
     """A line of a trace; dates are whole nanoseconds. What is blocked or suspended at the end of the run has no line of its own.
 
-    `met` is when both sides of a message were there, None where that isn't known. `held` are the spans, since its actor was
-    free, in which that was suspended. `request` is the call for which a `wait` waited.
+    `met` is when both sides of a message were there, None where that isn't known; of the later side `partner` is the other one.
+    `held` are the spans, since its actor was free, in which that was suspended. `request` is the call for which a `wait` waited.
     """
 
-    __slots__ = ("number", "line", "actor", "begin", "end", "call", "how", "met", "open", "held", "request")
+    __slots__ = ("number", "line", "actor", "begin", "end", "call", "how", "met", "open", "held", "request", "partner")
 
     def __init__(self, number, line, actor, begin, end, call, how):
         self.number = number
@@ -288,9 +309,16 @@ class Action:
         self.end = end
         self.call = call
         self.how = how
-        self.met = self.request = None
+        self.met = self.request = self.partner = None
         self.open = False
         self.held = ()
+
+    @property
+    def other(self):
+        """The other actor of a message, or what the call names. A worker's call names itself, and its master is the other one."""
+        if self.partner is not None and self.call.other == self.actor.name:
+            return self.partner.actor.name
+        return self.call.other
 
 
 class Reader:
@@ -299,11 +327,12 @@ class Reader:
     Behind the last action `ending` is the text of the ending ("" where there is none), `end` its date, `blocked` what is
     blocked or suspended then, `energies` the hosts with their joules, and `count` how many actions there were. It keeps what it
     needs of lines that can't be judged yet: an action is given once it is known when both sides of its message were there; of
-    `isend` and `irecv`, whose other side may come late or never, only with `all_met`.
+    `isend` and `irecv`, whose other side may come late or never, only with `all_met`. With `late` each is given at once, and
+    `met` of one whose other side comes later is set then.
     """
 
-    def __init__(self, lines, all_met=False):
-        self.lines, self.all_met = lines, all_met
+    def __init__(self, lines, all_met=False, late=False):
+        self.lines, self.all_met, self.late = lines, all_met, late
         self.actors, self.calls, self.ids = {}, {}, {}
         self.waiting = ({}, {})     # sends, and receives, whose other side isn't there, by the two actors
         self.holds, self.kills = {}, {}
@@ -311,7 +340,7 @@ class Reader:
 
     def __iter__(self):
         number, end, before, held = 0, 0, None, deque()
-        actors, calls, holds, all_met, meet = self.actors, self.calls, self.holds, self.all_met, self.meet
+        actors, calls, holds, all_met, late, meet = self.actors, self.calls, self.holds, self.all_met, self.late, self.meet
         blocks = blocks_of(self.lines)
         for block in blocks:
             found = LINE.findall(block)
@@ -344,7 +373,7 @@ class Reader:
                 elif call.orders:
                     self.order(action)
                 before = action
-                if held or (action.open and (all_met or call.word == "send")):
+                if held or (action.open and not late and (all_met or call.word == "send")):
                     held.append(action)
                     # Both sides of a message that is done have the same date.
                     while held and (not held[0].open or (not all_met and (held[0].call.word != "send" or held[0].end < date))):
@@ -402,7 +431,7 @@ class Reader:
                 sent = before and before.call
                 if sent and sent.word == "send" and sent.other == name and sent.amount == call.amount:
                     action.met = before.met = max(action.begin, before.begin)
-                    before.open = False
+                    action.partner, before.open = before, False
                     self.waiting[0][before.actor.name, name].pop()
                 return
         if call.word[0] == "i":
@@ -414,7 +443,7 @@ class Reader:
             there = others.popleft()
             met = there.begin if there.begin > action.begin else action.begin
             action.met = there.met = met
-            there.open = False
+            action.partner, there.open = there, False
         else:
             action.open = True
             queue = mine.get(pair)
@@ -538,6 +567,112 @@ def row_of(action):
     call, done = action.call, action.how == "done"
     return Row(action.actor.host, action.actor.name, action.actor.id, decimal(action.end), call.word, tuple(call.text.split()[1:]),
                decimal(action.end - action.begin) if done else None, action.how)
+
+
+# Tables of traces --------------------------------------------------------------------------------------------------------
+
+# The columns of a table of actions, with units in their names (s: seconds). `totable` tells what each is.
+COLUMNS = ("line", "host", "actor", "id", "action", "other", "flops", "bytes", "begin_s", "met_s", "end_s", "duration_s", "outcome")
+OUTCOMES = ("done", "refused", "failed")
+WORDS = ("compute", "sleep", "send", "recv", "isend", "irecv", "wait", "lock", "unlock", "acquire", "release", "barrier", "yield",
+         "create", "join", "kill", "suspend", "resume")
+# Greater numbers have no place in an array of 64 bits.
+MOST_PACKED = 2**63 - 1
+
+
+class Rows(Sequence):
+    """The actions of a trace in columns, in some 50 bytes each; an item is a Row. Dates are nanoseconds, -1 for none."""
+
+    def __init__(self, reader):
+        self.actors, self.places, self.names, self.codes = [], {}, [], {None: -1}
+        self.who, self.named, self.other = array("i"), array("i"), array("i")
+        self.word, self.how = array("b"), array("b")
+        self.amount, self.begin, self.met, self.end = (array("q") for _ in range(4))
+        words, outcomes = {word: code for code, word in enumerate(WORDS)}, {how: code for code, how in enumerate(OUTCOMES)}
+        for action in reader:
+            actor, call, met, partner = action.actor, action.call, action.met, action.partner
+            who = self.places.get(actor)
+            if who is None:
+                who = self.places[actor] = len(self.actors)
+                self.actors.append(actor)
+            amount = -1 if call.amount is None else int(call.amount)
+            if action.end > MOST_PACKED or amount > MOST_PACKED:
+                self.unpack()
+            named = other = self.code(call.other)
+            if partner is not None:
+                other = self.code(action.other)
+                self.met[partner.number - 1] = met
+            self.who.append(who)
+            self.word.append(words[call.word])
+            self.named.append(named)
+            self.other.append(other)
+            self.amount.append(amount)
+            self.begin.append(action.begin)
+            self.met.append(-1 if met is None else met)
+            self.end.append(action.end)
+            self.how.append(outcomes[action.how])
+        for action in reader.blocked:
+            if action.partner is not None and action.partner.how in outcomes:
+                self.met[action.partner.number - 1] = action.met
+
+    def code(self, name):
+        """The number of a name."""
+        code = self.codes.get(name)
+        if code is None:
+            code = self.codes[name] = len(self.names)
+            self.names.append(name)
+        return code
+
+    def unpack(self):
+        """Makes room for numbers of any length."""
+        if isinstance(self.end, array):
+            self.amount, self.begin, self.met, self.end = map(list, (self.amount, self.begin, self.met, self.end))
+
+    def __len__(self):
+        return len(self.who)
+
+    def __getitem__(self, index):
+        if isinstance(index, slice):
+            return [self[at] for at in range(*index.indices(len(self)))]
+        actor, named, amount, end = self.actors[self.who[index]], self.named[index], self.amount[index], self.end[index]
+        words = (*(() if named < 0 else (self.names[named],)), *(() if amount < 0 else (str(amount),)))
+        how = OUTCOMES[self.how[index]]
+        return Row(actor.host, actor.name, actor.id, decimal(end), WORDS[self.word[index]], words,
+                   decimal(end - self.begin[index]) if how == "done" else None, how)
+
+    def to_pandas(self):
+        """The rows as a DataFrame with the columns of `totable`."""
+        import numpy
+        import pandas
+
+        def chosen(codes, names):
+            """A column of names, by a number each, below zero for none."""
+            places = {name: place for place, name in enumerate(dict.fromkeys(names))}
+            place = numpy.array([places[name] for name in names] + [-1], "int32")
+            return pandas.Categorical.from_codes(place[codes], list(places))
+
+        def numbers(there):
+            """The amounts of the rows that have them here."""
+            if isinstance(self.amount, list):
+                return pandas.Series([amount if is_there else None for amount, is_there in zip(self.amount, there)], dtype=object)
+            return pandas.arrays.IntegerArray(numpy.array(self.amount), ~there)
+
+        def seconds(dates):
+            found = numpy.array(dates, float)
+            found[found < 0] = numpy.nan
+            found /= 1e9
+            return found
+
+        who, word = numpy.frombuffer(self.who, "int32"), numpy.frombuffer(self.word, "int8")
+        has_amount, computes = numpy.array(self.amount) >= 0, word == WORDS.index("compute")
+        columns = (
+            numpy.arange(1, len(self) + 1, dtype="int32"), chosen(who, [actor.host for actor in self.actors]),
+            chosen(who, [actor.name for actor in self.actors]), numpy.array([actor.id for actor in self.actors], "int32")[who],
+            chosen(word, WORDS), chosen(numpy.frombuffer(self.other, "int32"), self.names), numbers(has_amount & computes),
+            numbers(has_amount & ~computes), seconds(self.begin), seconds(self.met), seconds(self.end),
+            seconds([end - begin for begin, end in zip(self.begin, self.end)] if isinstance(self.end, list)
+                    else numpy.array(self.end) - numpy.array(self.begin)), chosen(numpy.frombuffer(self.how, "int8"), OUTCOMES))
+        return pandas.DataFrame(dict(zip(COLUMNS, columns)), copy=False)
 
 
 # What the tools over traces share ----------------------------------------------------------------------------------------

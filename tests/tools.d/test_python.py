@@ -1,15 +1,17 @@
 """tools/simgrid_replay.py: runs from Python, their results, and their faults; a platform may be a file, a text or a dictionary."""
 
+import io
+import json
 import os
+import subprocess
 import sys
-import types
 import unittest
 from decimal import Decimal
 from pathlib import Path
 from unittest import mock
 
 import common
-from common import ACTOR, HOST, ROOT, ZONE, Folder
+from common import ACTOR, HOST, ROOT, ZONE, example, tool
 
 import simgrid_replay
 
@@ -37,7 +39,7 @@ class Runs(unittest.TestCase):
         result = simgrid_replay.run(POWERED, ALONE, ["p0 suspend p0"])
         self.assertEqual((result.word, result.suspended, result.blocked), ("deadlock", ["p0"], []))
         result = simgrid_replay.run(POWERED, ALONE, ["p0 sleep 1"] * 9, budget=1e1, quiet=True)
-        self.assertEqual((result.status, result.events, result.rows), (8, 10, []))
+        self.assertEqual((result.status, result.events, list(result.rows)), (8, 10, []))
 
     def test_faults_are_explained(self):
         for arguments, status, line, part in (
@@ -54,24 +56,78 @@ class Runs(unittest.TestCase):
             simgrid_replay.run(POWERED, ALONE, ["p0 yield", "p0 jump"])
         self.assertEqual([row.action for row in caught.exception.result.rows], ["yield"])
 
-    def test_pandas(self):
-        """What pandas is given, by a stand-in where it isn't installed."""
-        result = simgrid_replay.run(*FIRST)
-        try:
-            import pandas
-        except ImportError:
-            stand_in = types.SimpleNamespace(DataFrame=mock.MagicMock())
-            with mock.patch.dict(sys.modules, pandas=stand_in):
-                result.to_pandas()
-            stand_in.DataFrame.assert_called_once_with(result.rows, columns=simgrid_replay.Row._fields)
-            return
-        frame = result.to_pandas()
-        self.assertEqual(list(frame["date"]), [1.0])
-        self.assertEqual(list(frame["words"]), ["1000000000"])
+    def test_one_line_is_no_text(self):
+        for script in ("p0 compute 1e9", "p0 send p1 1e6"):
+            with self.assertRaisesRegex(ValueError, "a script of one line is a list of one"):
+                simgrid_replay.run(POWERED, ALONE, script)
+        with self.assertRaisesRegex(ValueError, "a text has more than one line"):
+            simgrid_replay.run('zone = [{id = "z"}]', ALONE, ["p0 yield"])
 
     def test_where_the_program_is(self):
         with mock.patch.dict(os.environ, {"SIMGRID_REPLAY": ""}):
             self.assertEqual(simgrid_replay.find_program(), str(ROOT / "simgrid_replay"))
+
+
+class Tables(unittest.TestCase):
+    """One table of a trace: `rows` and `to_pandas()` have what `totable` has."""
+
+    def texts(self):
+        for name in ("ring", "star_cluster", "master_worker"):
+            yield example(name)
+        yield (ROOT / "examples/failures/dies.trace").read_text()
+        yield "".join(f"[h1:a:(1) {date}.000000001] isend b 7 0.000000000\n" for date in (1, 2)) + (
+            "[h2:b:(2) 3.000000000] recv a 7 1.000000000\ndeadlock at 10000000000.000000000\nblocked [h2:b:(2)] recv a\n")
+        # Dates and amounts that have no place in 64 bits.
+        yield f"[h1:a:(1) 1.000000000] compute {10**19} 1.000000000\n[h1:a:(1) 10000000001.000000000] sleep 10000000000.000000000\n"
+
+    def test_rows(self):
+        """A row is what stands in its line."""
+        for text in self.texts():
+            lines = [line for line in text.splitlines() if line.startswith("[")]
+            rows = simgrid_replay.Rows(simgrid_replay.Reader(io.StringIO(text), late=True))
+            with self.subTest(lines[0]):
+                self.assertEqual([f"[{row.host}:{row.actor}:({row.number}) {row.date:f}] {' '.join((row.action, *row.words))} "
+                                  f"{row.outcome if row.seconds is None else format(row.seconds, 'f')}" for row in rows], lines)
+                self.assertEqual(rows[-1:], [rows[len(rows) - 1]])
+
+    def test_pandas(self):
+        """The DataFrame is the table that `totable` writes."""
+        python = next((python for python in (sys.executable, "/usr/bin/python3") if not subprocess.run(
+            [python, "-c", "import pandas"], capture_output=True).returncode), None)
+        self.assertIsNotNone(python, "pandas isn't here: tests/setup installs it")
+        for text in self.texts():
+            table = tool("totable", given=text.encode()).stdout.decode()
+            done = subprocess.run([python, "-B", "-c", FRAMES, str(ROOT / "tools")], input=json.dumps([text, table]), text=True, capture_output=True)
+            self.assertEqual((done.returncode, done.stdout), (0, "the same\n"), done.stderr)
+
+    def test_memory(self):
+        """So many rows take so much memory: 50 bytes each, and no object."""
+        line = "[h1:a:(1) 1.000000000] compute 5 0.000000000\n"
+        code = ("import io, resource, sys; sys.path.insert(0, sys.argv[1]); import simgrid_replay\n"
+                "before = resource.getrusage(resource.RUSAGE_SELF).ru_maxrss\n"
+                f"rows = simgrid_replay.Rows(simgrid_replay.Reader(({line!r} for _ in range(200_000)), late=True))\n"
+                "print(len(rows), resource.getrusage(resource.RUSAGE_SELF).ru_maxrss - before)")
+        done = subprocess.run([sys.executable, "-B", "-c", code, str(ROOT / "tools")], text=True, capture_output=True)
+        count, kilobytes = map(int, done.stdout.split())
+        self.assertEqual(count, 200_000)
+        self.assertLess(kilobytes, 200_000 * 100 // 1024)
+
+
+FRAMES = """
+import io, json, sys
+sys.path.insert(0, sys.argv[1])
+import pandas, simgrid_replay
+text, table = json.load(sys.stdin)
+frame = simgrid_replay.Rows(simgrid_replay.Reader(io.StringIO(text), late=True)).to_pandas()
+wanted = pandas.read_csv(io.StringIO(table))
+assert list(frame.columns) == list(wanted.columns), frame.columns
+for name in wanted:
+    if pandas.api.types.is_numeric_dtype(wanted[name]):
+        pandas.testing.assert_series_equal(frame[name].astype(float), wanted[name].astype(float))
+    else:
+        assert [*map(str, frame[name].astype(object).fillna(""))] == [*map(str, wanted[name].fillna(""))], name
+print("the same")
+"""
 
 
 if __name__ == "__main__":

@@ -4,6 +4,7 @@ import csv
 import io
 import json
 import unittest
+from pathlib import Path
 
 import traces
 from common import ROOT, Folder, example, tool
@@ -11,7 +12,9 @@ from common import ROOT, Folder, example, tool
 
 def again(row):
     """The line of the trace that a row came from."""
-    words = [row["action"], row["other"], row["flops"] or row["bytes"]]
+    # The line of a worker names its own mailbox, and the table its master.
+    other = row["actor"] if (row["action"], row["other"]) == ("recv", "master") else row["other"]
+    words = [row["action"], other, row["flops"] or row["bytes"]]
     took = row["duration_s"] if row["outcome"] == "done" else row["outcome"]
     text = " ".join(str(word) for word in words if word not in (None, ""))
     return f"[{row['host']}:{row['actor']}:({row['id']}) {row['end_s']}] {text} {took}"
@@ -61,6 +64,20 @@ class Tables(unittest.TestCase):
                 *_, end = csv.DictReader(io.StringIO(done.stdout.decode()))
                 self.assertEqual([end[key] for key in ("end_s", "ending", "told")], ["1.000000000", word, line])
                 self.assertEqual(done.stderr, b"")
+
+    def test_the_other_actor_of_a_worker_is_its_master(self):
+        for form in ([], ["--json"]):
+            text = tool("totable", *form, given=example("master_worker").encode()).stdout.decode()
+            rows = map(json.loads, text.splitlines()) if form else csv.DictReader(io.StringIO(text))
+            received = {(row["action"], row["other"]) for row in rows if row["actor"].startswith("w") and row["bytes"]}
+            self.assertEqual(received, {("recv", "master")})
+
+    def test_into_a_file(self):
+        with Folder() as folder:
+            done = tool("totable", "-o", "t.csv", given=example("first").encode(), folder=folder)
+            self.assertEqual((done.returncode, done.stdout), (0, b""))
+            self.assertEqual((Path(folder) / "t.csv").read_bytes(), tool("totable", given=example("first").encode()).stdout)
+            self.assertEqual(tool("totable", "-o", "no/t.csv", given=b"", folder=folder).returncode, 2)
 
     def test_a_trace_without_an_end(self):
         for words in ([], ["--endings"], ["--json"]):
