@@ -105,6 +105,10 @@ class Study(Folder):
     def read(self, name):
         return (self.path / "study" / name).read_text()
 
+    def lines(self, actor):
+        """The lines of an actor, without its name."""
+        return [line.split(" ", 1)[1] for line in self.read("script.txt").splitlines() if line.startswith(actor + " ")]
+
     def actors(self):
         return tomllib.loads(self.read("deployment.toml"))["actor"]
 
@@ -506,40 +510,127 @@ class Studies(unittest.TestCase):
         """Numbers of elements times the sizes of types, by codes or by what `init` sets; waits for the oldest request."""
         study, told = self.ranks("0 init 1\n1 init\n2 init 1\n0 comm_size 3\n0 send 1 5 10\n1 recv 0 5 80\n1 isend 2 0 10 1\n2 irecv 1 0 10\n"
                                  "2 irecv 0 0 10\n0 isend 2 0 3 2\n1 wait 1 2 0\n2 waitall\n0 waitall\n2 test 0 1 2\n0 compute 1e9\n"
-                                 "1 sleep 0.5\n0 location f 3\n0 finalize\n")
+                                 "1 sleep 0.5\n0 location f 3\n0 finalize\n", "--eager", "0")
         self.assertEqual([actor["host"] for actor in study.actors()], ["A_1", "A_1", "B"])
-        self.assertEqual(study.read("script.txt").splitlines(), [
-            "p0 send p1 80", "p1 recv p0", "p1 isend p2 40", "p2 irecv p1", "p2 irecv p0", "p0 isend p2 3", "p1 wait", "p2 wait", "p2 wait",
-            "p0 wait", "p0 compute 1e9", "p1 sleep 0.5"])
+        self.assertEqual([study.lines(f"p{rank}") for rank in range(3)], [
+            ["send p1 80", "isend p2 3", "wait", "compute 1e9"], ["recv p0", "isend p2 40", "wait", "sleep 0.5"],
+            ["irecv p1", "irecv p0", "wait", "wait"]])
         self.assertIn("t:5: send waits until the message has arrived", told)
         self.assertIn("t:14: test is left out", told)
         self.assertEqual(study.run_by_name("--quiet").returncode, 0)
 
     def test_eager(self):
-        study, told = self.ranks("0 send 1 0 10\n1 sleep 1\n1 recv 0 0 10\n0 send 1 0 70000\n1 recv 0 0 1\n", "--eager", "65536")
+        """What SMPI sends at once isn't waited for, unless a later request is."""
+        study, told = self.ranks("0 send 1 0 10\n1 sleep 1\n1 recv 0 0 10\n0 send 1 0 70000\n1 recv 0 0 1\n")
         self.assertEqual(study.read("script.txt").splitlines(), ["p0 isend p1 10", "p1 sleep 1", "p1 recv p0", "p0 send p1 70000", "p1 recv p0"])
         self.assertIn("sends below 65536 bytes are isend", told)
+        study, told = self.ranks("0 isend 1 0 9\n1 recv 0 0 9\n0 wait 0 1 0\n0 sleep 1\n0 irecv 1 0 9\n1 send 0 0 9\n0 wait 1 0 0\n")
+        self.assertEqual(study.lines("p0"), ["isend p1 9", "sleep 1", "irecv p1", "wait", "wait"])
+        self.assertIn("t:7: a wait also waits for the sends before it", told)
+        study, told = self.ranks("0 send 1 0 10\n1 recv 0 0 10\n", "--eager", "0")
+        self.assertEqual(study.lines("p0"), ["send p1 10"])
+        self.assertIn("t:1: send waits until", told)
+        # Of a long message there is nothing to tell: SMPI waits too.
+        self.assertNotIn("send waits until", self.ranks("0 send 1 0 65536\n1 recv 0 0 65536\n", "--eager", "0")[1])
+
+    def test_waits_in_any_order(self):
+        """Waits that stand together end when all are done; another one waits for the older requests too, which a note tells."""
+        posted = "0 isend 1 0 70000\n0 irecv 1 0 70000\n1 isend 0 0 70000\n1 irecv 0 0 70000\n"
+        study, told = self.ranks(posted + "0 wait 1 0 0\n1 wait 0 1 0\n0 wait 0 1 0\n1 wait 1 0 0\n")
+        for rank in ("p0", "p1"):
+            self.assertEqual(study.lines(rank)[2:], ["wait", "wait"])
+        self.assertNotIn("wait", told)
+        text = posted + "0 wait 1 0 0\n0 compute 5\n0 wait 0 1 0\n1 waitall\n"
+        study, told = self.ranks(text)
+        self.assertEqual(study.lines("p0")[2:], ["wait", "wait", "compute 5"])
+        self.assertIn("t:5: a wait for another request than the oldest also waits for the older ones", told)
+        self.refused("refused by --strict", "--strict", "hosts", "t", hosts="A 1:2\n", t=text)
+
+    def test_an_index(self):
+        """`smpirun -trace-ti` writes a file that names those of the ranks, beside it or from the working folder."""
+        parts = {"ti_rank-0.txt": "0 compute 5\n", "ti_rank-1.txt": "1 compute 6\n"}
+        study = Study(p=PLATFORM, hosts="A 1:2\n", ring="parts/ti_rank-0.txt\nti_rank-1.txt\n", **parts)
+        (study.path / "parts").mkdir()
+        (study.path / "ti_rank-0.txt").rename(study.path / "parts/ti_rank-0.txt")
+        self.assertEqual(study.made("p", "hosts", "ring").returncode, 0)
+        self.assertEqual(study.read("script.txt"), "p0 compute 5\np1 compute 6\n")
+        self.refused("ring:2: nowhere: there is no such file beside the index", "hosts", "ring", hosts="B\n", ring="hosts\nnowhere\n")
+
+    def test_notes_of_many_files(self):
+        parts = {f"t{rank}": f"{rank} send {1 - rank} 0 5\n{rank} recv {1 - rank} 0 5\n" for rank in range(2)}
+        study = Study(p=PLATFORM, hosts="A 1:2\n", **parts)
+        self.assertIn("t0:1: sends below 65536 bytes are isend: they don't wait for who receives (2 times, in 2 files)",
+                      study.made("p", "hosts", "t0", "t1").stderr.decode())
+
+    def test_no_rank(self):
+        """A send to -333 is one to MPI_PROC_NULL; of a receive that isn't known."""
+        study, told = self.ranks("0 send -333 0 5\n0 isend -333 0 5\n0 wait 0 -333 0\n0 sleep 1\n")
+        self.assertEqual(study.lines("p0"), ["sleep 1"])
+        self.assertIn("t:1: a send to MPI_PROC_NULL is left out", told)
+        self.refused("-333 stands for MPI_ANY_SOURCE or MPI_PROC_NULL", "hosts", "t", hosts="B\n", t="0 recv -333 0 5\n")
+
+    def test_factors_by_size(self):
+        """SMPI's factors of the sizes that most messages have; those of <config>; and none of these where a model is named."""
+        small, long = "0 send 1 0 3000\n1 recv 0 0 3000\n", "0 send 1 0 100000\n1 recv 0 0 100000\n"
+        config = '<config><prop id="smpi/lat-factor" value="1000:3.5;0:2"/><prop id="smpi/bw-factor" value="0:0.5"/></config>'
+        for options, text, platform, row, told in (
+                ((), small * 2 + long, PLATFORM, ("1.61075", "0.608902"), "above 1426 up to 3484 bytes: 2 of 3 messages; the 1 others"),
+                ((), small + long * 2, PLATFORM, ("11.6436", "0.940694"), "above 65472 bytes: 2 of 3 messages"),
+                ((), "0 send 1 0 6000\n1 recv 0 0 6000\n", PLATFORM, ("2.18796", "1"), "above 5776 up to 9376 bytes: 1 of 1 messages"),
+                ((), small, PLATFORM.replace(HEAD, HEAD + config), ("3.5", "0.5"), "above 1000 bytes"),
+                (("--model", "LV08"), small, PLATFORM, ("13.01", "0.97"), "model LV08")):
+            with self.subTest((options, text)):
+                study = Study(p=platform, hosts="A 1:2\n", t=text)
+                done = study.made(*options, "p", "hosts", "t")
+                network, = tomllib.loads(study.read("platform.toml"))["network"]
+                self.assertEqual((network["latency_factor"], network["bandwidth_factor"]), row)
+                self.assertIn(told, done.stderr.decode())
 
     def test_collectives_of_ranks(self):
-        """From rank 0 they are lines; from another root, and where there is no line, messages."""
-        every = "".join(f"{rank} {{}}\n" for rank in range(3))
-        for action, lines in (("barrier", [["barrier"]] * 3), ("bcast 10 0 1", [["bcast 40"]] * 3), ("allreduce 10 5 2", [["allreduce 10 5"]] * 3),
-                              ("reduce 10 5", [["reduce 10 5"]] * 3), ("alltoall 7 7 1 1", [["alltoall 28"]] * 3),
-                              ("bcast 10 1", [["recv p1"], ["send p0 10", "send p2 10"], ["recv p1"]]),
-                              ("gather 8 8", [["recv p1", "recv p2"], ["send p0 8"], ["send p0 8"]]),
-                              ("scatter 8 8 2", [["recv p2"], ["recv p2"], ["send p0 8", "send p1 8"]]),
-                              ("scan 8 5", [["send p1 8"], ["recv p0", "compute 5", "send p2 8"], ["recv p1", "compute 5"]]),
-                              ("allgatherv 4 4 5 6", [["recv p1", "recv p2", "send p2 15", "send p1 15"], ["send p0 4", "recv p0"],
-                                                      ["send p0 4", "recv p0"]])):
+        """By SMPI's algorithms; what isn't sent at once are lines of a collective, where there is such a line."""
+        every, many = "".join(f"{rank} {{}}\n" for rank in range(3)), ["irecv p1", "irecv p2", "wait", "wait"]
+        for action, lines in (("barrier", [[*many, "isend p1 0", "isend p2 0"], *[["isend p0 0", "recv p0"]] * 2]),
+                              ("bcast 20000 0 1", [["bcast 80000"]] * 3), ("bcast 10 0 1", [["isend p2 40", "isend p1 40"], ["recv p0"], ["recv p0"]]),
+                              ("bcast 10 1", [["recv p1"], ["isend p0 10", "isend p2 10"], ["recv p1"]]),
+                              ("reduce 10 5", [[*many, "compute 5"], *[["isend p0 10", "compute 5"]] * 2]),
+                              ("reduce 70000 5", [[*many, "compute 5"], *[["send p0 70000", "compute 5"]] * 2]),
+                              ("allreduce 10 5 2", [[*many, "isend p2 10", "isend p1 10", "compute 5"],
+                                                    *[["isend p0 10", "recv p0", "compute 5"]] * 2]),
+                              ("alltoall 70000 7 2 2", [["alltoall 70000"]] * 3), ("allgather 70000 7 2 2", [["alltoall 70000"]] * 3),
+                              ("alltoall 7 7 1 1", [["irecv p1", "irecv p2", "isend p1 28", "isend p2 28", "wait", "wait"],
+                                                    ["irecv p2", "irecv p0", "isend p2 28", "isend p0 28", "wait", "wait"],
+                                                    ["irecv p0", "irecv p1", "isend p0 28", "isend p1 28", "wait", "wait"]]),
+                              ("gather 8 8", [many, ["isend p0 8"], ["isend p0 8"]]),
+                              ("scatter 8 8 2", [["recv p2"], ["recv p2"], ["isend p0 8", "isend p1 8"]]),
+                              ("scatter 70000 8", [["isend p1 70000", "isend p2 70000", "wait", "wait"], ["recv p0"], ["recv p0"]]),
+                              ("scan 8 5", [["isend p1 8", "isend p2 8", "compute 5"], ["irecv p0", "isend p2 8", "wait", "compute 5"],
+                                            ["irecv p0", "irecv p1", "wait", "wait", "compute 5"]]),
+                              ("allgatherv 4 4 5 6", [["irecv p1", "irecv p2", "isend p1 4", "isend p2 4", "wait", "wait"],
+                                                      ["irecv p2", "irecv p0", "isend p2 4", "isend p0 4", "wait", "wait"],
+                                                      ["irecv p0", "irecv p1", "isend p0 4", "isend p1 4", "wait", "wait"]])):
             with self.subTest(action):
                 study, _ = self.ranks(every.format(*[action] * 3))
-                script = [line.split(" ", 1) for line in study.read("script.txt").splitlines()]
-                self.assertEqual([[text for name, text in script if name == f"p{rank}"] for rank in range(3)], lines)
+                self.assertEqual([study.lines(f"p{rank}") for rank in range(3)], lines)
                 self.assertEqual(study.run_by_name("--quiet").returncode, 0)
 
+    def test_collectives_beside_requests(self):
+        """Where a request is under way, which a wait would be for, receives of a collective wait one by one."""
+        study, _ = self.ranks("0 isend 1 0 70000\n1 recv 0 0 70000\n0 allreduce 8 0\n1 allreduce 8 0\n2 allreduce 8 0\n0 wait 0 1 0\n"
+                              "0 barrier\n1 barrier\n2 barrier\n")
+        self.assertEqual(study.lines("p0"), ["isend p1 70000", "recv p1", "recv p2", "isend p2 8", "isend p1 8", "wait",
+                                             "wait", "wait", "irecv p1", "irecv p2", "wait", "wait", "isend p1 0", "isend p2 0"])
+        self.assertEqual(study.run_by_name("--quiet").returncode, 0)
+        # A receive that is under way would meet the messages of a barrier. As a line it has none.
+        posted, rest = "0 irecv 1 0 70000\n", "1 send 0 0 70000\n0 wait 1 0 0\n2 sleep 1\n"
+        study, told = self.ranks(posted + "0 barrier\n1 barrier\n2 barrier\n" + rest)
+        self.assertEqual(study.lines("p0"), ["irecv p1", "barrier", "wait"])
+        self.assertIn("t:2: barriers take no time", told)
+        self.assertEqual(study.run_by_name("--quiet").returncode, 0)
+        self.refused("t:1: a receive of tag 0 from rank 1, whose message is one of a collective", "hosts", "t", hosts="A 1:3\n",
+                     t=posted + "0 allreduce 8 0\n1 allreduce 8 0\n2 allreduce 8 0\n" + rest)
+
     def test_what_of_ranks_is_refused(self):
-        for text, told in (("0 isend 0 1 5\n0 isend 0 2 5\n0 wait 0 0 2\n", "t:3: wait for another request than the oldest"),
-                           ("0 send 1 1 5\n0 send 1 2 5\n1 recv 0 2 5\n1 recv 0 1 5\n", "t:3: a receive of tag 2 from rank 0"),
+        for text, told in (("0 send 1 1 5\n0 send 1 2 5\n1 recv 0 2 5\n1 recv 0 1 5\n", "t:3: a receive of tag 2 from rank 0, whose message is one of tag 1"),
                            ("0 recv -555 0 5\n", "from any rank"), ("0 comm_size 4\n", "comm_size 4"), ("0 send 9 0 1\n", "no rank 9"),
                            ("0 send 0 0 1 99\n", "isn't a type"), ("0 frob\n", "the action frob"), ("0 wait 0 0 0\n", "isn't under way"),
                            ("0 compute x\n", "isn't a number"), ("0 send 0\n", "at least 3"), ("0\n", "a rank and an action")):
@@ -548,7 +639,7 @@ class Studies(unittest.TestCase):
         self.refused('hosts:1: there is no host "C"', "hosts", "t", hosts="C\n", t="0 init\n")
 
     def test_words(self):
-        for words in (("p", "d"), ("--model", "SMPI", "p"), ("--eager", "-1", "p"), ("-o", "study", "p", "nowhere"), ("-o", "study", "p", "d", "nowhere")):
+        for words in (("p", "d"), ("--model", "IB", "p"), ("--eager", "-1", "p"), ("-o", "study", "p", "nowhere"), ("-o", "study", "p", "d", "nowhere")):
             study = Study(p=PLATFORM, d=HEAD + '<actor host="B" function="p0"/></platform>')
             self.assertEqual(tool("from_simgrid", *words, folder=study.path).returncode, 2)
 

@@ -1,7 +1,9 @@
 """A whole study: what is read, what comes of it, and where it is written."""
 
 import os
+import shlex
 import sys
+from pathlib import Path
 
 from . import deployment, model, rows, traces, xmlfile, zones
 from .platform import Platform
@@ -11,6 +13,8 @@ RUN = """#!/bin/sh
 # Runs the study. The environment's SIMGRID_REPLAY names the program; options stand behind.
 here=$(cd -- "$(dirname -- "$0")" && pwd) || exit
 """
+# Where the program is in a checkout, and where it is installed.
+BESIDE = [Path(__file__).resolve().parents[2] / "simgrid_replay", Path(__file__).resolve().parents[3] / "bin/simgrid_replay"]
 
 
 class Study:
@@ -42,11 +46,12 @@ def study(given):
     found = Study()
     root = xmlfile.read(given.platform)
     platform = Platform("." if given.platform == "-" else os.path.dirname(given.platform), found.notes).read(root)
-    model.settle(platform, given.model)
-    zones.write(platform)
     actors = script = None
     if given.deployment:
         actors, script = deployment.read(given, platform, found.notes)
+    ranks = script is not None and script.ranks > 0
+    model.settle(platform, given.model or ("SMPI" if ranks else "LV08"), script.sizes if ranks else {})
+    zones.write(platform)
     explain = rows.explain()
     texts = found.texts
     texts["platform.toml"] = platform.rows.text(found.notes.all())
@@ -66,4 +71,7 @@ def study(given):
 
 def line_of_run(replay):
     command, script = ("replay", ' "$here/script.txt"') if replay else ("run", "")
-    return f'exec "${{SIMGRID_REPLAY:-simgrid_replay}}" {command} "$here/platform.toml" "$here/deployment.toml"{script} "$@"\n'
+    program = next((str(path) for path in BESIDE if path.is_file() and os.access(path, os.X_OK)), "simgrid_replay")
+    return (f"program={shlex.quote(program)}\n"
+            '[ -x "$program" ] || program=simgrid_replay\n'
+            f'exec "${{SIMGRID_REPLAY:-$program}}" {command} "$here/platform.toml" "$here/deployment.toml"{script} "$@"\n')

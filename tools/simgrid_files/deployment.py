@@ -42,7 +42,7 @@ def read(given, platform, notes):
     if root.tag != "platform":
         raise Refused(root, f"{root} where <platform> should stand")
     actors = [actor(element, platform, notes) for element in root.children]
-    read_traces = [traces.lines_of(path) for path in given.trace]
+    read_traces = traces.read(given.trace)
     if smpi.is_smpi(read_traces, [actor.function for actor in actors]):
         return of_ranks(given, platform, notes, [actor.host for actor in actors], actors)
     return Deployment(given, platform, notes, actors, read_traces).written()
@@ -90,7 +90,7 @@ def of_ranks(given, platform, notes, hosts, actors):
     for actor in actors or ():
         if actor.start or actor.kill:
             raise Refused(actor.element, f"{actor.element}: a rank of SMPI with a start_time or kill_time isn't here")
-    script = smpi.convert([traces.lines_of(path) for path in given.trace], given, notes, len(hosts))
+    script = smpi.convert(traces.read(given.trace), given, notes, len(hosts))
     rows = Rows("deployment", ("actor",))
     for rank in range(script.ranks):
         place = actors[rank % len(actors)].element if actors else (given.deployment, 0)

@@ -1,18 +1,22 @@
 """SMPI's time-independent traces as lines of a script: rank i is the actor `pI`."""
 
 import re
+from collections import Counter
 
 from . import values
-from .told import Refused
+from .collectives import COLLECTIVE, Collectives
+from .told import Notes, Refused
 from .traces import Script
 
 # The sizes of SMPI's types by their codes.
 SIZES = [8, 4, 1, 2, 8, 4, 1, 8, 1, 1, 2, 4, 8, 8, 16, 4, 1, 1, 2, 4, 8, 1, 2, 4, 8, 8, 16, 32, 8, 8,
          8, 16, 16, 8, 8, 8, 16, 16, 4, 4, 8, 16, 8, 16, 16, 4, 2, 4, 8, 16, 32, 1, 8, 16, 32]
 DOUBLE, BYTE = 0, 6
-ANY_SOURCE, ANY_TAG = -555, -444
+ANY_SOURCE, ANY_TAG, NO_RANK = "-555", -444, "-333"
 MOST_RANKS = 4096
 DROPPED = {"finalize": None, "location": None, "comm_split": "communicators are all ranks", "comm_dup": "communicators are all ranks"}
+# What a request is that no line of the trace waits for: SMPI sends it at once, by itself or in a collective.
+EAGER = "eager"
 
 
 def is_smpi(read_traces, functions):
@@ -22,10 +26,11 @@ def is_smpi(read_traces, functions):
 
 
 class Rank:
-    """What one rank has under way."""
+    """What one rank has under way: its requests, oldest first; the waits that stand together; and what was waited for too early."""
 
     def __init__(self, number):
         self.number, self.requests, self.type = number, [], BYTE
+        self.waits, self.early = [], []
         self.sent, self.received = {}, {}
 
 
@@ -41,21 +46,37 @@ def convert(read_traces, given, notes, hosts):
         raise Refused(lines[0], f"{ranks} ranks, and a run has up to {MOST_RANKS} actors")
     if hosts < ranks and hosts:
         notes.add((given.deployment, 1), f"{ranks} ranks on {hosts} places: they go round")
-    found = Converted(ranks, given.eager, notes)
-    for line in lines:
-        found.one(line)
-    found.matched()
-    notes.of_model("traces of SMPI: no factors by the size of a message, no overheads, and collectives over trees or in a line; "
-                   "SMPI chooses other algorithms by size")
+    found = converted(lines, ranks, given.eager)
+    if isinstance(found.other_order(), Refused) and found.barriers:
+        # Barriers as messages would meet receives of other messages; a line of a barrier meets nothing.
+        found = converted(lines, ranks, given.eager, False)
+        found.notes.add(found.barriers_at, "barriers take no time: their messages would be met by receives that are under way")
+    if isinstance(found.other_order(), Refused):
+        raise found.other_order()
+    notes.found.update(found.notes.found)
+    notes.of_model("traces of SMPI: one latency and bandwidth factor for all messages, no overheads, and collectives by the algorithms "
+                   "that SMPI takes by default")
+    found.script.notes, found.script.sizes = notes, found.sizes
     return found.script
 
 
-class Converted:
-    """The lines so far."""
+def converted(lines, ranks, eager, barriers=True):
+    """The lines of all ranks, with barriers as messages or as lines."""
+    found = Converted(ranks, eager, barriers)
+    for line in lines:
+        found.one(line)
+    for rank in found.ranks:
+        found.wait(rank)
+    return found
 
-    def __init__(self, count, eager, notes):
-        self.count, self.eager, self.notes, self.script = count, eager, notes, Script(notes, count)
-        self.ranks = [Rank(number) for number in range(count)]
+
+class Converted(Collectives):
+    """The lines so far, and the sizes of the messages in them."""
+
+    def __init__(self, count, eager, as_messages):
+        self.count, self.eager, self.notes = count, eager, Notes()
+        self.script, self.sizes = Script(self.notes, count), Counter()
+        self.ranks, self.as_messages, self.barriers, self.barriers_at = [Rank(number) for number in range(count)], as_messages, 0, None
 
     def one(self, line):
         rank, action, words = self.ranks[int(line.words[0])], line.words[1], line.words[2:]
@@ -66,6 +87,8 @@ class Converted:
             return
         if known is None:
             raise Refused(line, f"the action {action} isn't here")
+        if action != "wait":
+            self.wait(rank)
         known(line, rank, words)
 
     # Words ---------------------------------------------------------------------------------------------------------
@@ -92,8 +115,11 @@ class Converted:
         return SIZES[int(words[place])]
 
     def rank_of(self, line, text):
-        if text == str(ANY_SOURCE):
+        if text == ANY_SOURCE:
             raise Refused(line, "a message from any rank isn't here: a receive names who sends")
+        if text == NO_RANK:
+            raise Refused(line, f"{NO_RANK} stands for MPI_ANY_SOURCE or MPI_PROC_NULL, which a trace doesn't tell apart: a receive "
+                          "here names who sends; where it is MPI_PROC_NULL, leave the line and its wait out")
         if not re.fullmatch("[0-9]{1,9}", text) or int(text) >= self.count:
             raise Refused(line, f"there is no rank {text}: {self.count} ranks have lines")
         return int(text)
@@ -133,17 +159,39 @@ class Converted:
         size = "0" if words[2].startswith("-") else self.amount(line, words[2], self.size(line, rank, words, 3))
         return other, tag, size
 
+    def is_eager(self, size):
+        """Whether SMPI's send of so many bytes ends at once."""
+        return values.fraction(size)[0] < self.eager
+
+    def send(self, line, rank, other, size, of=EAGER):
+        """A send that is waited for, where SMPI waits for it."""
+        self.sizes[int(values.fraction(size)[0])] += 1
+        if of == COLLECTIVE:
+            rank.sent.setdefault(other, []).append((COLLECTIVE, line))
+        if self.is_eager(size):
+            rank.requests.append(of)
+            self.said(line, rank, f"isend p{other} {size}")
+        else:
+            self.said(line, rank, f"send p{other} {size}")
+
+    def to_nobody(self, line, words):
+        """Whether it is a send to MPI_PROC_NULL, which is none."""
+        if words and words[0] == NO_RANK:
+            self.notes.add(line, "a send to MPI_PROC_NULL is left out")
+            return True
+        return False
+
     def do_send(self, line, rank, words):
+        if self.to_nobody(line, words):
+            return
         other, tag, size = self.message(line, rank, words)
         rank.sent.setdefault(other, []).append((tag, line))
-        if values.fraction(size)[0] < self.eager:
-            rank.requests.append(None)
+        if self.is_eager(size):
             self.notes.add(line, f"sends below {self.eager} bytes are isend: they don't wait for who receives")
-            self.said(line, rank, f"isend p{other} {size}")
-            return
-        self.notes.add(line, "send waits until the message has arrived; SMPI's doesn't, below smpi/send-is-detached-thresh: "
-                       "--eager BYTES")
-        self.said(line, rank, f"send p{other} {size}")
+        elif values.fraction(size)[0] < 65536:
+            self.notes.add(line, "send waits until the message has arrived; SMPI's doesn't, below smpi/send-is-detached-thresh, "
+                           "65536 bytes: --eager 65536")
+        self.send(line, rank, other, size)
 
     def do_recv(self, line, rank, words):
         other, tag, _ = self.message(line, rank, words)
@@ -151,37 +199,63 @@ class Converted:
         self.said(line, rank, f"recv p{other}")
 
     def do_isend(self, line, rank, words):
+        if self.to_nobody(line, words):
+            return
         other, tag, size = self.message(line, rank, words)
         rank.sent.setdefault(other, []).append((tag, line))
-        rank.requests.append((rank.number, other, tag))
+        rank.requests.append((rank.number, other, tag, self.is_eager(size)))
+        self.sizes[int(values.fraction(size)[0])] += 1
         self.said(line, rank, f"isend p{other} {size}")
 
     def do_irecv(self, line, rank, words):
         other, tag, _ = self.message(line, rank, words)
         rank.received.setdefault(other, []).append((tag, line))
-        rank.requests.append((other, rank.number, tag))
+        rank.requests.append((other, rank.number, tag, False))
         self.said(line, rank, f"irecv p{other}")
 
-    def waits(self, line, rank, count):
-        """So many waits, each for the oldest request."""
-        for request in rank.requests[:count]:
-            if request is None:
-                self.notes.add(line, "a wait also waits for the sends of --eager before it")
-            self.said(line, rank, "wait")
-        del rank.requests[:count]
-
     def do_wait(self, line, rank, words):
+        """Waits that stand together are taken together: they end when all are done, in whichever order they stand."""
         self.need(line, words, 3)
+        if words[1] == NO_RANK and words[0] == str(rank.number):
+            return
         wanted = self.rank_of(line, words[0]), self.rank_of(line, words[1]), self.tag(line, words[2])
-        places = [place for place, request in enumerate(rank.requests) if request == wanted]
-        if not places:
+        early = next((request for request in rank.early if request[:3] == wanted), None)
+        if early:
+            rank.early.remove(early)
+            return
+        place = next((place for place, request in enumerate(rank.requests) if request[:3] == wanted
+                      and all(place != other for _, other in rank.waits)), None)
+        if place is None:
             raise Refused(line, "wait for a request that isn't under way")
-        if any(request is not None for request in rank.requests[:places[0]]):
-            raise Refused(line, "wait for another request than the oldest isn't here")
-        self.waits(line, rank, places[0] + 1)
+        rank.waits.append((line, place))
 
     def do_waitall(self, line, rank, words):
-        self.waits(line, rank, len(rank.requests))
+        self.wait_for(rank, [(line, place) for place, request in enumerate(rank.requests) if request not in (EAGER, COLLECTIVE)])
+
+    def wait(self, rank):
+        """Writes the waits that stand together."""
+        self.wait_for(rank, rank.waits)
+        rank.waits = []
+
+    def wait_for(self, rank, waits):
+        """Waits for the requests at these places. A wait here is for the oldest, so the older ones are waited for too; what SMPI has
+        sent at once isn't waited for, unless a later request is."""
+        places = {place for _, place in waits}
+        waits = [(line, place) for line, place in waits if not rank.requests[place][3:] == (True,)]
+        for place in places - {place for _, place in waits}:
+            rank.requests[place] = EAGER
+        if not waits:
+            return
+        line, last = waits[0][0], max(place for _, place in waits)
+        for place, request in enumerate(rank.requests[:last + 1]):
+            if request in (EAGER, COLLECTIVE) or request[3]:
+                self.notes.add(line, "a wait also waits for the sends before it that SMPI sends at once")
+            elif place not in places:
+                self.notes.add(line, "a wait for another request than the oldest also waits for the older ones")
+            if place not in places and request not in (EAGER, COLLECTIVE):
+                rank.early.append(request)
+            self.said(line, rank, "wait")
+        del rank.requests[:last + 1]
 
     def do_test(self, line, rank, words):
         self.notes.add(line, "test is left out: what it finds is waited for by a later wait")
@@ -189,172 +263,22 @@ class Converted:
     def do_sendrecv(self, line, rank, words):
         self.need(line, words, 4)
         other, source = self.rank_of(line, words[1]), self.rank_of(line, words[3])
-        if rank.requests:
-            raise Refused(line, "sendRecv while a request is under way isn't here")
         size = self.amount(line, words[0], self.size(line, rank, words, 4))
         rank.sent.setdefault(other, []).append((0, line))
         rank.received.setdefault(source, []).append((0, line))
-        for text in (f"irecv p{source}", f"send p{other} {size}", "wait"):
-            self.said(line, rank, text)
+        self.exchange(line, rank, [(other, size)], [source])
 
-    def matched(self):
-        """Messages of two ranks meet in their order here, and by their tags in SMPI."""
+    def other_order(self):
+        """Messages of two ranks meet in their order here, and by their tags in SMPI: the refusal of what would meet another one."""
         for rank in self.ranks:
             for other, sent in rank.sent.items():
                 received = self.ranks[other].received.get(rank.number, [])
                 for (tag, _), (wanted, line) in zip(sent, received):
-                    if tag != wanted and wanted != ANY_TAG:
-                        raise Refused(line, f"a receive of tag {wanted} from rank {rank.number}, whose message has tag {tag}: messages "
-                                      "of two ranks meet in their order here")
+                    if tag != wanted and (wanted != ANY_TAG or tag == COLLECTIVE):
+                        return Refused(line, f"a receive of {tagged(wanted)} from rank {rank.number}, whose message is one of {tagged(tag)}: "
+                                       "messages of two ranks meet in their order here")
+        return None
 
-    # Collectives ---------------------------------------------------------------------------------------------------
 
-    def do_barrier(self, line, rank, words):
-        self.said(line, rank, "barrier")
-
-    def tree(self, rank, root):
-        """The parent and the children of a rank in the binomial tree of a root, nearest first."""
-        place, step, below = (rank.number - root) % self.count, 1, []
-        while step < self.count and not place & step:
-            if place + step < self.count:
-                below.append((place + step + root) % self.count)
-            step *= 2
-        return (place - step + root) % self.count if place else None, below
-
-    def down(self, line, rank, root, size):
-        above, below = self.tree(rank, root)
-        if above is not None:
-            self.said(line, rank, f"recv p{above}")
-        for other in reversed(below):
-            self.said(line, rank, f"send p{other} {size}")
-
-    def up(self, line, rank, root, size, flops):
-        above, below = self.tree(rank, root)
-        for other in below:
-            self.said(line, rank, f"recv p{other}")
-            self.said(line, rank, f"compute {flops}")
-        if above is not None:
-            self.said(line, rank, f"send p{above} {size}")
-
-    def do_bcast(self, line, rank, words):
-        self.need(line, words, 1)
-        size, root = self.amount(line, words[0], self.size(line, rank, words, 2)), self.root(line, words, 1)
-        if root == 0:
-            self.said(line, rank, f"bcast {size}")
-        else:
-            self.down(line, rank, root, size)
-
-    def do_reduce(self, line, rank, words):
-        self.need(line, words, 2)
-        size, flops = self.amount(line, words[0], self.size(line, rank, words, 3)), self.amount(line, words[1])
-        root = self.root(line, words, 2)
-        if root == 0:
-            self.said(line, rank, f"reduce {size} {flops}")
-        else:
-            self.up(line, rank, root, size, flops)
-
-    def do_allreduce(self, line, rank, words):
-        self.need(line, words, 2)
-        self.said(line, rank, f"allreduce {self.amount(line, words[0], self.size(line, rank, words, 2))} "
-                  + self.amount(line, words[1]))
-
-    def do_alltoall(self, line, rank, words):
-        self.need(line, words, 2)
-        self.said(line, rank, f"alltoall {self.amount(line, words[0], self.size(line, rank, words, 2))}")
-
-    def do_alltoallv(self, line, rank, words):
-        """SEND-BUFFER SENT.. RECEIVE-BUFFER RECEIVED.., by rank."""
-        self.need(line, words, 2 * self.count + 2)
-        if rank.requests:
-            raise Refused(line, "alltoallv while a request is under way isn't here")
-        factor = self.size(line, rank, words, 2 * self.count + 2)
-        others = [(rank.number + step) % self.count for step in range(1, self.count)]
-        for other in others:
-            self.said(line, rank, f"irecv p{other}")
-        for other in others:
-            self.said(line, rank, f"isend p{other} {self.amount(line, words[1 + other], factor)}")
-        for _ in range(2 * len(others)):
-            self.said(line, rank, "wait")
-
-    def gathered(self, line, rank, root, size):
-        """All send to the root, one after the other."""
-        if rank.number != root:
-            self.said(line, rank, f"send p{root} {size}")
-        else:
-            for other in range(self.count):
-                if other != root:
-                    self.said(line, rank, f"recv p{other}")
-
-    def scattered(self, line, rank, root, sizes):
-        if rank.number != root:
-            self.said(line, rank, f"recv p{root}")
-        else:
-            for other in range(self.count):
-                if other != root:
-                    self.said(line, rank, f"send p{other} {sizes[other]}")
-
-    def in_line(self, line):
-        self.notes.add(line, f"{line.words[1]} is written out as sends and receives by rank 0 or its root")
-
-    def do_gather(self, line, rank, words):
-        self.need(line, words, 2)
-        self.in_line(line)
-        self.gathered(line, rank, self.root(line, words, 2), self.amount(line, words[0], self.size(line, rank, words, 3)))
-
-    def do_gatherv(self, line, rank, words):
-        self.need(line, words, self.count + 1)
-        self.in_line(line)
-        size = self.amount(line, words[0], self.size(line, rank, words, self.count + 2))
-        self.gathered(line, rank, self.root(line, words, self.count + 1), size)
-
-    def do_scatter(self, line, rank, words):
-        self.need(line, words, 2)
-        self.in_line(line)
-        size = self.amount(line, words[0], self.size(line, rank, words, 3))
-        self.scattered(line, rank, self.root(line, words, 2), [size] * self.count)
-
-    def do_scatterv(self, line, rank, words):
-        self.need(line, words, self.count + 1)
-        self.in_line(line)
-        factor = self.size(line, rank, words, self.count + 2)
-        self.scattered(line, rank, self.root(line, words, self.count + 1),
-                       [self.amount(line, word, factor) for word in words[:self.count]])
-
-    def do_allgather(self, line, rank, words):
-        self.need(line, words, 2)
-        self.in_line(line)
-        factor = self.size(line, rank, words, 2)
-        self.gathered(line, rank, 0, self.amount(line, words[0], factor))
-        self.down(line, rank, 0, self.amount(line, words[0], factor * self.count))
-
-    def do_allgatherv(self, line, rank, words):
-        self.need(line, words, self.count + 1)
-        self.in_line(line)
-        # Behind the sizes stand types, or places in a buffer, which have no type before them.
-        places = self.count + 3 < len(words) <= 2 * self.count + 1
-        factor = self.size(line, rank, words, len(words) if places else self.count + 1)
-        self.gathered(line, rank, 0, self.amount(line, words[0], factor))
-        self.down(line, rank, 0, self.total(line, words[1:1 + self.count], factor))
-
-    def total(self, line, words, factor):
-        return self.amount(line, str(sum(int(self.amount(line, word, factor) if factor != 1 else int(values.fraction(
-            self.amount(line, word))[0])) for word in words)))
-
-    def do_reducescatter(self, line, rank, words):
-        self.need(line, words, self.count + 1)
-        self.in_line(line)
-        factor = self.size(line, rank, words, self.count + 1)
-        self.up(line, rank, 0, self.total(line, words[:self.count], factor), self.amount(line, words[self.count]))
-        self.scattered(line, rank, 0, [self.amount(line, word, factor) for word in words[:self.count]])
-
-    def do_scan(self, line, rank, words):
-        """Along the ranks: each adds its own to what the one before sends."""
-        self.need(line, words, 2)
-        self.in_line(line)
-        if rank.number:
-            self.said(line, rank, f"recv p{rank.number - 1}")
-            self.said(line, rank, f"compute {self.amount(line, words[1])}")
-        if rank.number + 1 < self.count:
-            self.said(line, rank, f"send p{rank.number + 1} {self.amount(line, words[0], self.size(line, rank, words, 2))}")
-
-    do_exscan = do_scan
+def tagged(tag):
+    return "a collective" if tag == COLLECTIVE else f"tag {tag}"

@@ -35,7 +35,7 @@ def quoted(text):
 
 
 class Notes:
-    """What is left out or differs: each text once, with its first place and how often it was met."""
+    """What is left out or differs: each text once, with its first place, how often it was met, and in how many files."""
 
     def __init__(self):
         self.model, self.found = [], {}
@@ -47,12 +47,14 @@ class Notes:
 
     def add(self, place, text):
         file, line = place_of(place)
-        first = self.found.setdefault((file, plain(text)), [line, 0])
-        first[1] += 1
+        first = self.found.setdefault(plain(text), [file, line, 0, set()])
+        first[2] += 1
+        first[3].add(file)
 
     def lines(self):
-        for (file, text), (line, count) in self.found.items():
-            yield f"{at(file, line)}: {text}" + (f" ({count} times)" if count > 1 else "")
+        for text, (file, line, count, files) in self.found.items():
+            where = f", in {len(files)} files" if len(files) > 1 else ""
+            yield f"{at(file, line)}: {text}" + (f" ({count} times{where})" if count > 1 else "")
 
     def all(self):
         return [*self.model, *self.lines()]

@@ -1,5 +1,7 @@
 """Traces that are replayed as they stand, and the script."""
 
+import os
+from collections import Counter
 from typing import NamedTuple
 
 from . import xmlfile
@@ -26,11 +28,34 @@ def lines_of(path):
     return found
 
 
+def read(paths):
+    """The lines of each trace. One that is an index, as `smpirun -trace-ti` writes it, stands for the traces that it names."""
+    found = []
+    for path in paths:
+        lines = lines_of(path)
+        told = [line for line in lines if line.words]
+        if told and all(len(line.words) == 1 for line in told) and not all(line.words[0].isdecimal() for line in told):
+            found += [lines_of(named(line)) for line in told]
+        else:
+            found.append(lines)
+    return found
+
+
+def named(line):
+    """The trace that a line of an index names: beside the index, or from the working folder, as for SimGrid."""
+    name = line.words[0]
+    for path in (os.path.join(os.path.dirname(line.file), name), name):
+        if os.path.isfile(path):
+            return path
+    raise Refused(line, f"{name}: there is no such file beside the index, nor from here; a trace of SMPI has a rank and an action a line")
+
+
 class Script:
-    """The lines of script.txt, each with the place from which it comes."""
+    """The lines of script.txt, each with the place from which it comes; of SMPI's ranks also how many messages have which size."""
 
     def __init__(self, notes, ranks=0):
         self.notes, self.ranks, self.lines, self.places, self.gathers = notes, ranks, [], [], None
+        self.sizes = Counter()
 
     def line(self, text, place):
         self.lines.append(text)
