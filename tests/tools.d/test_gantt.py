@@ -2,6 +2,7 @@
 
 import io
 import random
+import re
 import subprocess
 import sys
 import unittest
@@ -91,6 +92,12 @@ class Charts(unittest.TestCase):
         self.assertIn("blocked [h1:a:(1)] recv b", tips(blocked))
         self.assertIn("refused", [text.text for text in svg.iter(SVG + "text")])
 
+    def test_blocked_at_the_end(self):
+        """Who blocks at the very end has a mark."""
+        svg = chart(traces.GOOD + "deadlock at 1.000000000\nblocked [h1:a:(1)] recv b\n")
+        mark, = [rect for rect in svg.iter(SVG + "rect") if rect.get("class") == "mark"]
+        self.assertEqual((mark.get("fill"), tips(mark)), ("#e00000", ["blocked [h1:a:(1)] recv b"]))
+
     def test_failed(self):
         """A call that failed has no duration: its bar begins where its actor was free, and one in its call is a mark."""
         text = traces.GOOD + "[h1:a:(1) 2.500000000] compute 5 failed\n[h1:a:(1) 2.500000000] compute 5 failed\nSimulation time 2.500000000\n"
@@ -132,8 +139,41 @@ class Charts(unittest.TestCase):
         self.assertLess(len(classes), 2000)
         longest, = [rect for rect in svg.iter(SVG + "rect") if rect.get("class") == "kind-sleep"]
         self.assertGreater(float(longest.get("width")), 400)
-        more = sum(int(line.split()[2]) + 8 for line in tips(svg) if line.startswith("... and"))
-        self.assertEqual(more, 200000)
+        shared = [re.fullmatch("([0-9,]+) actions?, ([0-9.]+) to ([0-9.]+) s: computing 100 %", line) for line in tips(svg) if " actions, " in line]
+        self.assertEqual(sum(int(match[1].replace(",", "")) for match in shared), 200000)
+        self.assertIn("Small actions share bars", " ".join(text.text for text in svg.iter(SVG + "text")))
+
+    def test_shared_bars_have_the_shares_of_their_kinds(self):
+        """Of each 10 us an actor computes 2 and sleeps 5, and waits for 3; the picture and the tips have these shares everywhere."""
+        text, now = "", 0
+        for _ in range(20000):
+            for action, took in (("compute 5", 2000), ("sleep", 5000), ("barrier", 3000)):
+                now += took
+                text += f"[h:a:(1) {now // 10**9}.{now % 10**9:09d}] {action} 0.{took:09d}\n"
+        svg = chart(text)
+        heights = {}
+        for group in lanes(svg)[0].iter(SVG + "g"):
+            if group.get("class") is None:
+                for rect in group.iter(SVG + "rect"):
+                    heights.setdefault(rect.get("class"), []).append(float(rect.get("height")) * float(rect.get("width")))
+        whole = sum(map(sum, heights.values()))
+        for kind, share in (("kind-compute", 0.2), ("kind-sleep", 0.5), ("kind-barrier", 0.3)):
+            self.assertAlmostEqual(sum(heights[kind]) / whole, share, 1)
+        told = [line for line in tips(svg) if " actions, " in line]
+        self.assertTrue(all("computing" in line and "sleeping" in line and "waiting" in line for line in told[:-1]))
+
+    def test_marks_that_are_dense_are_left_out(self):
+        """Of 20,000 requests none is drawn; one that was refused among them is, and so is one that stands alone."""
+        text = "".join(f"[h:a:(1) {i // 10**4}.{i % 10**4:04d}00000] isend b 5 0.000000000\n" for i in range(20000))
+        text += "[h:a:(1) 1.999900000] wait refused\n[h:a:(1) 4.000000000] compute 5 2.000100000\n[h:a:(1) 4.000000000] isend b 5 0.000000000\n"
+        marks = [rect for rect in chart(text).iter(SVG + "rect") if rect.get("class") == "mark"]
+        self.assertEqual([rect.get("fill") for rect in marks], ["#e00000", "#2a9d6f"])
+
+    def test_size(self):
+        """However many actions there are, a chart has at most 10 MB."""
+        text = "".join(f"[h{a}:p{a}:({a}) {i}.{a:09d}] {('compute 5', 'sleep', 'barrier')[(i + a) % 3]} 1.000000000\n"
+                       for i in range(1, 1201) for a in range(1, 65))
+        self.assertLess(len(tool("gantt", given=text.encode()).stdout), 10**7)
 
     def test_other_actors(self):
         """A join that takes time is waiting, a create is a mark; who is suspended at the end is drawn as blocked; energy isn't drawn."""
