@@ -2,10 +2,11 @@
 
 import csv
 import io
+import re
 import unittest
 
 import traces
-from common import Folder, example, module, tool
+from common import ROOT, Folder, example, module, program, tool
 
 USAGE = module("usage")
 
@@ -85,6 +86,19 @@ class Tables(unittest.TestCase):
         self.assertEqual(first.split(), ["master:", "send", "w2", "1000000", "2.919000000", "1.222000000", "4.141000000", "10"])
         self.assertEqual(second.split()[:4], ["w1:", "recv", "w1", "1000000"])
         self.assertNotIn("longest", tool("usage", "--longest", "0", given=example("ring").encode()).stdout.decode())
+
+    def test_events(self):
+        """A budget of as many events as are told suffices, and one less doesn't."""
+        for name in ("first", "ring", "star_cluster", "master_worker"):
+            folder = ROOT / "examples" / name
+            told = re.search("^([0-9,]+) events: the least budget", tool("usage", given=example(name).encode()).stdout.decode(), re.M)
+            events, script = int(told[1].replace(",", "")), folder / "script.txt"
+            words = ["replay" if script.exists() else "run", "--quiet", folder / "platform.toml", folder / "deployment.toml", *[script] * script.exists()]
+            with self.subTest(name):
+                self.assertEqual([program(*words, "--budget", str(events - less)).returncode for less in (0, 1)], [0, 8])
+        folder = Folder(**traces.fatpipe(3))
+        events = USAGE.usage_of(folder.replayed().stdout.decode().splitlines()).events
+        self.assertEqual(folder.replayed("--budget", str(events)).returncode, 0)
 
     def test_a_run_without_time(self):
         self.assertIn("0.0", tool("usage", given=b"[h:a:(1) 0.000000000] yield 0.000000000\n").stdout.decode())
