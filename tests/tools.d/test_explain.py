@@ -2,11 +2,14 @@
 
 import os
 import random
+import re
 import unittest
 from concurrent.futures import ThreadPoolExecutor
 
 import inputs
 from common import ACTOR, HOST, ZONE, Folder, module, tool
+
+import simgrid_replay
 
 EXPLAIN = module("explain")
 
@@ -441,6 +444,176 @@ class Kinds(unittest.TestCase):
                 self.assertEqual(tool("explain", given=line.encode()).returncode, 2)
         self.assertEqual(tool("explain", "--all").returncode, 2)
         self.assertEqual(tool("explain", "--all", "a", "b", "c", "d").returncode, 2)
+
+
+# The same tables as arrays and as blocks, of two hosts under a Full zone, and of two under a Star zone beside a third.
+ROWS = {"full": {"zone": [{"id": "z", "routing": "Full"}], "host": [{"id": h, "zone": "z", "speed": "1Gf"} for h in ("h1", "h2")],
+                 "link": [{"id": "l", "bandwidth": "1MBps"}], "route": [{"src": "h1", "dst": "h1", "links": ["l"]}]},
+        "star": {"zone": [{"id": "z", "routing": "Full"}, {"id": "in", "parent": "z", "routing": "Star"}, {"id": "far", "parent": "z", "routing": "Full"}],
+                 "host": [{"id": h, "zone": zone, "speed": "1Gf"} for h, zone in (("h1", "in"), ("h2", "in"), ("h3", "z"), ("h4", "far"))],
+                 "link": [{"id": "l", "bandwidth": "1MBps"}], "spoke": [{"zone": "in", "child": "h1", "up": ["l"]}],
+                 "zone_route": [{"src": "h3", "dst": "far", "gw_dst": "h4", "links": ["l"]}]}}
+
+
+def as_text(tables, blocks):
+    """The tables, each row a block, or each table an array."""
+    if not blocks:
+        return simgrid_replay.toml(tables)
+    return "".join(f"[[{name}]]\n" + simgrid_replay.toml(row) for name, rows in tables.items() for row in rows)
+
+
+def followed(text, told):
+    """The text after the advice was followed as it stands."""
+    lines = text.split("\n")
+    help = told.split("   = help: ")[1].split("\n   = ")[0]
+    at = int(re.search("^  --> [^:]+:([0-9]+)", told, re.M)[1]) - 1
+    array, pasted = re.search(r"behind the `\[` of line ([0-9]+)\n\n([^\0]+)", help), re.search(r"\n\n( +\[\[[^\0]*)", help)
+    if array:
+        row = int(array[1]) - 1
+        lines[row] = lines[row].replace("[", "[" + array[2], 1)
+    elif pasted:
+        lines += pasted[1].split("\n")
+    elif "add a line, as `" in help:
+        lines.insert(at + 1, re.search("as `(.+?)`", help)[1])
+    elif "keys in its braces, as `" in help:
+        lines[at] = lines[at].replace("{", "{" + re.search("as `(.+?)`", help)[1] + ", ", 1)
+    else:
+        found, other = re.search("found: .*?`(.+?)`", told)[1], re.search("`(.+?)`", help)[1]
+        lines[at] = lines[at].replace(found, other, 1)
+    return "\n".join(lines).replace('"..."', '"h1"', 1 if "gateway" in help or "gw_" in help else 0).replace('"..."', '"l"')
+
+
+class Advice(unittest.TestCase):
+    """Advice that is pasted as it stands mends the fault, in each form that a file may have."""
+
+    def mended(self, tables, script, deployment=None, blocks=False):
+        deployment = deployment or "".join(ACTOR.replace("p0", f"p{at}").replace("h1", host["id"]) for at, host in enumerate(tables.get("host", ())))
+        text = as_text(tables, blocks)
+        for _ in range(3):
+            folder = Folder(p=text, d=deployment, s=script)
+            done = folder.replayed()
+            if done.returncode == 0:
+                return
+            told = tool("explain", "p", "d", "s", given=done.stdout + done.stderr, folder=folder.name).stdout.decode()
+            text = followed(text, told)
+        self.fail(f"{told}\n{text}")
+
+    def test_routes_and_spokes(self):
+        message = "p0 send p1 5\np1 recv p0\n"
+        outside = "p0 send p2 5\np2 recv p0\n"
+        for blocks in (False, True):
+            for name, script in (("full", message), ("star", message), ("star", outside)):
+                for without in ((), ("route", "spoke", "zone_route")):
+                    tables = {table: rows for table, rows in ROWS[name].items() if table not in without}
+                    with self.subTest((blocks, name, script, without)):
+                        self.mended(tables, script, blocks=blocks)
+
+    def test_keys_and_names(self):
+        for blocks in (False, True):
+            for key in ("id", "zone", "speed"):
+                tables = {**ROWS["full"], "host": [{name: value for name, value in row.items() if name != key or row["id"] != "h1"}
+                                                   for row in ROWS["full"]["host"]]}
+                with self.subTest((blocks, key)):
+                    self.mended(tables, "p0 yield\n", ACTOR, blocks)
+            self.mended({**ROWS["full"], "link": [{"id": "l", "bandwidth": "1MB/s"}]}, "p0 yield\n", blocks=blocks)
+            self.mended({**ROWS["full"], "route": [{"src": "h1", "dst": "H2", "links": ["l"]}]}, "p0 yield\n", blocks=blocks)
+        self.mended({"zone": []}, "", "# nobody\n")
+        self.mended({}, "", "# nobody\n")
+
+    def test_rows_in_two_forms(self):
+        """A block behind an array is told where its row belongs."""
+        folder = Folder(p=as_text(ROWS["star"], False) + "[[spoke]]\nzone = 'in'\n")
+        told = tool("explain", "--all", "p", folder=folder.name).stdout.decode()
+        line = as_text(ROWS["star"], False).split("\n").index("spoke = [") + 1
+        self.assertIn(f"write it as a row in braces, as `{{...}},`, behind the `[` of line {line}\n", told)
+
+    def test_amounts(self):
+        """A number whose unit makes it too great is meant without it; what is advised is taken."""
+        for line, advised in (("p0 compute 1e9Gf", "p0 compute 1e9"), ("p0 compute 10M", "p0 compute 10e6"), ("p0 sleep 1 s", "p0 sleep 1s")):
+            folder = Folder(p=ZONE + HOST, d=ACTOR, s=line + "\n")
+            told = tool("explain", "p", "d", "s", given=folder.replayed().stderr, folder=folder.name).stdout.decode()
+            self.assertIn(f": `{advised.split()[2]}`\n", told)
+            folder.write("s", advised + "\n")
+            self.assertEqual(folder.replayed().returncode, 0)
+        for line, rule in (("p0 compute 1e9 0", "a priority is a whole number"), ("p0 send p0 1 0", "a rate is a bandwidth")):
+            folder = Folder(p=ZONE + HOST, d=ACTOR, s=line + "\n")
+            self.assertIn(rule, tool("explain", "--all", "p", "d", "s", folder=folder.name).stdout.decode())
+
+    def test_words(self):
+        for line, part in (("error: invalid value '1e6' for '--budget <N>': invalid digit found in string", "`--budget 1000000`;"),
+                           ("error: invalid value '2.5e3' for '--budget <N>': invalid digit found in string", "`--budget 2500`;"),
+                           ("error: invalid value '1e-3' for '--budget <N>': invalid digit found in string", "from 1 to 1000000000, in digits"),
+                           ("error: unexpected argument '--quiet' found", "`churn` prints no trace lines"), ("error: what", "simgrid_replay --help")):
+            self.assertIn(part, EXPLAIN.recognise(line, EXPLAIN.Files({}))[0])
+
+    def test_standard_error_that_was_not_piped(self):
+        for given in (b"", b"[h1:p0:(1) 1.000000000] compute 5 1.000000000\n"):
+            done = tool("explain", given=given)
+            self.assertEqual(done.returncode, 2)
+            self.assertIn(b"`2>&1 |`", done.stderr)
+
+
+class Sums(unittest.TestCase):
+    """What the lines of a script add up to."""
+
+    def folder(self, script, hosts=("h1", "h2", "h3")):
+        return Folder(p=THREE, s=script, d="".join(ACTOR.replace("p0", name).replace("h1", host) for name, host in zip("abc", hosts)))
+
+    def told(self, script, *options):
+        folder = self.folder(script)
+        run = folder.replayed(*options)
+        explained = tool("explain", "p", "d", "s", given=run.stdout, folder=folder.name).stdout.decode()
+        listed = tool("explain", "--all", "p", "d", "s", folder=folder.name)
+        self.assertEqual(listed.returncode, 0)
+        return explained, listed.stdout.decode()
+
+    def test_what_does_not_add_up(self):
+        for script, part in (
+                ("a isend b 1e6\nb irecv a\nb compute 1e9\n", "`a` makes 1 request (line 1) that no `wait` waits for\n"),
+                ("a isend b 5\na isend b 6\nb recv a\nb recv a\na wait\n", "`a` makes 1 request (line 2) that no `wait` waits for\n"),
+                ("a wait\na wait\n", "`a` has 2 `wait` (lines 1, 2) with no request in front, which are refused\n"),
+                ("a isend b 5\na isend b 5\na isend b 5\nb recv a\nb recv a\na wait\na wait\n", "`a` sends 3 messages to `b`, which receives 2\n"),
+                ("a recv b\n", "`b` sends 0 messages to `a`, which receives 1\n"),
+                ("a bcast 5\nb bcast 5\n", "the `bcast` of line 1 is one of all 3 members, and 1 of them has no line for it: `c`\n"),
+                ("a barrier\nb barrier\nc barrier\na barrier\n", "the `barrier` of line 4 is one of all 3 members, and 2 of them have no line"),
+                ("a bcast 5\nb barrier\nc bcast 5\n", "`b` has `barrier` (line 2) where `a` has `bcast` (line 1)")):
+            with self.subTest(script):
+                for told in self.told(script):
+                    self.assertIn(part, told)
+
+    def test_what_adds_up(self):
+        for script in ("a isend b 5\nb recv a\na wait\n", "".join(f"{actor} alltoall 5\n{actor} barrier\n" for actor in "abc"),
+                       "a isend b 5\n" + "".join(f"{actor} alltoall 5\n" for actor in "abc") + "b recv a\na wait\n",
+                       # Who is killed doesn't do all of its lines.
+                       "a isend b 5\nb sleep 1\nb kill a\n"):
+            with self.subTest(script):
+                for told in self.told(script):
+                    self.assertNotIn("remark", told)
+
+    def test_the_line_of_a_blocked_actor(self):
+        for script, part in (
+                ("a compute 5\n# nothing\na send b 5\nb recv a\nb recv c\n", "waits for a message from `c`, in line 5 of the script\n"),
+                ("a bcast 5\na yield\na bcast 5\nb bcast 5\nc bcast 5\n", "`a` on `h1` waits until `c` has received, in the `bcast` of line 3\n"),
+                ("a bcast 5\nb bcast 5\n", "`a` on `h1` waits until `c` has received, in the `bcast` of line 1\n"),
+                ("".join(f"{actor} allreduce 5 6\n" for actor in "abc") + "b yield\nb recv a\n", "from `a`, in line 5 of the script\n")):
+            with self.subTest(script):
+                self.assertIn(part, self.told(script)[0])
+        self.assertIn("`c` on `h3` waits for a message from `b`, in line 2 of the script\n", self.told("c compute 1\nc recv b\n", "--quiet")[0])
+
+    def test_starved_and_quiet(self):
+        told, _ = self.told("a isend b 9\na isend b 9\na isend c 9\na wait\na wait\na wait\nb irecv a\nb irecv a\nb wait\nb wait\nc recv a\n", "--quiet")
+        self.assertIn("   = of all links `l` has the least: 1 byte a second (in line 16 of p)\n", told)
+        self.assertEqual(told.count("a run without `--quiet`"), 1)
+
+    def test_events(self):
+        """A budget of so many events suffices, and none that is less: of lines, computes, messages and collectives."""
+        for script in ("a compute 1e6\na sleep 1\na send b 5\nb recv a\nc yield\n", "".join(f"{actor} allreduce 5 6\n{actor} barrier\n" for actor in "abc"),
+                       "".join(f"{actor} {action}\n" for actor in "abc" for action in ("bcast 5", "reduce 5 1e3", "alltoall 7"))):
+            folder = self.folder(script, ("h1", "h1", "h1"))
+            told = tool("explain", "p", "d", "s", given=folder.replayed("--budget", "5").stdout, folder=folder.name).stdout.decode()
+            events = int(re.search("`--budget ([0-9]+)`", told)[1])
+            self.assertIn(f"The script alone makes {events} events", told)
+            self.assertEqual([folder.replayed("--budget", str(events - less)).returncode for less in (0, 1)], [0, 8])
 
 
 class All(unittest.TestCase):
