@@ -544,7 +544,7 @@ class Studies(unittest.TestCase):
         study, told = self.ranks(text)
         self.assertEqual(study.lines("p0")[2:], ["wait", "wait", "compute 5"])
         self.assertIn("t:5: a wait for another request than the oldest also waits for the older ones", told)
-        self.refused("refused by --strict", "--strict", "hosts", "t", hosts="A 1:2\n", t=text)
+        self.refused("refused by --strict", "hosts", "t", "--strict", hosts="A 1:2\n", t=text)
 
     def test_an_index(self):
         """`smpirun -trace-ti` writes a file that names those of the ranks, beside it or from the working folder."""
