@@ -1,5 +1,5 @@
 # make, make proof: proves and builds the program, where sources have changed.  make test: the gate, all proofs and tests.
-# make install [PREFIX=/usr/local] [DESTDIR=]: puts the program, the tools, Python's module, the manual page and the
+# make install [PREFIX=/usr/local] [DESTDIR=]: puts the program, the tools, Python's package, the manual page and the
 # completions where they belong.  make uninstall takes them away.  make dist: packages for machines without the kit, in dist/.
 PREFIX = /usr/local
 DESTDIR =
@@ -9,9 +9,9 @@ LIBEXEC = $(DESTDIR)$(PREFIX)/libexec/simgrid_replay
 PROGRAM = crates/simgrid_replay/out/simgrid_replay
 # What stands in tools/: programs, modules that they share, and folders of modules, which install takes where they are there.
 TOOLS = explain gantt usage totable report cluster from_simgrid sweep
-MODULES = simgrid_replay.py
 FOLDERS = simgrid_files
-# The module is installed where Python looks under this prefix, if it looks there at all.
+# The package is installed where Python looks under this prefix, if it looks there at all; the tools have its first file too.
+PACKAGE = $(patsubst python/%,%,$(wildcard python/simgrid_replay/*.py python/simgrid_replay/*/*.py python/simgrid_replay/py.typed))
 PYTHON = python3
 PYTHONDIR = $(DESTDIR)$(PREFIX)/$(shell $(PYTHON) -c 'import sys; p = "$(PREFIX)/"; \
     print(next((d[len(p):] for d in sys.path if d.startswith(p + "lib/python") and d.endswith("-packages")), "lib/python3/dist-packages"))')
@@ -31,10 +31,10 @@ install: all
 	    install -m 755 tools/$$tool $(LIBEXEC)/$$tool && \
 	    ln -sf ../libexec/simgrid_replay/$$tool $(BIN)/simgrid_replay-$$tool || exit 1; \
 	done
-	for module in $(MODULES) $(foreach folder,$(FOLDERS),$(patsubst tools/%,%,$(wildcard tools/$(folder)/*.py))); do \
+	for module in $(foreach folder,simgrid_replay $(FOLDERS),$(patsubst tools/%,%,$(wildcard tools/$(folder)/*.py))); do \
 	    install -D -m 644 tools/$$module $(LIBEXEC)/$$module || exit 1; \
 	done
-	install -D -m 644 tools/simgrid_replay.py $(PYTHONDIR)/simgrid_replay.py
+	for file in $(PACKAGE); do install -D -m 644 python/$$file $(PYTHONDIR)/$$file || exit 1; done
 	install -m 644 docs/simgrid_replay.1 $(SHARE)/man/man1/simgrid_replay.1
 	install -m 644 completions/simgrid_replay.bash $(SHARE)/bash-completion/completions/simgrid_replay
 	install -m 644 completions/_simgrid_replay $(SHARE)/zsh/site-functions/_simgrid_replay
@@ -43,8 +43,8 @@ install: all
 uninstall:
 	rm -f $(BIN)/simgrid_replay $(SHARE)/man/man1/simgrid_replay.1
 	for tool in $(TOOLS); do rm -f $(BIN)/simgrid_replay-$$tool $(LIBEXEC)/$$tool; done
-	cd $(LIBEXEC) 2>/dev/null && rm -rf $(MODULES) $(FOLDERS) __pycache__ || :
-	rm -f $(PYTHONDIR)/simgrid_replay.py
+	cd $(LIBEXEC) 2>/dev/null && rm -rf simgrid_replay $(FOLDERS) __pycache__ || :
+	rm -rf $(PYTHONDIR)/simgrid_replay
 	rm -f $(SHARE)/bash-completion/completions/simgrid_replay $(SHARE)/zsh/site-functions/_simgrid_replay
 	rm -f $(SHARE)/fish/vendor_completions.d/simgrid_replay.fish
 

@@ -1,4 +1,4 @@
-"""tools/simgrid_replay.py: runs from Python, their results, and their faults; a platform may be a file, a text or a dictionary."""
+"""python/simgrid_replay: runs from Python, their results, and their faults; a platform may be a file, a text or a dictionary."""
 
 import io
 import json

@@ -4,7 +4,7 @@
     result = run("platform.toml", "deployment.toml", "script.txt")
     print(result.word, result.seconds)
 
-The program is the one that the environment variable SIMGRID_REPLAY names, or one beside this file, or one on PATH.
+The program is the one that the environment variable SIMGRID_REPLAY names, or one of the same checkout or prefix, or one on PATH.
 """
 
 import functools
@@ -205,7 +205,7 @@ def value_text(value):
     raise TypeError(f"{value!r} can't be written as TOML")
 
 
-# Where the program and `explain` are: in a checkout, where `make install` puts them, and where a package has them.
+# Where the program and the tools are: in a checkout, where `make install` puts them, and where a package has them.
 HERE = Path(__file__).resolve().parent
 
 
@@ -214,7 +214,7 @@ def find_program():
     named = os.environ.get("SIMGRID_REPLAY")
     if named:
         return named
-    for folder in (HERE, HERE.parent, *prefixes("bin")):
+    for folder in (HERE, HERE.parent.parent, *prefixes("bin")):
         path = folder / "simgrid_replay"
         if path.is_file() and os.access(path, os.X_OK):
             return str(path)
@@ -229,11 +229,16 @@ def prefixes(name):
     return [parent.parent / name for parent in HERE.parents if parent.name == "lib"]
 
 
+def tool_folder():
+    """The folder of the tools, or None where they aren't there."""
+    folders = (HERE / "tools", HERE.parent, HERE.parent.parent / "tools", *(folder / "simgrid_replay" for folder in prefixes("libexec")))
+    return next((folder for folder in folders if (folder / "explain").is_file()), None)
+
+
 def explanation(line, names):
     """What `explain` says of a line of the program, or "" where that tool isn't there."""
-    folders = (HERE, *(folder / "simgrid_replay" for folder in prefixes("libexec")))
-    tool = next((str(folder / "explain") for folder in folders if (folder / "explain").is_file()), None)
-    command = [sys.executable, "-B", tool] if tool else [shutil.which("simgrid_replay-explain")]
+    folder = tool_folder()
+    command = [sys.executable, "-B", str(folder / "explain")] if folder else [shutil.which("simgrid_replay-explain")]
     if command[-1] is None:
         return ""
     done = subprocess.run([*command, *names], input=line, capture_output=True, text=True, encoding="utf-8")
