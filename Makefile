@@ -1,14 +1,19 @@
 # make, make proof: proves and builds the program, where sources have changed.  make test: the gate, all proofs and tests.
-# make install [PREFIX=/usr/local] [DESTDIR=]: puts the program, the tools, Python's package, the manual page and the
-# completions where they belong.  make uninstall takes them away.  make dist: packages for machines without the kit, in dist/.
+# make install [PREFIX=/usr/local] [DESTDIR=]: puts the program, the tools, Python's package, manual pages, completions,
+# documents and examples where they belong.  make uninstall takes them away.  make dist: packages for machines without the
+# kit, in dist/.  make pages: the manual pages and completions of the tools, from their parsers.
 PREFIX = /usr/local
 DESTDIR =
 BIN = $(DESTDIR)$(PREFIX)/bin
 SHARE = $(DESTDIR)$(PREFIX)/share
 LIBEXEC = $(DESTDIR)$(PREFIX)/libexec/simgrid_replay
+# Documents and examples; the commands in documents get their installed names.
+DOCDIR = $(PREFIX)/share/doc/simgrid_replay
+DOCUMENTS = $(wildcard $(or $(shell git ls-files examples docs ':(glob)*.md' CITATION.cff 2>/dev/null),$(shell find examples docs -type f) *.md CITATION.cff))
 PROGRAM = crates/simgrid_replay/out/simgrid_replay
 # What stands in tools/: programs, modules that they share, and folders of modules, which install takes where they are there.
 TOOLS = explain gantt usage totable report cluster from_simgrid sweep
+MODULES = named.py
 FOLDERS = simgrid_files
 # The package is installed where Python looks under this prefix, if it looks there at all; the tools have its first file too.
 PACKAGE = $(patsubst python/%,%,$(wildcard python/simgrid_replay/*.py python/simgrid_replay/*/*.py python/simgrid_replay/py.typed))
@@ -17,6 +22,8 @@ PYTHONDIR = $(DESTDIR)$(PREFIX)/$(shell $(PYTHON) -c 'import sys; p = "$(PREFIX)
     print(next((d[len(p):] for d in sys.path if d.startswith(p + "lib/python") and d.endswith("-packages")), "lib/python3/dist-packages"))')
 DIST = dist
 INSTALLED = $(notdir $(wildcard $(TOOLS:%=tools/%)))
+empty =
+NAMES = sed -E 's,\btools/($(subst $(empty) $(empty),|,$(TOOLS)))\b,simgrid_replay-\1,g; s,\./simgrid_replay ,simgrid_replay ,g'
 
 all proof:
 	.ci/build
@@ -25,25 +32,40 @@ test check:
 	.ci/run
 
 install: all
-	install -d $(BIN) $(LIBEXEC) $(SHARE)/man/man1 $(SHARE)/bash-completion/completions $(SHARE)/zsh/site-functions $(SHARE)/fish/vendor_completions.d
+	install -d $(BIN) $(LIBEXEC) $(SHARE)/man/man1 $(SHARE)/bash-completion/completions $(SHARE)/zsh/site-functions \
+	    $(SHARE)/fish/vendor_completions.d $(DESTDIR)$(DOCDIR)
 	install -m 755 $(PROGRAM) $(BIN)/simgrid_replay
 	for tool in $(INSTALLED); do \
 	    install -m 755 tools/$$tool $(LIBEXEC)/$$tool && \
 	    ln -sf ../libexec/simgrid_replay/$$tool $(BIN)/simgrid_replay-$$tool || exit 1; \
 	done
-	for module in $(foreach folder,simgrid_replay $(FOLDERS),$(patsubst tools/%,%,$(wildcard tools/$(folder)/*.py))); do \
+	for module in $(MODULES) $(foreach folder,simgrid_replay $(FOLDERS),$(patsubst tools/%,%,$(wildcard tools/$(folder)/*.py))); do \
 	    install -D -m 644 tools/$$module $(LIBEXEC)/$$module || exit 1; \
 	done
 	for file in $(PACKAGE); do install -D -m 644 python/$$file $(PYTHONDIR)/$$file || exit 1; done
-	install -m 644 docs/simgrid_replay.1 $(SHARE)/man/man1/simgrid_replay.1
+	sed 's,docs/\([a-z_]*\.md\),$(DOCDIR)/docs/\1,' docs/simgrid_replay.1 >$(SHARE)/man/man1/simgrid_replay.1
+	chmod 644 $(SHARE)/man/man1/simgrid_replay.1
+	for tool in $(INSTALLED); do \
+	    install -m 644 docs/man/simgrid_replay-$$tool.1 $(SHARE)/man/man1/ && \
+	    install -m 644 completions/simgrid_replay-$$tool.bash $(SHARE)/bash-completion/completions/simgrid_replay-$$tool && \
+	    install -m 644 completions/_simgrid_replay-$$tool $(SHARE)/zsh/site-functions/ || exit 1; \
+	done
+	for file in $(DOCUMENTS); do \
+	    install -D -m "$$([ -x $$file ] && echo 755 || echo 644)" $$file $(DESTDIR)$(DOCDIR)/$$file || exit 1; \
+	    case $$file in *.md) $(NAMES) $$file >$(DESTDIR)$(DOCDIR)/$$file || exit 1 ;; esac; \
+	done
 	install -m 644 completions/simgrid_replay.bash $(SHARE)/bash-completion/completions/simgrid_replay
 	install -m 644 completions/_simgrid_replay $(SHARE)/zsh/site-functions/_simgrid_replay
 	install -m 644 completions/simgrid_replay.fish $(SHARE)/fish/vendor_completions.d/simgrid_replay.fish
 
 uninstall:
 	rm -f $(BIN)/simgrid_replay $(SHARE)/man/man1/simgrid_replay.1
-	for tool in $(TOOLS); do rm -f $(BIN)/simgrid_replay-$$tool $(LIBEXEC)/$$tool; done
-	cd $(LIBEXEC) 2>/dev/null && rm -rf simgrid_replay $(FOLDERS) __pycache__ || :
+	for tool in $(TOOLS); do \
+	    rm -f $(BIN)/simgrid_replay-$$tool $(LIBEXEC)/$$tool $(SHARE)/man/man1/simgrid_replay-$$tool.1 \
+	        $(SHARE)/bash-completion/completions/simgrid_replay-$$tool $(SHARE)/zsh/site-functions/_simgrid_replay-$$tool; \
+	done
+	rm -rf $(DESTDIR)$(DOCDIR)
+	cd $(LIBEXEC) 2>/dev/null && rm -rf simgrid_replay $(MODULES) $(FOLDERS) __pycache__ || :
 	rm -rf $(PYTHONDIR)/simgrid_replay
 	rm -f $(SHARE)/bash-completion/completions/simgrid_replay $(SHARE)/zsh/site-functions/_simgrid_replay
 	rm -f $(SHARE)/fish/vendor_completions.d/simgrid_replay.fish
@@ -52,4 +74,8 @@ uninstall:
 dist: $(if $(SIMGRID_REPLAY),,all)
 	$(PYTHON) -B packaging/dist --program $(or $(SIMGRID_REPLAY),$(PROGRAM)) --output $(DIST)
 
-.PHONY: all proof test check install uninstall dist
+# Their generators are Debian's help2man and python3-shtab.
+pages:
+	packaging/pages
+
+.PHONY: pages all proof test check install uninstall dist

@@ -382,11 +382,11 @@ class Kinds(unittest.TestCase):
 
     def test_what_a_wait_waits_for(self):
         script = "a isend b 1000\na irecv b\nb recv a\na wait\na wait\n"
-        self.assertIn("waits for its oldest request: `irecv b` of 0; `b` has sent 0 of 1 messages for which `a` asked\n", self.ended(script))
+        self.assertIn("waits for its oldest request, in line 5 of the script: `irecv b` of 0; `b` has sent 0 of 1 messages for which `a` asked\n", self.ended(script))
         self.assertIn("with the trace lines", self.ended(script, "--quiet"))
-        self.assertIn("waits for its oldest request: `isend b 7` of 1; `b` has received 0 of 1 messages from `a`\n",
+        self.assertIn("waits for its oldest request, in line 3 of the script: `isend b 7` of 1; `b` has received 0 of 1 messages from `a`\n",
                       self.ended("a compute 1e9\na isend b 7\na wait\n"))
-        self.assertIn("waits for its oldest request: `isend b 7`\n", self.ended("a isend b 7\na wait\n", "--quiet"))
+        self.assertIn("waits for its oldest request, in line 2 of the script: `isend b 7`\n", self.ended("a isend b 7\na wait\n", "--quiet"))
         self.assertIn("a circle: `a` waits for `b` waits for `a`\n", self.ended("a irecv b\nb irecv a\na wait\nb wait\n"))
 
     def test_what_has_no_share_left(self):

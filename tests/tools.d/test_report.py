@@ -48,7 +48,7 @@ def browse(folder, *words):
     """Runs the browser without a window on the page of a folder."""
     with tempfile.TemporaryDirectory(prefix="tools-browser-") as home:
         return subprocess.run([BROWSER, "--headless", "--no-sandbox", "--disable-gpu", "--hide-scrollbars", "--force-device-scale-factor=1",
-                               f"--user-data-dir={home}", "--window-size=1280,900", *words, f"file://{folder.path}/page.html"],
+                               f"--user-data-dir={home}", "--window-size=1280,1100", *words, f"file://{folder.path}/page.html"],
                               capture_output=True, timeout=60, env={**os.environ, "HOME": home})
 
 
