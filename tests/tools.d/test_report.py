@@ -49,7 +49,7 @@ def browse(folder, *words):
     with tempfile.TemporaryDirectory(prefix="tools-browser-") as home:
         return subprocess.run([BROWSER, "--headless", "--no-sandbox", "--disable-gpu", "--hide-scrollbars", "--force-device-scale-factor=1",
                                f"--user-data-dir={home}", "--window-size=1280,1100", *words, f"file://{folder.path}/page.html"],
-                              capture_output=True, timeout=60, env={**os.environ, "HOME": home})
+                              capture_output=True, timeout=180, env={**os.environ, "HOME": home})
 
 
 def pixels(data):
