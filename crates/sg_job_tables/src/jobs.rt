@@ -253,20 +253,17 @@ ends 0
 job p --help
 crew both 1
 front Simulates how long a program takes
-back   11  the output could not be written
-back   12  there was no memory left
+back What a refusal or an ending means: simgrid_replay-explain (in a checkout tools/explain), with the same files
 ends 0
 job p replay --help
 crew both 1
 front Replays a script
-back   11  the output could not be written
-back   12  there was no memory left
+back What a refusal or an ending means: simgrid_replay-explain (in a checkout tools/explain), with the same files
 ends 0
 job p run -h
 crew both 1
 front Runs masters and workers
-back   11  the output could not be written
-back   12  there was no memory left
+back What a refusal or an ending means: simgrid_replay-explain (in a checkout tools/explain), with the same files
 ends 0
 ";
 

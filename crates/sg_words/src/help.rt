@@ -32,7 +32,8 @@ pub const DEPLOYMENT: &str =
 pub const SCRIPT: &str =
     "The script, a text file: one action on each line, like 'p0 compute 1e9 3', at priority 3, or 'p0 send p1 1e6 2MBps', at that rate at most; - is standard input";
 
-pub const WORKERS: &str = "Worker threads, 1 to 64; the output is the same for every number";
+pub const WORKERS: &str =
+    "Worker threads, 1 to 64; the output is the same for every number; more than 1 cost time, since turns are short";
 
 pub const BUDGET: &str = "Events after which the run is stopped, 1 to 1000000000";
 
@@ -50,4 +51,6 @@ pub const STATUSES: &str = "Exit status:
    9  two hosts have no route, or one that is too long
   10  the platform, the deployment or the script could not be read
   11  the output could not be written
-  12  there was no memory left";
+  12  there was no memory left
+
+What a refusal or an ending means: simgrid_replay-explain (in a checkout tools/explain), with the same files";
