@@ -91,7 +91,7 @@ def converted(text, *options):
 
 def platform_of(inner, *options):
     """The platform of elements in a Full zone, without the factors of a model."""
-    done = converted(HEAD + f'<zone id="z" routing="Full">{inner}</zone></platform>', "--model", "CM02", *options)
+    done = converted(HEAD + f'<zone id="z" routing="Full">{inner}</zone></platform>', "--model", "CM02", "--crosstraffic", "no", *options)
     assert done.returncode == 0, done
     return tomllib.loads(done.stdout.decode())
 
@@ -140,7 +140,7 @@ class FromSimgrid(unittest.TestCase):
         self.assertEqual(took, {pair: latency * 1000 for pair, latency in expected.items()})
 
     def test_rows(self):
-        platform = tomllib.loads(converted(MESH, "--model", "CM02").stdout.decode())
+        platform = tomllib.loads(converted(MESH, "--model", "CM02", "--crosstraffic", "no").stdout.decode())
         self.assertEqual([(zone["id"], zone.get("parent"), zone["routing"]) for zone in platform["zone"]],
                          [("world", None, "Full"), ("mesh", "world", "Dijkstra"), ("quick", "world", "Dijkstra"), ("old", "world", "Dijkstra")])
         self.assertIn({"id": "h2", "zone": "mesh", "speed": "1Gf", "core": 2}, platform["host"])
@@ -240,10 +240,43 @@ class FromSimgrid(unittest.TestCase):
                 self.assertEqual(tomllib.loads(done.stdout.decode()).get("network"), [row] if row else None)
                 self.assertIn(b"from_simgrid: model " + (b"LV08" if row else b"CM02"), done.stderr)
                 self.assertIn(b"cross traffic", done.stderr)
-                self.assertIn(b"# no cross traffic", done.stdout)
+                self.assertIn(b"# cross traffic: a flow takes 1.05", done.stdout)
         done = converted(HEAD + '<config><prop id="network/crosstraffic" value="0"/><prop id="network/weight-S" value="0"/></config>' + zone)
         self.assertNotIn(b"traffic", done.stderr)
         self.assertNotIn(b"weight", done.stderr)
+
+    def test_cross_traffic(self):
+        """On both ways of a flow a SHARED link has bandwidth / 1.05; FATPIPE and SPLITDUPLEX links stay; elsewhere a note tells."""
+        def platform(back):
+            return HEAD + (
+                '<zone id="z" routing="Full"><host id="a" speed="1Gf"/><host id="b" speed="1Gf"/>'
+                '<link id="l" bandwidth="105MBps" latency="1us"/><link id="f" bandwidth="105MBps" latency="1us" sharing_policy="FATPIPE"/>'
+                '<link id="s" bandwidth="105MBps" latency="1us" sharing_policy="SPLITDUPLEX"/><link id="m" bandwidth="105MBps" latency="1us"/>'
+                '<route src="a" dst="b" symmetrical="NO"><link_ctn id="l"/><link_ctn id="f"/><link_ctn id="s" direction="UP"/></route>'
+                f'<route src="b" dst="a" symmetrical="NO"><link_ctn id="s" direction="DOWN"/><link_ctn id="{back}"/></route></zone></platform>')
+
+        def widths(back, *options):
+            done = converted(platform(back), *options)
+            return {row["id"]: row["bandwidth"] for row in tomllib.loads(done.stdout.decode())["link"]}, done.stderr
+        found, told = widths("l")
+        self.assertEqual((found["l"], found["m"], found["f"], found["s"]), ("100000000", "100000000", "105MBps", "105MBps"))
+        self.assertIn(b"cross traffic: a flow takes 1.05", told)
+        found, told = widths("m")
+        self.assertEqual((found["l"], found["s"]), ("105MBps", "105MBps"))
+        self.assertIn(b"no cross traffic, since not all routes use the same SHARED links both ways", told)
+        found, told = widths("l", "--crosstraffic", "no")
+        self.assertEqual(found["l"], "105MBps")
+        self.assertIn(b"no cross traffic: in SimGrid", told)
+
+    def test_units(self):
+        """Bandwidths, the window, and sizes in parts of a byte."""
+        xml = HEAD + ('<zone id="z" routing="Full"><host id="a" speed="1Gf"/><host id="b" speed="1Gf"/>'
+                      '<link id="l" bandwidth="1.05MBps" latency="1us"/><route src="a" dst="b"><link_ctn id="l"/></route></zone></platform>')
+        done = converted(xml, "--unit", "auto")
+        found = tomllib.loads(done.stdout.decode())
+        self.assertEqual((found["link"][0]["bandwidth"], found["network"][0]["window"]), ("1000000000", "4068474000"))
+        self.assertIn(b"bytes are counted in parts of 1/1000", done.stderr)
+        self.assertEqual(converted(xml, "--unit", "7").returncode, 2)
 
     def test_strict(self):
         """What is only noted is refused; the note of the model alone isn't."""
@@ -353,7 +386,7 @@ class FromSimgrid(unittest.TestCase):
                     {"link": "l", **bandwidths}, {"host": "k", "dates": ["5", "6"], "values": ["1", "4"], "loop": "1"},
                     {"link": "s_UP", **bandwidths}, {"link": "s_DOWN", **bandwidths}]
         for words, place in ((("p.xml",), folder.path), ((folder.path / "p.xml",), None)):
-            done = tool("from_simgrid", *words, folder=place)
+            done = tool("from_simgrid", "--crosstraffic", "no", *words, folder=place)
             self.assertEqual(done.returncode, 0)
             self.assertEqual(tomllib.loads(done.stdout.decode())["profile"], expected)
 

@@ -5,7 +5,7 @@ import shlex
 import sys
 from pathlib import Path
 
-from . import deployment, model, rows, traces, xmlfile, zones
+from . import deployment, model, rows, traces, traffic, xmlfile, zones
 from .platform import Platform
 from .told import Notes, Unread
 
@@ -21,7 +21,7 @@ class Study:
     """The texts that are written, by the names of their files."""
 
     def __init__(self):
-        self.notes, self.texts = Notes(), {}
+        self.notes, self.texts, self.platform = Notes(), {}, None
 
     def write(self, folder):
         if not folder:
@@ -52,6 +52,10 @@ def study(given):
     ranks = script is not None and script.ranks > 0
     model.settle(platform, given.model or ("SMPI" if ranks else "LV08"), script.sizes if ranks else {})
     zones.write(platform)
+    unit = traffic.settle(platform, given)
+    if actors and unit != 1:
+        traffic.rescale(actors, script, unit)
+    found.platform = platform
     explain = rows.explain()
     texts = found.texts
     texts["platform.toml"] = platform.rows.text(found.notes.all())

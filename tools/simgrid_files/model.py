@@ -38,7 +38,7 @@ def settle(platform, model, sizes):
         row["window"] = str(int(int(row["window"]) * values.Fraction(row.get("bandwidth_factor", "1"))))
     if row.get("window") == "0":
         del row["window"]
-    crossed = settings.pop("network/crosstraffic", None)
+    settings.pop("network/crosstraffic", None)
     weighed = settings.pop("network/weight-S", None)
     platform.loopback = loopback(settings, notes)
     for setting, prop in settings.items():
@@ -46,7 +46,7 @@ def settle(platform, model, sizes):
             notes.add(prop, f"<config> {setting}={quoted(prop.get('value'))} isn't here")
     if row:
         platform.rows.add("network", platform.root.element, **row)
-    tell(notes, model, row, crossed, weighed, "network/TCP-gamma" in platform.settings)
+    tell(notes, model, row, weighed, "network/TCP-gamma" in platform.settings)
 
 
 def chosen(prop, model, notes):
@@ -119,7 +119,7 @@ def loopback(settings, notes):
     return bandwidth, latency
 
 
-def tell(notes, model, row, crossed, weighed, windowed):
+def tell(notes, model, row, weighed, windowed):
     """What of the model isn't here, and what that changes."""
     has = ", ".join(f"{key} {value}" for key, value in row.items()) or "no factors, no window"
     by_default = {"LV08": ", as SimGrid by default", "SMPI": ", as smpirun by default"}
@@ -127,9 +127,6 @@ def tell(notes, model, row, crossed, weighed, windowed):
     if model == "CM02" and not windowed:
         notes.of_model("no window: SimGrid's CM02 bounds a flow by network/TCP-gamma 4194304 over twice its latency, where "
                        "<config> doesn't set it to 0")
-    if crossed is None or crossed.get("value").lower() not in ("0", "no", "off", "false"):
-        notes.of_model("no cross traffic: in SimGrid a flow also takes 5 % on the links of its way back, so that one over SHARED "
-                       "links ends up to 5 % later there; --cfg=network/crosstraffic:0 there gives the dates here")
     if model != "CM02" if weighed is None else values.fraction(weighed.get("value"))[0] != 0:
         notes.of_model("no network/weight-S: flows that meet on a link share it equally here, and in SimGrid by their latencies "
                        "and the bandwidths of their links; a flow that meets no other has the same dates")

@@ -1,4 +1,4 @@
-"""The routes of a platform's TOML, by the rules of docs/specification.md."""
+"""Finds the routes of a platform, given as the tables of its TOML, by the rules of docs/specification.md."""
 
 import heapq
 import re
@@ -8,7 +8,7 @@ UNITS = {"": 1, "Bps": 1, "bps": Fraction(1, 8), "f": 1, "s": 1, "m": 60, "h": 3
          "ms": Fraction(1, 10**3), "us": Fraction(1, 10**6), "ns": Fraction(1, 10**9)}
 
 
-def number(text):
+def number(text: str) -> Fraction:
     """The number that a text with a unit is, in bytes or flops a second, or seconds."""
     digits, unit = re.fullmatch(r"([0-9.]+(?:[eE][+-]?[0-9]+)?)(.*)", text).groups()
     if unit in UNITS:
@@ -20,7 +20,7 @@ def number(text):
 class Router:
     """Links by name as (bytes a second, seconds, is a fat pipe), and routes of points."""
 
-    def __init__(self, platform):
+    def __init__(self, platform: dict):
         self.links, self.split, self.order = {}, set(), {}
         for row in platform.get("link", []):
             split = row.get("sharing_policy") == "SPLITDUPLEX"
@@ -84,8 +84,8 @@ class Router:
                     heapq.heappush(queue, (len(longer), [self.order[name] for name in longer], there, longer))
         return best
 
-    def route(self, a, b):
-        """The links, each once, or None where a route is missing."""
+    def route(self, a: str, b: str) -> list[str] | None:
+        """The links from one host to another, each once, or None where a route is missing."""
         ups, downs = self.upward(a), self.upward(b)
         while len(ups) > 2 and len(downs) > 2 and ups[-2] == downs[-2] and (ups[-2] in self.routing):
             ups.pop()
