@@ -1,0 +1,57 @@
+"""Finds, for each definition, a case that shows it: a call of it with its arguments and what it gives."""
+
+from .asking import ask
+from .tracing import kinds_of, names_of, shown
+
+# Calls of one definition in one case of which the shortest is shown, and calls after which a case is left.
+MOST_CALLS, MOST_STEPS, LONGEST = 40, 60_000, 700
+
+
+class Enough(Exception):
+    """A case makes more calls than it is followed."""
+
+
+class Examples:
+    """The calls of each definition in the first case that makes any. It is a tracer of a program."""
+
+    def __init__(self):
+        self.program, self.calls, self.steps, self.wanted = None, {}, 0, None
+
+    def traced(self, path, function):
+        def traced(*args):
+            self.steps += 1
+            if self.steps > MOST_STEPS:
+                raise Enough
+            result = function(*args)
+            calls = self.calls.setdefault(path, [])
+            if len(calls) < MOST_CALLS:
+                calls.append((args, result))
+            return result
+
+        return traced
+
+    def of_case(self, case, folder):
+        """What the case shows of each definition that it reaches, by its path: a text for each argument, and what it gives."""
+        self.calls, self.steps = {}, 0
+        try:
+            ask(self.program, case.words, folder, case.contexts)
+        except Enough:
+            pass
+        # what is computed now to be shown is no call of the case
+        calls, self.calls, self.steps = self.calls, {}, -10**9
+        found = {path: min((self.text(path, *call) for call in made), key=worth) for path, made in calls.items()}
+        return {path: text for path, text in found.items() if sum(map(len, text[1])) + len(text[2]) <= LONGEST}
+
+    def text(self, path, args, result):
+        definition = self.program.definitions[path]
+        kinds = kinds_of(definition.type)
+        names = names_of(definition, self.program.clauses[path])
+        return names, [shown(it, kind, False) for it, kind in zip(args, kinds + [""] * len(args))], shown(result, kinds[-1] if len(kinds) > len(args) else "", False)
+
+
+def worth(text):
+    """Calls by how well they show a definition: what has items before what is empty, then the short before the long."""
+    _, args, result = text
+    empty = sum(it in ("[]", "None", "0", "false") for it in [*args, result])
+    hidden = sum("_" == it or ".." in it for it in [*args, result])
+    return 4 * hidden + 2 * empty + sum(len(it) // 40 for it in [*args, result]), sum(map(len, args)) + len(result), args, result
