@@ -1,4 +1,5 @@
 # make, make proof: proves and builds the program, where sources have changed.  make test: the gate, all proofs and tests.
+# make docs: writes docs/definitions.html and docs/definitions.md from the definitions.
 # make install [PREFIX=/usr/local] [DESTDIR=]: puts the program, the tools, Python's package, manual pages, completions,
 # documents and examples where they belong.  make uninstall takes them away.  make dist: packages for machines without the
 # kit, in dist/.  make pages: the manual pages and completions of the tools, from their parsers.
@@ -30,6 +31,9 @@ all proof:
 
 test check:
 	.ci/run
+
+docs:
+	.ci/docs
 
 install: all
 	install -d $(BIN) $(LIBEXEC) $(SHARE)/man/man1 $(SHARE)/bash-completion/completions $(SHARE)/zsh/site-functions \
@@ -78,4 +82,4 @@ dist: $(if $(SIMGRID_REPLAY),,all)
 pages:
 	packaging/pages
 
-.PHONY: pages all proof test check install uninstall dist
+.PHONY: pages all proof test check docs install uninstall dist

@@ -4,7 +4,7 @@ from .asking import ask
 from .tracing import kinds_of, names_of, shown
 
 # Calls of one definition in one case of which the shortest is shown, and calls after which a case is left.
-MOST_CALLS, MOST_STEPS, LONGEST = 40, 60_000, 700
+MOST_CALLS, MOST_STEPS, LONGEST = 12, 30_000, 700
 
 
 class Enough(Exception):
@@ -12,10 +12,10 @@ class Enough(Exception):
 
 
 class Examples:
-    """The calls of each definition in the first case that makes any. It is a tracer of a program."""
+    """The calls of each definition in the first case that shows it. It is a tracer of a program."""
 
     def __init__(self):
-        self.program, self.calls, self.steps, self.wanted = None, {}, 0, None
+        self.program, self.calls, self.steps, self.shown = None, {}, 0, set()
 
     def traced(self, path, function):
         def traced(*args):
@@ -23,15 +23,16 @@ class Examples:
             if self.steps > MOST_STEPS:
                 raise Enough
             result = function(*args)
-            calls = self.calls.setdefault(path, [])
-            if len(calls) < MOST_CALLS:
-                calls.append((args, result))
+            if path not in self.shown:
+                calls = self.calls.setdefault(path, [])
+                if len(calls) < MOST_CALLS:
+                    calls.append((args, result))
             return result
 
         return traced
 
     def of_case(self, case, folder):
-        """What the case shows of each definition that it reaches, by its path: a text for each argument, and what it gives."""
+        """What the case shows of each definition that no case before it does, by its path: its arguments, and what it gives."""
         self.calls, self.steps = {}, 0
         try:
             ask(self.program, case.words, folder, case.contexts)
@@ -40,7 +41,9 @@ class Examples:
         # what is computed now to be shown is no call of the case
         calls, self.calls, self.steps = self.calls, {}, -10**9
         found = {path: min((self.text(path, *call) for call in made), key=worth) for path, made in calls.items()}
-        return {path: text for path, text in found.items() if sum(map(len, text[1])) + len(text[2]) <= LONGEST}
+        found = {path: text for path, text in found.items() if sum(map(len, text[1])) + len(text[2]) <= LONGEST}
+        self.shown |= found.keys()
+        return found
 
     def text(self, path, args, result):
         definition = self.program.definitions[path]

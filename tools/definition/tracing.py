@@ -5,6 +5,8 @@ import sys
 from .values import Later, Record, items_of, now
 
 MOST_ITEMS, MOST_DEPTH, MOST_BYTES = 24, 6, 120
+# Fields that are texts.
+TEXTS = dict.fromkeys(("id", "name", "out", "err", "text", "bytes"), "Text")
 
 
 class Tracer:
@@ -86,7 +88,7 @@ def shown_record(value, force, depth):
         return shown(fields["_0"], "", force, depth)
     if "_0" in fields:
         return "(" + ", ".join(shown(it, "", force, depth + 1) for it in fields.values()) + ")"
-    return "{" + "; ".join(f"{label.strip('_')} = {shown(it, '', force, depth + 1)}" for label, it in fields.items()) + "}"
+    return "{" + "; ".join(f"{label.strip('_')} = {shown(it, TEXTS.get(label, ''), force, depth + 1)}" for label, it in fields.items()) + "}"
 
 
 def shown_list(value, kind, force, depth):
@@ -116,6 +118,6 @@ def is_letter(item):
 
 
 def is_text(items):
-    """Whether numbers are likely a text: letters, of which there are several."""
-    letters = {now(it) for it in items if chr(now(it)).isalpha()}
-    return len(items) > 1 and len(letters) > 0 and 2 * sum(now(it) in letters for it in items) >= len(items) and len(letters) > min(2, len(items) // 2)
+    """Whether numbers are likely a text: long enough, and with letters, of which there are several."""
+    letters = [now(it) for it in items if chr(now(it)).isalpha()]
+    return len(items) > 7 and 4 * len(letters) >= len(items) and len(set(letters)) > 2
