@@ -5,10 +5,9 @@ from dataclasses import dataclass
 
 from . import Refused
 
-TOKEN = re.compile(
-    r"""(?P<blank>\s+)|(?P<comment>--[^\n]*)|(?P<string>"(?:\\.|[^"\\])*")|(?P<mark>[(){};,@.])"""
-    r"""|(?P<escaped>«[^»]*»)|(?P<name>[^\s(){}.;,@"«»]+)"""
-)
+# What is passed over, and a token: a string, a mark, a name in brackets, a name or number.
+TOKEN = re.compile(r"""((?:\s+|--[^\n]*)*)(?:("(?:\\.|[^"\\])*")|([(){};,@.])|«([^»]*)»|([^\s(){}.;,@"«»]+)|\Z)""")
+KINDS = {2: "string", 3: "mark", 4: "name", 5: "name"}
 NUMBER = re.compile(r"0[xob][0-9a-fA-F_]+|[0-9][0-9_]*")
 ESCAPE = re.compile(r"\\(?:x([0-9a-fA-F]{2})|u\{([0-9a-fA-F]+)\}|(.))", re.S)
 PLAIN = {"n": "\n", "t": "\t", "r": "\r", "0": "\0"}
@@ -35,27 +34,23 @@ class Token:
 
 def tokens(text, file=None):
     """Returns the tokens of a text."""
-    found, at, line, start, blank = [], 0, 1, 0, True
-    while at < len(text):
-        match = TOKEN.match(text, at)
-        if not match:
-            raise Refused(f"no token: {text[at:at + 20]!r}", file, line)
-        kind, word = match.lastgroup, match[0]
-        if kind in ("blank", "comment"):
-            blank = True
+    found, at, line, start = [], 0, 1, 0
+    for match in TOKEN.finditer(text):
+        if match.start() != at:
+            break
+        at, gap, kind = match.end(), match[1], match.lastindex
+        is_first = not found
+        if gap:
             if found:
                 found[-1].blank_after = True
-        else:
-            if kind == "escaped":
-                kind, word = "name", word[1:-1]
-            elif kind == "name" and NUMBER.fullmatch(word):
-                kind = "number"
-            found.append(Token(kind, word, line, at - start, not text[start:at].strip(), blank))
-            blank = False
-        line += match[0].count("\n")
-        if "\n" in match[0]:
-            start = at + match[0].rindex("\n") + 1
-        at = match.end()
+            if "\n" in gap:
+                line, start, is_first = line + gap.count("\n"), match.start() + gap.rindex("\n") + 1, True
+        if kind > 1:
+            word = match[kind]
+            name = "number" if kind == 5 and word[0] in "0123456789" and NUMBER.fullmatch(word) else KINDS[kind]
+            found.append(Token(name, word, line, match.end(1) - start, is_first, bool(gap) or is_first))
+    if at != len(text):
+        raise Refused(f"no token: {text[at:at + 20]!r}", file, line)
     if found:
         found[-1].blank_after = True
     return found
