@@ -40,6 +40,12 @@ class Repository:
         (crate / "specs/M.antt").write_text(prelude + text, encoding="utf-8")
         (crate / "src/shapes.rt").write_text(code, encoding="utf-8")
 
+    def __enter__(self):
+        return self
+
+    def __exit__(self, *_):
+        self.folder.cleanup()
+
     def program(self, name="it", plain=False, **options):
         library = Library(self.folder.name, plain=plain)
         return Program(library, {name: library.module("Rattle.c.specs.M").definitions[name]}, **options)
@@ -47,9 +53,9 @@ class Repository:
 
 def value(text, **options):
     """What `it` comes to in a module with this text, in both ways."""
-    repository = Repository(text)
-    told = shown(repository.program(**options).it)
-    assert told == shown(repository.program(plain=True).it), "with the words by hand and without them"
+    with Repository(text) as repository:
+        told = shown(repository.program(**options).it)
+        assert told == shown(repository.program(plain=True).it), "with the words by hand and without them"
     return told
 
 
@@ -136,8 +142,8 @@ class Constructs(unittest.TestCase):
         self.same(text + "pub it : List Bool\nit = (equal.ghosts).eq Dot Dot ∷ (equal.ghosts).eq (Box 1) (Box 2) ∷ []", "[true, false]")
 
     def test_names_behind_modules(self):
-        self.same("use Rattle.core.specs.List as list\nuse Rattle.core.specs.List\npub it : List ℕ\n"
-                  "it = list.filter (λ n. nat_lt n 3) (1 ∷ 5 ∷ 2 ∷ []) ++ List.filter (λ n. n == 9) (9 ∷ [])", "[1, 2, 9]")
+        self.same("use Rattle.core.specs.List as list\nuse Rattle.core.specs.Fmt\npub it : List ℕ\n"
+                  "it = list.filter (λ n. nat_lt n 3) (1 ∷ 5 ∷ 2 ∷ []) ++ Fmt.decimal 7", "[1, 2, 55]")
 
     def test_text_literals(self):
         self.same('pub it : List ℕ\nit = codes "a\\n\\x41\\u{e9}"', "[97, 10, 65, 195, 169]")
@@ -202,15 +208,15 @@ class Waiting(unittest.TestCase):
     def test_which_arguments_are_computed_first(self):
         text = ("pub f : ℕ → ℕ → ℕ → ℕ\nf zero b c = b\nf (suc a) b c = if b == 0 then c else b\n"
                 "pub it : ℕ\nit = f 1 2 3")
-        self.assertEqual(Repository(text).program("f").strictness.strict["Rattle.c.specs.M.f"], {0, 1})
+        with Repository(text) as repository:
+            self.assertEqual(repository.program("f").strictness.strict["Rattle.c.specs.M.f"], {0, 1})
 
 
 class Outside(unittest.TestCase):
     """What can't be computed is refused, by file and line."""
 
     def refused(self, text, line, why):
-        repository = Repository(text, prelude=PRELUDE)
-        with self.assertRaises(Refused) as told:
+        with Repository(text) as repository, self.assertRaises(Refused) as told:
             repository.program()
         self.assertIn(f"crates/c/specs/M.antt:{line + 1}: ", str(told.exception))
         self.assertIn(why, str(told.exception))
@@ -248,11 +254,12 @@ class Outside(unittest.TestCase):
 
 
 class Programs(unittest.TestCase):
-    TEXT = ("pub sign : ℕ → List ℕ\nsign zero = []\nsign (suc n) = if nat_lt n 3 then 4 ∷ [] else codes \"large\"\n"
+    TEXT = ("pub sign : ℕ → List ℕ\nsign zero = []\nsign (suc n) = if nat_lt n 3 then 4 ∷ [] else codes \"large numbers\"\n"
             "pub it : List ℕ\nit = sign 2\n")
 
     def test_what_is_reached(self):
-        program = Repository(self.TEXT).program(marks=True)
+        with Repository(self.TEXT) as repository:
+            program = repository.program(marks=True)
         shown(program.it)
         places = {(place.path.rpartition(".")[2], place.clause, place.kind, place.line - 1) for at, place in enumerate(program.places) if at in program.marks}
         self.assertEqual(places, {("sign", 1, "clause", 3), ("sign", 1, "then", 3), ("it", 0, "clause", 5)})
@@ -261,14 +268,15 @@ class Programs(unittest.TestCase):
     def test_what_is_bent(self):
         found = set()
         for at in range(4):
-            program = Repository(self.TEXT).program(bends=True)
+            with Repository(self.TEXT) as repository:
+                program = repository.program(bends=True)
             program.bent[0] = at
             found.add((program.places[at].kind, shown(program.it)))
-        self.assertEqual(found, {("test", '"large"'), ("number 3", "[4]"), ("number 4", "[5]"), ("number 2", "[4]")})
+        self.assertEqual(found, {("test", '"large numbers"'), ("number 3", "[4]"), ("number 4", "[5]"), ("number 2", "[4]")})
 
     def test_what_is_traced(self):
-        told, repository = io.StringIO(), Repository("pub f : ℕ → List ℕ → ℕ\nf n items = n\npub it : ℕ\nit = f 2 (f 3 [] ∷ [])")
-        with contextlib.redirect_stderr(told):
+        told, text = io.StringIO(), "pub f : ℕ → List ℕ → ℕ\nf n items = n\npub it : ℕ\nit = f 2 (f 3 [] ∷ [])"
+        with Repository(text) as repository, contextlib.redirect_stderr(told):
             shown(repository.program(trace=("M.f",)).it)
         self.assertEqual(told.getvalue(), "f (M.antt:2)\n    n = 2\n    items = [_]\n    -> 2\n")
 
