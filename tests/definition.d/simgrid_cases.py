@@ -8,8 +8,8 @@ from cases import TOP, module
 from definition import asking
 
 SIMGRID = module(TOP / "tests/simgrid")
-# A definition goes over all rows for each question.
-MOST_ROWS, TOO_LARGE = 400, "too large"
+# The grammar of TOML goes over all that is left for each row.
+MOST_BYTES, TOO_LARGE = 3500, "too large"
 
 
 class Drawn(SIMGRID.Compared):
@@ -37,7 +37,7 @@ def works(program):
 def differences(program, name, model, record):
     with tempfile.TemporaryDirectory(prefix="simgrid-") as folder:
         drawn = Drawn(SIMGRID.HERE / "simgrid.d/platforms" / name, pathlib.Path(folder), model, program, record)
-        if sum(len(rows) for rows in drawn.platform.values() if isinstance(rows, list)) > MOST_ROWS:
+        if (drawn.work / "platform.toml").stat().st_size > MOST_BYTES:
             return TOO_LARGE
         drawn.dates(SIMGRID.SEEDS[model])
         return drawn.faults
