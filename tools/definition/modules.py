@@ -44,6 +44,7 @@ class Constructor:
     """A constructor of a `data` of a module."""
 
     module: "Module"
+    kind: str
     name: str
     arity: int
     line: int
@@ -102,7 +103,7 @@ class Module:
         for row in items_of(rest[where + 1:]):
             colon = top_level(row, ":")
             for token in row[:colon] if colon is not None else ():
-                self.constructors[token.text] = Constructor(self, token.text, arity_of(row[colon + 1:]), rest[0].line)
+                self.constructors[token.text] = Constructor(self, rest[0].text, token.text, arity_of(row[colon + 1:]), rest[0].line)
 
     def use(self, rest):
         """Reads what stands behind `use`."""
