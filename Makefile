@@ -43,8 +43,11 @@ install: all
 	    install -m 755 tools/$$tool $(LIBEXEC)/$$tool && \
 	    ln -sf ../libexec/simgrid_replay/$$tool $(BIN)/simgrid_replay-$$tool || exit 1; \
 	done
-	for module in $(MODULES) $(foreach folder,simgrid_replay $(FOLDERS),$(patsubst tools/%,%,$(wildcard tools/$(folder)/*.py))); do \
+	for module in $(MODULES) $(foreach folder,$(FOLDERS),$(patsubst tools/%,%,$(wildcard tools/$(folder)/*.py))); do \
 	    install -D -m 644 tools/$$module $(LIBEXEC)/$$module || exit 1; \
+	done
+	for file in $(patsubst python/%,%,$(wildcard python/simgrid_replay/*.py)); do \
+	    install -D -m 644 python/$$file $(LIBEXEC)/$$file || exit 1; \
 	done
 	for file in $(PACKAGE); do install -D -m 644 python/$$file $(PYTHONDIR)/$$file || exit 1; done
 	sed 's,docs/\([a-z_]*\.md\),$(DOCDIR)/docs/\1,' docs/simgrid_replay.1 >$(SHARE)/man/man1/simgrid_replay.1

@@ -5,6 +5,11 @@ import re
 import sys
 
 PREFIX = "simgrid_replay-"
+# In a checkout Python's package stands in a folder beside that of the tools; elsewhere Python finds it without help.
+PYTHON = os.path.join(os.path.dirname(os.path.dirname(os.path.abspath(__file__))), "python")
+
+if os.path.isdir(os.path.join(PYTHON, "simgrid_replay")) and PYTHON not in sys.path:
+    sys.path.insert(1, PYTHON)
 
 
 def installed():

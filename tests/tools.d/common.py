@@ -16,7 +16,7 @@ HOST = '[[host]]\nid = "h1"\nzone = "z"\nspeed = "1Gf"\n'
 ACTOR = '[[actor]]\nname = "p0"\nhost = "h1"\nfunction = "replay"\n'
 
 
-sys.path.insert(0, str(ROOT / "tools"))
+sys.path[:0] = [str(ROOT / "tools"), str(ROOT / "python")]
 sys.dont_write_bytecode = True
 
 
