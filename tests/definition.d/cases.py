@@ -10,7 +10,7 @@ TOP = pathlib.Path(__file__).resolve().parents[2]
 TABLES = ("sg_job_tables", "sg_change_tables")
 CONTEXTS = 4096
 # Keys of the tables that no reader of them needs, or of what isn't the definition's: how parts and streams take and give.
-UNSEEN = {"need", "calls", "--", ""}
+UNSEEN = {"need", "calls", "writes", "--", ""}
 NOT_ASKED = {"failing_call": "a call of a part that fails", "failing_write": "a write that fails", "meeting": "actors that count each other"}
 
 
