@@ -3,7 +3,7 @@ use Rattle.std.proofs.Common.{◌≡◌, ℕ, ◌+◌, ◌*◌, ◌<◌, ◌==�
 use Rattle.sg_lives.specs.Slots.{listed}
 use Rattle.sg_activity.specs.Underway.{Underway, due_in, later, power_at, rate, used_later}
 use Rattle.sg_activity.specs.Underway as underway
-use Rattle.sg_activity.proofs.Listing.{at_listed, length-listed}
+use Rattle.sg_lives.proofs.Listed.{at_listed, length-listed}
 use Rattle.sg_profile.specs.Profiles.{rows_due}
 use Rattle.sg_sync.specs.Objects.{Objects}
 use Rattle.sg_calls.specs.declared.stop.Stop.TheVariants.{Budget}
