@@ -2,7 +2,7 @@
 
 
 
-_shtab_simgrid_replay_from_simgrid_option_strings=('-h' '--help' '-o' '--output' '--model' '--eager' '--strict')
+_shtab_simgrid_replay_from_simgrid_option_strings=('-h' '--help' '-o' '--output' '--model' '--crosstraffic' '--unit' '--eager' '--strict')
 
 _shtab_simgrid_replay_from_simgrid_pos_0_COMPGEN=_shtab_compgen_files
 _shtab_simgrid_replay_from_simgrid_pos_1_COMPGEN=_shtab_compgen_files
@@ -11,6 +11,7 @@ _shtab_simgrid_replay_from_simgrid__o_COMPGEN=_shtab_compgen_files
 _shtab_simgrid_replay_from_simgrid___output_COMPGEN=_shtab_compgen_files
 
 _shtab_simgrid_replay_from_simgrid___model_choices=('LV08' 'CM02' 'SMPI')
+_shtab_simgrid_replay_from_simgrid___crosstraffic_choices=('yes' 'no')
 
 _shtab_simgrid_replay_from_simgrid_pos_2_nargs=*
 _shtab_simgrid_replay_from_simgrid__h_nargs=0

@@ -139,7 +139,7 @@ def rows_of(place, table, texts):
             continue
         number += 1
         name = f"{place} {number}: {' '.join(row.words)}"
-        parts = [word for word in row.words[2:] if word in ("p", "d", "s")]
+        parts = [word for word in row.words[2:] if word in ("p", "d", "s", "-")]
         if parts != ["p", "d", "s"][:len(parts)]:
             row.why = "a part that stands in memory under another name"
         if row.words:

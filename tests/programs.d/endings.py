@@ -172,7 +172,7 @@ for date in (1, 2.5, -1):
         self.assertEqual((done.out, done.err), ("1.0\n2.5\n3.0\n", ""))
 
     def test_many_at_one_date(self):
-        """Some 1,500 executions and messages start and complete at one date: the trace of a date takes several writes."""
+        """1,200 executions and messages start and complete together, in the order of SimGrid: the trace of a date takes several writes."""
         done = Done("""
 order = []
 def one(i):
@@ -182,16 +182,16 @@ def sends(i):
     Mailbox.by_name(f"m{i}").put(i, 1000)
 def gets(i):
     order.append(Mailbox.by_name(f"m{i}").get())
-for i in range(1100):
+for i in range(1000):
     Actor.create(f"one{i}", hosts[0], one, i)
 for i in range(200):
     Actor.create(f"s{i}", hosts[1], sends, i)
     Actor.create(f"g{i}", hosts[2], gets, i)
 e.run()
-print(order == [*range(200), *range(1100)])
+print(order == [*reversed(range(200)), *reversed(range(1000))])
 print(f"{e.clock:.6f}")
 """, workers="8000", script=True, seconds=300)
-        self.assertEqual((done.out, done.err), ("True\n1.100000\n", ""))
+        self.assertEqual((done.out, done.err), ("True\n1.000000\n", ""))
 
 
 class Traces(unittest.TestCase):

@@ -1,5 +1,6 @@
 """Actors, and what an actor does to itself (`this_actor`)."""
 
+import sys
 from collections.abc import Callable
 from typing import Any
 
@@ -28,6 +29,9 @@ class Actor(Waitable):
         self.activities: dict = {}    # in the order in which they began
         maestro.stay += 1
         maestro.actors[self.pid] = self
+        # The frames of greenlets that wait count towards Python's limit of recursion.
+        if sys.getrecursionlimit() < 32 * len(maestro.actors):
+            sys.setrecursionlimit(64 * len(maestro.actors))
         host.actors[self.pid] = self
         maestro.ready.append(self)
 
