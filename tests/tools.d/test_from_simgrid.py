@@ -483,7 +483,7 @@ class Studies(unittest.TestCase):
                              ({"d": HEAD + actors.format("", ""), "t": one, "u": two}, ("d", "t", "u")),
                              ({"d": HEAD + actors.format('<argument value="t"/>', '<argument value="u"/>'), "t": one, "u": two}, ("d",))):
             study = Study(p=PLATFORM, **files)
-            self.assertEqual(study.made("p", *words).returncode, 0)
+            self.assertEqual(study.made("p", *words, "--crosstraffic", "no").returncode, 0)
             self.assertEqual(study.actors(), [{"name": "p0", "host": "A_1", "function": "replay"}, {"name": "p1", "host": "B", "function": "replay"}])
             run = study.run_by_name()
             self.assertEqual(run.stdout, "[A_1:p0:(1) 1.013010000] send p1 970000 1.013010000\n"

@@ -97,7 +97,7 @@ class Tables(unittest.TestCase):
         self.assertIsNotNone(python, "pandas isn't here: tests/setup installs it")
         for text in self.texts():
             table = tool("totable", given=text.encode()).stdout.decode()
-            done = subprocess.run([python, "-B", "-c", FRAMES, str(ROOT / "tools")], input=json.dumps([text, table]), text=True, capture_output=True)
+            done = subprocess.run([python, "-B", "-c", FRAMES, str(ROOT / "python")], input=json.dumps([text, table]), text=True, capture_output=True)
             self.assertEqual((done.returncode, done.stdout), (0, "the same\n"), done.stderr)
 
     def test_memory(self):
@@ -107,7 +107,7 @@ class Tables(unittest.TestCase):
                 "before = resource.getrusage(resource.RUSAGE_SELF).ru_maxrss\n"
                 f"rows = simgrid_replay.Rows(simgrid_replay.Reader(({line!r} for _ in range(200_000)), late=True))\n"
                 "print(len(rows), resource.getrusage(resource.RUSAGE_SELF).ru_maxrss - before)")
-        done = subprocess.run([sys.executable, "-B", "-c", code, str(ROOT / "tools")], text=True, capture_output=True)
+        done = subprocess.run([sys.executable, "-B", "-c", code, str(ROOT / "python")], text=True, capture_output=True)
         count, kilobytes = map(int, done.stdout.split())
         self.assertEqual(count, 200_000)
         self.assertLess(kilobytes, 200_000 * 100 // 1024)
