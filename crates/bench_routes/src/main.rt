@@ -1,4 +1,4 @@
-//! Asks for routes between hosts of a platform: `bench_routes PLATFORM COUNT [PAIRS]`. The hosts are drawn by a linear
+//! Finds routes between hosts of a platform: `bench_routes PLATFORM COUNT [PAIRS]`. The hosts are drawn by a linear
 //! congruential sequence, which begins anew after so many pairs. It prints how many routes there were, and how many
 //! links they had in all.
 //! It is entered by `main`.
@@ -6,7 +6,7 @@
 #![tactic(auto)]
 
 ghost use Rattle.std.specs.Prelude.{◌≡◌, ◌<◌};
-ghost use Rattle.sg_zones.specs.Tree.{tree_of};
+ghost use Rattle.sg_zones.specs.Tree.{zone_tree};
 
 use anyhow::{Context, bail};
 use arrayvec::ArrayVec;
@@ -18,13 +18,13 @@ use sg_zones::Zones;
 use std::alloc::Global;
 use std::{env, fs};
 
-/// The number behind this one in the sequence.
+/// Returns the number after this one in the sequence.
 fn next(x: u64) -> u64 {
     x.wrapping_mul(6_364_136_223_846_793_005)
         .wrapping_add(1_442_695_040_888_963_407)
 }
 
-/// A host, by a number of the sequence.
+/// Returns a host, by a number of the sequence.
 fn host(x: u64, hosts: u64) -> PointId
     requires { 0 < hosts }
 {
@@ -38,7 +38,7 @@ struct Load {
     pairs: u64,
 }
 
-/// How many of so many routes there are, and how many links they have in all.
+/// Returns how many of so many routes there are, and how many links they have in all.
 fn ask(router: &mut Router, hosts: u64, load: Load) -> (u64, u64)
     requires { 0 < hosts }
 {
@@ -66,7 +66,7 @@ fn ask(router: &mut Router, hosts: u64, load: Load) -> (u64, u64)
     (routes, all)
 }
 
-/// The same of the router of a platform, where there is memory for it.
+/// Does the same for the router of a platform, if there is memory for it.
 fn ask_all(
     alloc: Global,
     platform: &PlatformText,
@@ -75,7 +75,7 @@ fn ask_all(
     load: Load,
 ) -> Option<(u64, u64)>
     requires some { 0 < hosts }
-    requires zones { zones.now ≡ tree_of platform.now }
+    requires zones { zones.now ≡ zone_tree platform.now }
 {
     match Router::build(alloc, platform, zones) {
         Ok(mut router) => Some(ask(&mut router, hosts, load)),

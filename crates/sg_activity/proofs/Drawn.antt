@@ -1,8 +1,8 @@
--- A serial is drawn.
+-- An activity id is drawn.
 use Rattle.std.proofs.Common.{◌≡◌, ℕ, ◌+◌, false, cond, None, [], ◌∷◌, ◌++◌, map, refl, ap, ap₂, ◌∙◌, arith}
 use Rattle.std.proofs.lemmas.List.{map-append}
 use Rattle.sg_lives.specs.Slots.{passes, serials}
-use Rattle.sg_activity.specs.Underway.{drawn}
+use Rattle.sg_activity.specs.Underway.{with_next_serial}
 use Rattle.sg_activity.specs.Doing.{drawn_in}
 use Rattle.sg_activity.specs.kept.State.{State, task_of, stamp_of, is_now, is_so, told_at, told_by, changed_at, changed_by, under_of, doing_of}
 use Rattle.sg_activity.specs.kept.Sound.{IsKept}
@@ -51,6 +51,6 @@ drawn_told s room is =
     let due : serials is_so 1 (told_by (is_now new) new) ≡ serials is_so 1 (told_by (is_now s) s) =
     ap (serials is_so 1) (listed_more s.drawn (λ i. told_at (is_now s) s.slots (i + 1)))
     ∙ serials_push is_so 1 (told_by (is_now s) s) (told_at (is_now s) s.slots (s.drawn + 1)) (ap (passes is_so) (told_missed (is_now s) s.slots (s.drawn + 1) none)) in
-    doing_same (under_of new) (drawn (under_of s)) (cond s.arrived (serials is_so 1 (told_by (is_now new) new)) []) (cond s.arrived (serials is_so 1 (told_by (is_now s) s)) []) s.settled s.settled room room (told_by stamp_of new) (told_by stamp_of s ++ None ∷ [])
+    doing_same (under_of new) (with_next_serial (under_of s)) (cond s.arrived (serials is_so 1 (told_by (is_now new) new)) []) (cond s.arrived (serials is_so 1 (told_by (is_now s) s)) []) s.settled s.settled room room (told_by stamp_of new) (told_by stamp_of s ++ None ∷ [])
     (ap₂ (λ t b. record (under_of s) { tasks = t; marks = record (under_of s).marks { changed = b } }) tasks changed) (ap (λ l. cond s.arrived l []) due) refl refl
     (listed_more s.drawn (λ i. told_at stamp_of s.slots (i + 1)) ∙ ap (λ o. told_by stamp_of s ++ o ∷ []) (told_missed stamp_of s.slots (s.drawn + 1) none))

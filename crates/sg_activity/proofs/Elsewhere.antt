@@ -9,7 +9,7 @@ use Rattle.sg_activity.specs.Links.{Capacities}
 use Rattle.sg_activity.specs.Power.{is_there, loads}
 use Rattle.sg_lives.specs.Slots.{passes, sooner}
 use Rattle.sg_activity.specs.Task.{Place, nowhere, on_host, over, Task, flow_at, flow_of, is_filled, task_at}
-use Rattle.sg_activity.specs.Underway.{Underway, drawn, later, passed, settled, started, with_bandwidth, with_host_on, with_link_on, with_speed, with_task}
+use Rattle.sg_activity.specs.Underway.{Underway, with_next_serial, later, passed, with_rates_updated, started, with_bandwidth, with_host_on, with_link_on, with_speed, with_task}
 
 -- what a phase that takes no share of the host asks of it
 not_asked : (c : Capacities) (host : ℕ) (o : Option Task) → passes (loads host) o ≡ false → asked_on c host o ≡ None
@@ -37,7 +37,7 @@ filter_map_mapped f h [] same = refl
 filter_map_mapped f h (x ∷ xs) same = ap₂ cons_option (same x) (filter_map_mapped f h xs same)
 
 module _ (under : Underway) (host : ℕ) where
-  pub same_drawn : IsSameHost under (drawn under) host
+  pub same_drawn : IsSameHost under (with_next_serial under) host
   unfolding asked_of
   same_drawn = record {
     offers = refl;
@@ -53,7 +53,7 @@ module _ (under : Underway) (host : ℕ) where
     asked = filter_map_push (asked_on under.capacities host) under.tasks (Some task) (not_asked under.capacities host (Some task) not);
   }
 
-  -- neither the phase that was under way takes a share of the host nor the one in its place
+  -- neither the phase that was running takes a share of the host nor the one in its place
   pub same_task : (serial : ℕ) (after : Option Task) → passes (loads host) (task_at under.tasks serial) ≡ false → passes (loads host) after ≡ false → IsSameHost under (with_task serial after under) host
   unfolding asked_of
   same_task serial after was not = record {
@@ -115,7 +115,7 @@ module _ (under : Underway) (host : ℕ) where
   unfolding asked_of
   same_link_on link on = record { offers = refl; on = refl; asked = refl }
 
-  pub same_settled : IsSameHost under (settled under) host
+  pub same_settled : IsSameHost under (with_rates_updated under) host
   unfolding asked_of
   same_settled = record { offers = refl; on = refl; asked = refl }
 

@@ -2,7 +2,7 @@
 use Rattle.std.proofs.Common.{◌≡◌, ℕ, ◌-◌, ◌<◌, false, Option, None, Some, option_to_list, List, [], ◌++◌, length, length-set, set, sum_by, refl, sym, ap, subst, ◌∙◌, arith}
 use Rattle.sg_heap.specs.Agenda.{Key}
 use Rattle.sg_lazy.specs.Lazily.{Lazily}
-use Rattle.sg_activity.specs.declared.kept.Kept.{Kept}
+use Rattle.sg_activity.specs.declared.activity_state.Kept.{Kept}
 use Rattle.sg_lives.specs.declared.lives.Live.{Live}
 use Rattle.sg_activity.specs.Task.{flow_in}
 use Rattle.sg_lives.specs.Pool.{Pool, slot_at, uses_ahead}

@@ -1,4 +1,4 @@
--- At first nothing is under way.
+-- At first no activity is running.
 use Rattle.std.proofs.Common.{◌≡◌, ℕ, suc, Bool, true, false, IsTrue, true≢false, subst, Option, None, Some, All, List, [], ◌∷◌, length, map, replicate, arith, refl, sym, ap, ap₂, ◌∙◌}
 use Rattle.sg_base.specs.MarkSet.{is_in}
 use Rattle.sg_base.specs.declared.ids.LinkId.{LinkId}

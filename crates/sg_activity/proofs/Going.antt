@@ -1,11 +1,11 @@
--- Dates: the next one, going there, and what is due then.
+-- Dates: the next one, the move to it, and what completes then.
 use Rattle.std.proofs.Common.{◌≡◌, ◌≢◌, ℕ, zero, suc, ◌+◌, ◌-◌, ◌*◌, ◌==◌, ◌<◌, ◌≤◌, ◌⊎◌, inl, inr, true, false, Option, None, Some, option_map, map, get_or, IsTrue, refl, sym, ap, ap₂, subst, ◌∙◌, arith, true≢false}
 use Rattle.std.specs.Option.{IfSome}
 use Rattle.std.proofs.Math.Nat.{mul-le-mul_left}
 use Rattle.sg_base.specs.MarkSet.{is_in}
 use Rattle.sg_heap.specs.Agenda.{Key, IsLeast, IsNoLater, key_at}
 use Rattle.sg_lives.specs.declared.lives.Live.{Live}
-use Rattle.sg_lives.specs.Slots.{listed, passes, serials, is_at}
+use Rattle.sg_lives.specs.Slots.{listed, passes, serials, is_over_after}
 use Rattle.sg_activity.specs.Task.{Task}
 use Rattle.sg_activity.specs.Underway.{rate, wait, wait_in, next_in, due_in, passed, later}
 use Rattle.sg_activity.specs.Doing.{later_in, IsNext, IsUpTo}
@@ -63,7 +63,7 @@ module _ (s : State) (is : IsKept s) (set : IsTrue s.settled) where
   key_now : (key : ℕ) (live : Live) → slot_at s.slots key ≡ Some live → key_at s.keys key ≡ option_map (λ due. record { date = due; serial = live.serial }) (option_map (λ span. s.date + span) (wait_in (under_of s) (task_of s key live)))
   key_now key live at = dated_all key live at ∙ ap (option_map (λ due. record { date = due; serial = live.serial })) (due_now key live at)
 
-  -- the activity of a phase, by the place of its serial
+  -- the activity of a phase, by the place of its id
   live_of : (i : ℕ) (t : Task) → get_or (under_of s).tasks i None ≡ Some t → (f : Sought s.slots (i + 1)) × (task_of s f.key f.live ≡ t)
   live_of i t e =
       let less : i < s.drawn = omega (arith, there_within (under_of s).tasks i t e, length-listed s.drawn (λ j. told_at (task_of s) s.slots (j + 1))) in
@@ -163,7 +163,7 @@ module _ (s : State) (is : IsKept s) (set : IsTrue s.settled) where
       | inr none ↦ told_missed (task_of (record s { date = date; arrived = true })) s.slots serial none ∙ sym (ap (option_map (passed (under_of s) span)) (told_missed (task_of s) s.slots serial none))
     ]
 
-    at_date : (serial : ℕ) (o : Option ℕ) → is_dated date (option_map (λ due. record { date = due; serial = serial }) (option_map (λ w. s.date + w) o)) ≡ is_at o span
+    at_date : (serial : ℕ) (o : Option ℕ) → is_dated date (option_map (λ due. record { date = due; serial = serial }) (option_map (λ w. s.date + w) o)) ≡ is_over_after o span
     at_date serial None = refl
     at_date serial (Some w) = same w
       where
@@ -180,24 +180,24 @@ module _ (s : State) (is : IsKept s) (set : IsTrue s.settled) where
             eqb_no a b ne = grind arith
 
     due_there : (i : ℕ) → (i < s.drawn) ⊎ (s.drawn ≤ i) →
-        passes is_so (get_or (told_by (is_now (record s { date = date; arrived = true })) (record s { date = date; arrived = true })) i None) ≡ passes (λ t. is_at (wait_in (under_of s) t) span) (get_or (under_of s).tasks i None)
+        passes is_so (get_or (told_by (is_now (record s { date = date; arrived = true })) (record s { date = date; arrived = true })) i None) ≡ passes (λ t. is_over_after (wait_in (under_of s) t) span) (get_or (under_of s).tasks i None)
     due_there i (inr more) =
         ap (passes is_so) (past_listed s.drawn (λ j. told_at (is_now (record s { date = date; arrived = true })) s.slots (j + 1)) i None more)
-        ∙ sym (ap (passes (λ t. is_at (wait_in (under_of s) t) span)) (past_listed s.drawn (λ j. told_at (task_of s) s.slots (j + 1)) i None more))
+        ∙ sym (ap (passes (λ t. is_over_after (wait_in (under_of s) t) span)) (past_listed s.drawn (λ j. told_at (task_of s) s.slots (j + 1)) i None more))
     due_there i (inl less) =
         let new = record s { date = date; arrived = true } in
         ap (passes is_so) (at_listed s.drawn (λ j. told_at (is_now new) s.slots (j + 1)) i None less)
         ∙ at_serial (sought s.slots (i + 1))
-        ∙ sym (ap (passes (λ t. is_at (wait_in (under_of s) t) span)) (at_listed s.drawn (λ j. told_at (task_of s) s.slots (j + 1)) i None less))
+        ∙ sym (ap (passes (λ t. is_over_after (wait_in (under_of s) t) span)) (at_listed s.drawn (λ j. told_at (task_of s) s.slots (j + 1)) i None less))
       where
-        at_serial : Sought s.slots (i + 1) ⊎ IsMissing s.slots (i + 1) → passes is_so (told_at (is_now (record s { date = date; arrived = true })) s.slots (i + 1)) ≡ passes (λ t. is_at (wait_in (under_of s) t) span) (told_at (task_of s) s.slots (i + 1))
+        at_serial : Sought s.slots (i + 1) ⊎ IsMissing s.slots (i + 1) → passes is_so (told_at (is_now (record s { date = date; arrived = true })) s.slots (i + 1)) ≡ passes (λ t. is_over_after (wait_in (under_of s) t) span) (told_at (task_of s) s.slots (i + 1))
         at_serial (inl f) =
             ap (passes is_so) (told_found (is_now (record s { date = date; arrived = true })) s.slots (i + 1) f.key f.live is.apart f.at f.is)
             ∙ ap (is_dated date) (key_now f.key f.live f.at) ∙ at_date f.live.serial (wait_in (under_of s) (task_of s f.key f.live))
-            ∙ sym (ap (passes (λ t. is_at (wait_in (under_of s) t) span)) (told_found (task_of s) s.slots (i + 1) f.key f.live is.apart f.at f.is))
+            ∙ sym (ap (passes (λ t. is_over_after (wait_in (under_of s) t) span)) (told_found (task_of s) s.slots (i + 1) f.key f.live is.apart f.at f.is))
         at_serial (inr none) =
             ap (passes is_so) (told_missed (is_now (record s { date = date; arrived = true })) s.slots (i + 1) none)
-            ∙ sym (ap (passes (λ t. is_at (wait_in (under_of s) t) span)) (told_missed (task_of s) s.slots (i + 1) none))
+            ∙ sym (ap (passes (λ t. is_over_after (wait_in (under_of s) t) span)) (told_missed (task_of s) s.slots (i + 1) none))
 
     pub gone_told : (room : ℕ) → doing_of (record s { date = date; arrived = true }) room ≡ later_in (date - s.date) (doing_of s room)
     unfolding listed
@@ -210,5 +210,5 @@ module _ (s : State) (is : IsKept s) (set : IsTrue s.settled) where
         let when : date ≡ s.date + (date - s.date) = omega (arith, from) in
         doing_same (under_of new) (later (date - s.date) u) (serials is_so 1 (told_by (is_now new) new)) (due_in (date - s.date) u) s.settled s.settled room room (told_by stamp_of new) (told_by stamp_of s)
         (ap₂ (λ d t. record u { date = d; tasks = t }) when tasks)
-        (serials_alike is_so (λ t. is_at (wait_in u t) span) 1 (told_by (is_now new) new) u.tasks (length-listed s.drawn (λ j. told_at (is_now new) s.slots (j + 1)) ∙ sym (length-listed s.drawn (λ j. told_at (task_of s) s.slots (j + 1)))) (λ i. due_there i (less_or i s.drawn)))
+        (serials_alike is_so (λ t. is_over_after (wait_in u t) span) 1 (told_by (is_now new) new) u.tasks (length-listed s.drawn (λ j. told_at (is_now new) s.slots (j + 1)) ∙ sym (length-listed s.drawn (λ j. told_at (task_of s) s.slots (j + 1)))) (λ i. due_there i (less_or i s.drawn)))
         refl refl refl

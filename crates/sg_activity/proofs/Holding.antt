@@ -1,4 +1,4 @@
--- Executions that are held, and go on.
+-- Executions that are suspended and resumed.
 use Rattle.std.proofs.Common.{◌≡◌, ℕ, ◌-◌, ◌<◌, Bool, true, false, true≢false, cond, Option, Some, option_map, [], refl, sym, ap, ap₂, ◌∙◌}
 use Rattle.sg_lives.specs.declared.kinds.PhaseKind.{PhaseKind}
 use Rattle.sg_lives.specs.declared.kinds.PhaseKind.TheVariants as phase
@@ -35,7 +35,7 @@ held_is phase.Timer e = absurd (true≢false (sym e))
 held_is phase.Kept e = refl
 
 module _ (s : State) (is : IsKept s) (serial : ℕ) where
-  -- the kind of the phase under a serial
+  -- the kind of the phase under an activity id
   pub kind_found : (test : PhaseKind → Bool) (key : ℕ) (live : Live) → IsFound s.slots serial key live → passes (of_kind test) (task_at (under_of s).tasks serial) ≡ test live.kind
   kind_found test key live found = ap (λ n. passes (of_kind test) (task_at (under_of s).tasks n)) (sym found.is) ∙ ap (passes (of_kind test)) (task_there s is key live found.at)
 
@@ -46,11 +46,11 @@ module _ (s new : State) (key : ℕ) (live : Live) (slot : Option Live) (is : Is
   again : (kind : PhaseKind) → with_task live.serial (Some (rekinded kind (task_of s key live))) (under_of s) ≡ with_task live.serial (option_map (rekinded kind) (task_at (under_of s).tasks live.serial)) (under_of s)
   again kind = ap (λ o. with_task live.serial (option_map (rekinded kind) o) (under_of s)) (sym (task_there s is key live at))
 
-  -- an execution is held
+  -- an execution is suspended
   pub held_told : (room : ℕ) → under_of new ≡ with_task live.serial (Some (rekinded phase.Kept (task_of s key live))) (under_of s) → doing_of new room ≡ held_in live.serial (doing_of s room)
   held_told room under = changed_told s new key live slot (option_map (rekinded phase.Kept) (task_at (under_of s).tasks live.serial)) room is at by drawn (under ∙ again phase.Kept)
 
-  -- one that is held goes on
+  -- a suspended execution is resumed
   pub went_told : (room : ℕ) → live.kind ≡ phase.Kept → under_of new ≡ with_task live.serial (Some (rekinded phase.Exec (task_of s key live))) (under_of s) → doing_of new (room - 1) ≡ went_on_in live.serial (doing_of s room)
   went_told room held under =
       let h = is.each key live at in

@@ -5,7 +5,7 @@ use Rattle.std.proofs.Math.Seq.{take-suc}
 use Rattle.sg_base.specs.declared.ids.LinkId.{LinkId}
 use Rattle.sg_lazy.specs.Lazily.{Lazily}
 use Rattle.sg_lazy.specs.RunningFlow.{RunningFlow, running_at}
-use Rattle.sg_activity.specs.declared.kept.Kept.{Kept}
+use Rattle.sg_activity.specs.declared.activity_state.Kept.{Kept}
 use Rattle.sg_lives.specs.declared.kinds.PhaseKind.{PhaseKind}
 use Rattle.sg_lives.specs.declared.kinds.PhaseKind.TheVariants as phase
 use Rattle.sg_lives.specs.declared.lives.Live.{Live}
@@ -65,7 +65,7 @@ module _ (c : Capacities) (slots : List (Option Live)) (ways : ℕ → List Link
     uses_free = free;
   }
 
--- ways are what they were
+-- routes are what they were
 pub ways_grown : (kept new : Kept) → Grows kept new → (key : ℕ) → links_at (ways_of new) key ≡ links_at (ways_of kept) key
 ways_grown kept new g key = ap₂ way_in (ap (λ (k : Kept). length k.hosts.items) g.rest) (g.wider.rows key)
 
@@ -110,7 +110,7 @@ all_mapped P f [] h k d within = absurd (omega (arith, within))
 all_mapped P f (x ∷ xs) h zero d within = h 0 x (omega arith)
 all_mapped P f (x ∷ xs) h (suc k) d within = all_mapped P f xs (λ i e w. h (suc i) e (omega (arith, w))) k d (omega (arith, within))
 
--- all that a way uses is there
+-- all that a route uses is there
 pub all_used : (hosts links most : ℕ) (way : Way) → hosts + links + hosts ≡ most → way.sender < hosts → way.receiver < hosts → All (λ (link : LinkId). link.0 < links) way.links → All (λ thing. thing < most) (used_at hosts links (over way))
 all_used hosts links most way long sender receiver exist =
     all_cons (λ thing. thing < most) (hosts + links + way.sender) ((hosts + links + way.receiver) ∷ map (λ (link : LinkId). hosts + link.0) way.links) (omega (arith, long, sender))
@@ -120,8 +120,8 @@ all_used hosts links most way long sender receiver exist =
 pub long_used : (hosts links : ℕ) (way : Way) → length (used_at hosts links (over way)) ≡ length way.links + 2
 long_used hosts links way = omega (arith, length-map way.links (λ (link : LinkId). hosts + link.0))
 
--- ---- ways
--- who uses one thing has no way, as who uses nothing
+-- ---- routes
+-- what uses one thing has no route, like what uses nothing
 pub ways_same : (hosts key thing : ℕ) (old new : List (List ℕ)) → IsRow old new key (thing ∷ []) → row_at old key ≡ [] → ◌≡◌ {A = ℕ → List LinkId} (λ k. way_in hosts (row_at new k)) (λ k. way_in hosts (row_at old k))
 ways_same hosts key thing old new row idle = fun_ext (λ k. elim (eq_cases k key) [
   | inl e ↦ ap (λ n. way_in hosts (row_at new n)) e ∙ ap (way_in hosts) row.here ∙ sym (ap (λ n. way_in hosts (row_at old n)) e ∙ ap (way_in hosts) idle)
@@ -135,7 +135,7 @@ links_back : (hosts : ℕ) (links : List LinkId) → map (link_of hosts) (map (�
 links_back hosts [] = refl
 links_back hosts (link ∷ links) = ap₂ (λ l ls. l ∷ ls) (link_back hosts link) (links_back hosts links)
 
--- the links of a way are told by what it uses
+-- the links of a route are determined by what it uses
 pub way_back : (hosts links : ℕ) (way : Way) → way_in hosts (used_at hosts links (over way)) ≡ way.links
 way_back hosts links way = links_back hosts way.links
 
@@ -147,7 +147,7 @@ way_row capacities way is = record {
   small = all_mapped (λ thing. thing - length capacities.hosts < 2 ^ 32) (λ (link : LinkId). length capacities.hosts + link.0) way.links (λ k d within. omega (arith, is.links.exist k d within, is.links.small));
 }
 
--- where the way of an activity is told by its row, it can be read
+-- if the route of an activity is determined by its row, it can be read
 pub place_row : (capacities : Capacities) (row : List ℕ) (place : Place) (way : Way) → place ≡ over way → IsPlace capacities place → row ≡ used_at (length capacities.hosts) (length capacities.links) place → IsWayRow (length capacities.hosts) row
 place_row capacities row place way e is row_is =
     subst (IsWayRow (length capacities.hosts)) (sym (row_is ∙ ap (used_at (length capacities.hosts) (length capacities.links)) e)) (way_row capacities way (subst (IsPlace capacities) e is))
@@ -157,7 +157,7 @@ pub over_row : (capacities : Capacities) (row : List ℕ) (kind : PhaseKind) (ho
 over_row capacities row kind host peer links (inl e) is row_is = place_row capacities row (place_of kind host peer links) (record { links = links; sender = host; receiver = peer }) (ap (λ k. place_of k host peer links) e) is row_is
 over_row capacities row kind host peer links (inr e) is row_is = place_row capacities row (place_of kind host peer links) (record { links = links; sender = host; receiver = peer }) (ap (λ k. place_of k host peer links) e) is row_is
 
--- one thing more was read
+-- one more thing was read
 pub way_ends : (hosts : ℕ) (row : List ℕ) (k : ℕ) → k < 2 → way_in hosts (take (suc k) row) ≡ []
 way_ends hosts [] zero few = refl
 way_ends hosts (a ∷ row) zero few = refl
@@ -186,7 +186,7 @@ way_few hosts (a ∷ b ∷ row) (suc (suc k)) = omega (arith, length-map (take k
     length_take (suc k) [] = omega arith
     length_take (suc k) (a ∷ row) = omega (arith, length_take k row)
 
--- what holds of each behind the ends
+-- what holds of each after the ends
 pub behind_at : (P : ℕ → Type 0) (row : List ℕ) (k : ℕ) → 2 ≤ k → k < length row → All P (drop 2 row) → P (get_or row k 0)
 behind_at P row zero from less all = absurd (omega (arith, from))
 behind_at P row (suc zero) from less all = absurd (omega (arith, from))

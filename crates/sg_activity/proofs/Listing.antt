@@ -27,7 +27,7 @@ map_listed (suc n) h f = ap (λ l. h (f 0) ∷ l) (map_listed n h (λ i. f (suc 
 pub listed_more : {X : Type 0} (n : ℕ) (f : ℕ → X) → listed (n + 1) f ≡ listed n f ++ f n ∷ []
 listed_more n f = let e : n + 1 ≡ suc n = omega arith in ap (λ k. listed k f) e ∙ listed_suc n f
 
--- ---- serials at which a test is passed
+-- ---- activity ids at which a test is passed
 pub serials_alike : {X Y : Type 0} (test : X → Bool) (other : Y → Bool) (n : ℕ) (xs : List (Option X)) (ys : List (Option Y)) → length xs ≡ length ys → ((i : ℕ) → passes test (get_or xs i None) ≡ passes other (get_or ys i None)) → serials test n xs ≡ serials other n ys
 unfolding serials
 serials_alike test other n [] [] e h = refl

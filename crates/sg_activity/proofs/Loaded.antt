@@ -5,7 +5,7 @@ use Rattle.std.proofs.Math.Nat.{mul-le-mul}
 use Rattle.std.proofs.lemmas.List.Sums.{sum_by-cons}
 use Rattle.sg_base.specs.declared.ids.LinkId.{LinkId}
 use Rattle.sg_chains.specs.Chained.{times, users_on}
-use Rattle.sg_activity.specs.declared.kept.Kept.{Kept}
+use Rattle.sg_activity.specs.declared.activity_state.Kept.{Kept}
 use Rattle.sg_lives.specs.declared.kinds.HostCap.{HostCap}
 use Rattle.sg_lives.specs.declared.kinds.PhaseKind.{PhaseKind}
 use Rattle.sg_lives.specs.declared.kinds.PhaseKind.TheVariants as phase
@@ -69,7 +69,7 @@ module _ (slots : List (Option Live)) where
   append_none [] = refl
   append_none (x ∷ list) = ap (λ l. x ∷ l) (append_none list)
 
-  -- one key more
+  -- one more key
   pub total_on : (keys : List ℕ) (key : ℕ) → total (rates_of slots (keys ++ key ∷ [])) ≡ with_one (total (rates_of slots keys)) (rate_of (slot_at slots key))
   total_on keys key = ap total (rates_append keys key) ∙ go (rate_of (slot_at slots key))
     where

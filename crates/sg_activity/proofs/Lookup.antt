@@ -1,4 +1,4 @@
--- The activity of a serial.
+-- The activity of an id.
 use Rattle.std.proofs.Common.{◌≡◌, ◌≢◌, ℕ, zero, suc, ◌+◌, ◌⊎◌, inl, inr, cond, eq-eqb, ne_eqb, Option, None, Some, option_map, option_and_then, List, [], ◌∷◌, refl, sym, ap, ◌∙◌, arith}
 use Rattle.sg_lives.specs.declared.lives.Live.{Live}
 use Rattle.sg_lives.specs.Pool.{slot_at, IsMissing}
@@ -28,7 +28,7 @@ missed (None ∷ rest) first serial none = missed rest (suc first) serial (λ k 
 missed (Some x ∷ rest) first serial none =
     ap (λ b. cond b (Some first) (key_from (suc first) serial rest)) (ne_eqb x.serial serial (none 0 x refl)) ∙ missed rest (suc first) serial (λ k live at. none (suc k) live at)
 
--- an activity of the serial, and its key
+-- an activity of the id, and its key
 pub record Sought (slots : List (Option Live)) (serial : ℕ) : Type 0 where
   pub key : ℕ
   pub live : Live
@@ -67,7 +67,7 @@ module _ {Y : Type 0} (tell : ℕ → Live → Y) (slots : List (Option Live)) w
   pub told_missed : (serial : ℕ) → IsMissing slots serial → told_at tell slots serial ≡ None
   told_missed serial none = ap (option_and_then (λ key. option_map (tell key) (slot_at slots key))) (missed slots 0 serial none)
 
--- where something is told of a serial, there is an activity of it
+-- if there is a value for an activity id, there is an activity of it
 pub told_from : {Y : Type 0} (tell : ℕ → Live → Y) (slots : List (Option Live)) (serial : ℕ) (y : Y) → AreApart slots → told_at tell slots serial ≡ Some y → (s : Sought slots serial) × (tell s.key s.live ≡ y)
 told_from tell slots serial y apart e = elim (sought slots serial) [
   | inl s ↦ (s, some_same (sym (told_found tell slots serial s.key s.live apart s.at s.is) ∙ e))
@@ -80,7 +80,7 @@ told_none tell slots serial apart e = elim (sought slots serial) [
   | inr none ↦ none
 ]
 
--- the same is told where each activity of the serial has one that tells the same in its place
+-- the value is the same if each activity of the id has one with the same value in its place
 pub told_alike : {Y : Type 0} (tell other : ℕ → Live → Y) (slots others : List (Option Live)) (serial : ℕ) → AreApart slots → AreApart others →
     ((s : Sought slots serial) → (live : Live) × (slot_at others s.key ≡ Some live) × (live.serial ≡ serial) × (other s.key live ≡ tell s.key s.live)) → (Sought others serial → Sought slots serial) →
     told_at other others serial ≡ told_at tell slots serial

@@ -1,4 +1,4 @@
--- Meters as they are told the powers, as other things change, and as time passes.
+-- Meters as they get the powers, as other things change, and as time passes.
 use Rattle.std.proofs.Common.{◌≡◌, ◌≢◌, ℕ, zero, suc, ◌+◌, ◌-◌, ◌*◌, ◌/◌, ◌==◌, ◌^◌, ◌<◌, ◌≤◌, inl, inr, Bool, true, false, cond, ◌&&◌, ne_eqb, true≢false, Option, Some, List, [], ◌∷◌, ◌++◌, length, length-set, set, get_or, get_or-set_same, get_or-set_other, replicate, refl, sym, ap, ap₂, subst, ◌∙◌, arith}
 use Rattle.std.proofs.Math.Nat.{div-le_of_le-mul, mul-le-mul}
 use Rattle.std.proofs.lemmas.List.{ext_get_or, get_or-map, length-map}
@@ -6,7 +6,7 @@ use Rattle.sg_base.specs.declared.ids.LinkId.{LinkId}
 use Rattle.sg_base.specs.MarkSet.{MarkSet, is_in, with_mark}
 use Rattle.sg_energy.specs.Meter.{Metered, energy_at, first_meter, meter_of, with_power}
 use Rattle.sg_energy.proofs.Metering.{set_is_past, set_power_is_used}
-use Rattle.sg_activity.specs.declared.kept.Kept.{Kept}
+use Rattle.sg_activity.specs.declared.activity_state.Kept.{Kept}
 use Rattle.sg_lives.specs.declared.kinds.PhaseKind.{PhaseKind}
 use Rattle.sg_lives.specs.declared.kinds.PhaseKind.TheVariants as phase
 use Rattle.sg_lives.specs.declared.lives.Live.{Live}
@@ -31,7 +31,7 @@ use Rattle.sg_activity.proofs.Loads.{power_is_its_own_lem}
 use Rattle.sg_activity.proofs.Rates.{limits, task_there}
 use Rattle.sg_activity.proofs.Told.{in_last, in_more}
 
--- ---- a host is told its power
+-- ---- a host gets its power
 power_is : (power date : ℕ) (m : Metered) → (with_power power date m).power ≡ power
 power_is power date m = go (power == m.power) refl
   where
@@ -133,7 +133,7 @@ module _ (kept new : Kept) (meters : List Metered) (touched more : MarkSet) (was
       let r = same host out in
       (r.0, power_is_its_own_lem (under_of (state_of kept)) (under_of (state_of new)) host (host_of kept sound host exists) (host_of new sound' host (omega (arith, exists, hosts))) r.1))
 
--- the same is under way
+-- the same activities run
 pub metered_same : (kept new : Kept) (meters : List Metered) (touched : MarkSet) → IsMetered kept meters touched → length new.hosts.items ≡ length kept.hosts.items → new.date ≡ kept.date → ((host : ℕ) → power_at (under_of (state_of new)) host ≡ power_at (under_of (state_of kept)) host) → IsMetered new meters touched
 metered_same kept new meters touched was hosts date same = still kept new meters touched touched was hosts date refl (λ host exists out. (out, same host))
 
@@ -159,7 +159,7 @@ pub metered_kept : (kept new : Kept) (meters : List Metered) (touched : MarkSet)
     ((host : ℕ) → IsSameHost (under_of (state_of kept)) (under_of (state_of new)) host) → IsMetered new meters touched
 metered_kept kept new meters touched was hosts date sound sound' same = metered_still kept new meters touched touched was hosts date refl sound sound' (λ host out. (out, same host))
 
--- ---- another phase is under way
+-- ---- another phase is running
 kind_elsewhere : (host h peer : ℕ) (links : List LinkId) (kind : PhaseKind) → (is_exec kind ≡ true → host ≢ h) → (takes_share kind && is_there host (place_of kind h peer links)) ≡ false
 kind_elsewhere host h peer links phase.Latency ne = refl
 kind_elsewhere host h peer links phase.Flow ne = refl
@@ -178,7 +178,7 @@ next_elsewhere host left h peer weight bytes bound links phase.Kept = refl
 pub next_not : (s : State) (key : ℕ) (live : Live) (host : ℕ) → passes (loads host) (next_phase live.kind (task_of s key live)) ≡ false
 next_not s key live host = next_elsewhere host (left_at live.kept live.rate live.stamp s.date) live.host live.peer live.weight live.bytes live.bound (links_at s.ways key) live.kind
 
--- an execution that goes on takes a share of its own host alone
+-- an execution that isn't suspended takes a share of its own host alone
 pub held_not : (s : State) (key : ℕ) (live : Live) (host : ℕ) → live.kind ≡ phase.Kept → host ≢ live.host → passes (loads host) (Some (rekinded phase.Exec (task_of s key live))) ≡ false
 held_not s key live host kind ne = ap (λ k. is_there host (place_of k live.host live.peer (links_at s.ways key))) kind ∙ ne_eqb live.host host (λ e. ne (sym e))
 
@@ -204,7 +204,7 @@ not_noted live host members out = go (is_exec live.kind) refl out
     go true e out = let r = not_marked live.host host members out in (r.0, λ exec. r.1)
     go false e out = (out, λ exec. absurd (true≢false (sym exec ∙ e)))
 
--- The phase of an activity is over, or held, or goes on: the hosts that aren't touched are what they were.
+-- The phase of an activity completes, is suspended or resumed: the hosts that aren't touched stay the same.
 pub metered_turned : (kept new : Kept) (meters : List Metered) (touched more : MarkSet) (key : ℕ) (live : Live) (slot : Option Live) (after : Option Task) → IsMetered kept meters touched → more.room ≡ touched.room → IsKept (state_of kept) → IsKept (state_of new) →
     slot_at kept.lives.slots key ≡ Some live → Turns (state_of kept) (state_of new) key live.serial slot → under_of (state_of new) ≡ with_task live.serial after (under_of (state_of kept)) →
     ((host : ℕ) → is_in host more.members ≡ false → (is_in host touched.members ≡ false) × ((is_exec live.kind ≡ true → host ≢ live.host) × (passes (loads host) after ≡ false))) → IsMetered new meters more

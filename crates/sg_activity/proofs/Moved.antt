@@ -71,7 +71,7 @@ in_mark n number xs = elim (bool_cases (is_in number xs)) [
     swap true b = sym (or_true b)
     swap false b = sym (or_false b)
 
--- a number stands in a list where it stands there more than 0 times
+-- a number stands in a list if it stands there more than 0 times
 pub in_times : (a b : ℕ) (xs ys : List ℕ) → times a xs ≡ times b ys → is_in a xs ≡ is_in b ys
 in_times a b xs ys e =
     any_counts (λ m. m == a) xs ∙ ap (λ n. not (n == 0)) e ∙ sym (any_counts (λ m. m == b) ys)

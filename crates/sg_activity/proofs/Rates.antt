@@ -1,4 +1,4 @@
--- The flows that are kept are those of the phases under way, and go at their rates.
+-- The flows that are kept are those of the running phases, at their rates.
 use Rattle.std.proofs.Common.{◌≡◌, ℕ, zero, suc, ◌+◌, ◌-◌, ◌<◌, ◌≤◌, ◌⊎◌, inl, inr, Bool, true, false, cond, ◌||◌, ◌&&◌, Option, None, Some, option_map, List, [], ◌∷◌, length, map, get_or, filter_map, slice_index, IsTrue, refl, sym, ap, ap₂, subst, ◌∙◌, arith}
 use Rattle.std.specs.List.{cons_option}
 use Rattle.std.specs.Prelude.{Contains}
@@ -37,13 +37,13 @@ filled_flow : (c : Capacities) (t : Task) → IsTrue (takes_share t.kind) → fl
 filled_flow c t full = ap (λ b. cond b (Some (flow_of c t)) None) full
 
 module _ (s : State) (is : IsKept s) where
-  -- the phase of an activity stands under its serial
+  -- the phase of an activity stands under its id
   pub task_there : (key : ℕ) (live : Live) → slot_at s.slots key ≡ Some live → task_at (under_of s).tasks live.serial ≡ Some (task_of s key live)
   task_there key live at =
       let h = is.each key live at in
       task_told s live.serial h.from h.to ∙ told_found (task_of s) s.slots live.serial key live is.apart at refl
 
-  -- nothing stands under a serial that is that of none
+  -- nothing stands under an id that no activity has
   pub task_missed : (serial : ℕ) → 0 < serial → IsMissing s.slots serial → task_at (under_of s).tasks serial ≡ None
   task_missed serial from none = elim (less_or (serial - 1) s.drawn) [
     | inl less ↦
@@ -124,7 +124,7 @@ module _ (s : State) (is : IsKept s) where
       cases true full z = (t, refl, full)
       cases false full z = absurd (cc z)
 
-  -- the activity of a serial that runs
+  -- the activity of an id that runs
   runs_under : (serial : ℕ) (r : RunningFlow) → 0 < serial → serial ≤ s.drawn → running_under (under_of s) serial ≡ Some r → (f : Sought s.slots serial) × IsTrue (takes_share f.live.kind)
   runs_under serial r from to e =
       let t = some_flow (get_or (under_of s).marks.changed (serial - 1) false) (task_at (under_of s).tasks serial) r e in
@@ -192,7 +192,7 @@ module _ (s : State) (is : IsKept s) where
   in_cons_option (Some x) ys y (inl e) = inl (ap (λ w. Some w) e)
   in_cons_option (Some x) ys y (inr i) = inr i
 
-  -- each flow is that of a phase under way
+  -- each flow is that of a running phase
   flow_from : (c : Capacities) (tasks : List (Option Task)) (f : Flow) → In f (flows c tasks) → (i : ℕ) × (t : Task) × (get_or tasks i None ≡ Some t) × IsTrue (takes_share t.kind) × (flow_of c t ≡ f)
   unfolding flows
   flow_from c [] f i = absurd i

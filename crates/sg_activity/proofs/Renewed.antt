@@ -1,4 +1,4 @@
--- One activity more is restamped, or dated anew.
+-- One more activity is restamped, or dated anew.
 use Rattle.std.proofs.Common.{◌≡◌, ◌≢◌, ℕ, ◌+◌, ◌-◌, ◌*◌, ◌<◌, ◌≤◌, inl, inr, Bool, true, false, cond, ◌||◌, ◌&&◌, Option, None, Some, option_map, List, length, get_or, set, take, slice_index, IsTrue, refl, sym, ap, ap₂, ◌∙◌, arith}
 use Rattle.std.proofs.lemmas.List.{take_more}
 use Rattle.sg_base.specs.MarkSet.{is_in, with_mark}

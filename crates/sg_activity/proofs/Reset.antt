@@ -8,7 +8,7 @@ use Rattle.sg_maxmin.specs.Fill.{Flow}
 use Rattle.sg_maxmin.specs.Sharing.{HasLimit}
 use Rattle.sg_lazy.specs.Lazily.{Lazily, with_capacity, with_other_capacity}
 use Rattle.sg_lazy.specs.RunningFlow.{RunningFlow, is_same_bound, running_at}
-use Rattle.sg_activity.specs.declared.kept.Kept.{Kept}
+use Rattle.sg_activity.specs.declared.activity_state.Kept.{Kept}
 use Rattle.sg_lives.specs.declared.lives.Live.{Live}
 use Rattle.sg_activity.specs.Links.{Capacities, capacities_of, machines}
 use Rattle.sg_lives.specs.Slots.{listed, passes}
@@ -84,7 +84,7 @@ capacity_lazy s resource value = go (get_or s.capacities resource 0 == value) re
     go true e = ap (λ c. record s { capacities = c }) (sym (set-get_or s.capacities resource 0) ∙ ap (set s.capacities resource) (eqb_is (get_or s.capacities resource 0) value e))
     go false e = refl
 
--- ---- all stays of one mind
+-- ---- all stays consistent
 module _ (s : State) (capacities : Capacities) (resource : ℕ) (runs : List (Option RunningFlow)) (resources : List ℕ) (is : IsKept s) (moved : IsMoved s.capacities capacities resource)
     (rebound : (key : ℕ) (live : Live) → slot_at s.slots key ≡ Some live → IsTrue (takes_share live.kind) →
     running_at runs live.flow ≡ cond (is_rebound_at s.capacities (resource ∷ []) (place_at s key live)) (option_map (rebound_to (flow_of capacities (task_of s key live)).bound) (running_at s.runs live.flow)) (running_at s.runs live.flow))
@@ -92,7 +92,7 @@ module _ (s : State) (capacities : Capacities) (resource : ℕ) (runs : List (Op
   abbrev pub reset_state : State
   reset_state = record s { capacities = capacities; runs = runs; resources = resources; settled = false }
 
-  -- what is asked for, but for its bound
+  -- what is asked for, except for its bound
   asked_with : (key : ℕ) (live : Live) (bound : ℕ) → (asked_by reset_state key live).bound ≡ Some bound → record (asked_by s key live) { bound = Some bound } ≡ asked_by reset_state key live
   asked_with key live bound e =
       let task = task_of s key live in
@@ -313,7 +313,7 @@ module _ (kept mid : Kept) (capacities : Capacities) (resource value : ℕ) (sou
         ∙ ap (λ n. record s { capacities = machines mid.hosts.items mid.links.items; ways = λ key. way_in n (row_at kept.index.rows key); runs = new.lazy.slots; ended = new.lazy.ended; resources = new.lazy.resources; settled = false }) hosts_long
         ∙ ap₂ (λ c e. record s { capacities = c; runs = new.lazy.slots; ended = e; resources = new.lazy.resources; settled = false }) caps (ap (λ (l : Lazily). l.ended) new_lazy)
 
-    -- the resource is marked where its capacity is another
+    -- the resource is marked if its capacity is another
     resources_are : new.lazy.resources ≡ cond (get_or (capacities_of s.capacities) resource 0 == get_or (capacities_of capacities) resource 0) s.resources (with_mark resource s.resources)
     resources_are =
         ap (λ (l : Lazily). l.resources) new_lazy

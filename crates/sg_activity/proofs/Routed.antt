@@ -13,7 +13,7 @@ use Rattle.sg_activity.specs.Links.{Capacities, capacities_of, bandwidths_of, bo
 use Rattle.sg_activity.specs.kept.Sound.{IsWay}
 use Rattle.sg_activity.proofs.Times.{sooner_assoc, sooner_never}
 
--- ---- the bound, as a loop goes on
+-- ---- the bound, as a loop continues
 pub bound_more : (links : List LinkCap) (bound : Option ℕ) (route : List LinkId) (i : ℕ) (d : LinkId) → i < length route →
     sooner bound (route_bound links (drop i route)) ≡ sooner (sooner bound (bound_of_link (link_at links (get_or route i d)))) (route_bound links (drop (i + 1) route))
 unfolding route_bound
@@ -116,7 +116,7 @@ pub sooner_more : (one other : Option ℕ) → IsSome one → IsSome (sooner one
 sooner_more None other some = absurd (cc some)
 sooner_more (Some n) other some = sooner_some n other
 
--- a flow over a way may be in the system
+-- a flow over a route may be in the system
 pub way_is_flow : (capacities : Capacities) (route : List LinkId) (weight : ℕ) (bound : Option ℕ) → IsWay capacities route → IsPriority weight →
     IsFlow (capacities_of capacities) (flow (shared_of (length capacities.hosts) capacities.links route) weight (sooner (route_bound capacities.links route) bound))
 way_is_flow capacities route weight bound is weighs = record {

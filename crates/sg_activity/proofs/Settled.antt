@@ -1,4 +1,4 @@
--- The rates are brought up to date: all stays of one mind, and what is left of each activity is told as before.
+-- The rates are brought up to date: all stays consistent, and what remains of each activity is as before.
 use Rattle.std.proofs.Common.{◌≡◌, ℕ, zero, suc, map, replicate, option_and_then, ◌+◌, ◌-◌, ◌*◌, ◌==◌, ◌^◌, ◌<◌, ◌⊎◌, inl, inr, Bool, true, false, not, cond, ◌||◌, ◌&&◌, true≢false, Option, None, Some, option_map, List, [], ◌∷◌, length, get_or, slice_index, sum_by, All, IsTrue, IsSome, refl, sym, ap, ap₂, subst, ◌∙◌, arith, ◌≢◌}
 use Rattle.sg_base.specs.declared.ids.LinkId.{LinkId}
 use Rattle.sg_base.specs.MarkSet.{MarkSet, is_in}
@@ -11,7 +11,7 @@ use Rattle.sg_activity.specs.Links.{capacities_of}
 use Rattle.sg_activity.specs.Task.{Task}
 use Rattle.sg_lives.specs.Kinds.{takes_share}
 use Rattle.sg_activity.specs.Stamp.{Stamp, rerated, rerated_at, all_rerated}
-use Rattle.sg_activity.specs.Underway.{Underway, rate, settled}
+use Rattle.sg_activity.specs.Underway.{Underway, rate, with_rates_updated}
 use Rattle.sg_activity.specs.Doing.{settled_in}
 use Rattle.sg_activity.specs.kept.Stamps.{left_at}
 use Rattle.sg_lives.specs.Pool.{Pool, slot_at}
@@ -279,7 +279,7 @@ module _ (s : State) (lazy new : Lazily) (pool : Pool) (marks more : MarkSet) (k
       not_so None = refl
       not_so (Some key) = some_so key (slot_at pool.slots key)
 
-  under_told : under_of settled_state ≡ settled (under_of s)
+  under_told : under_of settled_state ≡ with_rates_updated (under_of s)
   under_told =
       made_same s.date s.date s.capacities s.capacities s.on s.on (told_by (task_of settled_state) settled_state) (told_by (task_of s) s) (changed_by settled_state) (replicate (length (told_by (task_of s) s)) false) new.ended [] new.resources [] refl refl refl
       (same_listed s.drawn (λ i. told_at (task_of settled_state) pool.slots (i + 1)) (λ i. told_at (task_of s) s.slots (i + 1)) (λ i less.
@@ -288,7 +288,7 @@ module _ (s : State) (lazy new : Lazily) (pool : Pool) (marks more : MarkSet) (k
       (λ f. let w = was_at f.key f.live f.at in record { key = f.key; live = w.old; at = w.there; is = serial_was f.key f.live w ∙ f.is })))
       none_changed by.none_ended by.no_resources
 
-  rate_settled : (under : Underway) (task : Task) → rate (settled under) task ≡ rate under task
+  rate_settled : (under : Underway) (task : Task) → rate (with_rates_updated under) task ≡ rate under task
   unfolding rate
   rate_settled under task = refl
 
@@ -377,7 +377,7 @@ module _ (s : State) (lazy new : Lazily) (pool : Pool) (marks more : MarkSet) (k
 
   pub settled_told : (room : ℕ) → doing_of settled_state room ≡ settled_in (doing_of s room)
   settled_told room =
-      doing_same (under_of settled_state) (settled (under_of s)) [] [] true true room room (told_by stamp_of settled_state) (all_rerated (under_of s) (told_by stamp_of s)) under_told refl refl refl stamps_told
+      doing_same (under_of settled_state) (with_rates_updated (under_of s)) [] [] true true room room (told_by stamp_of settled_state) (all_rerated (under_of s) (told_by stamp_of s)) under_told refl refl refl stamps_told
 
 -- ---- before
 pub keyed_flows : (s : State) (lazy new : Lazily) → IsKept s → lazy.slots ≡ s.runs → IsSettled lazy new → HaveKeys s.slots s.by_flow new s.date

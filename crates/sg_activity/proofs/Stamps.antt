@@ -1,4 +1,4 @@
--- An amount and its due date, told at a stamp.
+-- An amount and its completion date, computed at a stamp.
 use Rattle.std.proofs.Common.{◌≡◌, ℕ, ◌+◌, ◌-◌, ◌*◌, ◌<◌, ◌≤◌, ◌⊎◌, inl, inr, cond, eqb, eq-eqb, ne_eqb, Option, None, Some, option_map, refl, sym, ap, subst, ◌∙◌, arith}
 use Rattle.std.specs.Int.{div_ceil}
 use Rattle.std.specs.Option.{IfSome}
@@ -123,7 +123,7 @@ due_stays_lem kept rate stamp now h before = go (wait rate kept) refl before
         ap (option_map (λ s. now + s)) (wait_is rate (left_at kept rate stamp now) (span - (now - stamp)) (wait_shorter rate kept span (now - stamp) (is_wait rate kept span e) less)) ∙ ap Some sum
 
 -- ---- by kind
--- the due date of a phase of any kind, told at a date that isn't behind it
+-- the completion date of a phase of any kind, computed at a date that isn't after it
 pub due_stays_by : (kind : PhaseKind) (kept rate stamp now : ℕ) → stamp ≤ now → IfSome (wait_by kind (due_of stamp kept rate)) (λ due. now ≤ due) → wait_by kind (due_of stamp kept rate) ≡ option_map (λ span. now + span) (wait_by kind (wait rate (left_at kept rate stamp now)))
 due_stays_by phase.Latency kept rate stamp now h before = sym (due_stays_lem kept rate stamp now h before)
 due_stays_by phase.Flow kept rate stamp now h before = sym (due_stays_lem kept rate stamp now h before)

@@ -65,7 +65,7 @@ held_filled new key live full from to stamp small bytes weighs runs limit placed
 }
 
 -- ---- the flows of the others
--- no activity but this one has a flow of this key
+-- no activity except this one has a flow of this key
 away : (s : State) (key id : ℕ) → ((live : Live) → slot_at s.slots key ≡ Some live → IsTrue (takes_share live.kind) → live.flow ≢ id) → (of : IsFlowOf s id) → slice_index s.by_flow id ≢ key
 away s key id not of e = not of.live (ap (slot_at s.slots) (sym e) ∙ of.there) of.full of.is
 
@@ -113,7 +113,7 @@ module _ (s : State) (key id : ℕ) (is : IsKept s) where
     | inr c ↦ back_still s new key n (λ live at' _ same. c.0 (sym same ∙ ap (λ (l : Live). l.flow) (some_same (sym at' ∙ at)) ∙ flow)) others (ap (λ l. slice_index l n) known) (is.back n r c.1)
   ]
 
--- ---- serials
+-- ---- activity ids
 pub fresh_serial : (s : State) (serial : ℕ) → IsKept s → s.drawn < serial → (k : ℕ) (other : Live) → slot_at s.slots k ≡ Some other → other.serial ≢ serial
 fresh_serial s serial is above k other at e = omega (arith, (is.each k other at).to, e, above)
 

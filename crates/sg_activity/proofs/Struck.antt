@@ -1,4 +1,4 @@
--- The first that uses something that is off, and what is told of it.
+-- The first that uses something that is off, and what contracts see of it.
 use Rattle.std.proofs.Common.{◌≡◌, ◌≢◌, ℕ, zero, suc, ◌+◌, ◌-◌, ◌==◌, ◌<◌, ◌≤◌, ◌⊎◌, inl, inr, Bool, true, false, cond, not, Option, None, Some, List, [], ◌∷◌, set, get_or, refl, sym, ap, ◌∙◌, arith}
 use Rattle.sg_heap.specs.Agenda.{Key, IsLeast, IsNoLater, key_at}
 use Rattle.sg_lives.specs.declared.lives.Live.{Live}
@@ -28,7 +28,7 @@ eqb_yes a b e = grind arith
 eqb_no : (a b : ℕ) → a ≢ b → (a == b) ≡ false
 eqb_no a b ne = grind arith
 
--- ---- serials without one
+-- ---- activity ids without one
 -- each of these is at least this one
 from_on : {X : Type 0} (test : X → Bool) (n low : ℕ) (xs : List (Option X)) → low < n → without low (serials test n xs) ≡ serials test n xs
 unfolding serials
@@ -86,7 +86,7 @@ module _ (s : State) (is : IsKept s) (keys : List (Option Key)) (are : AreHits s
         | inr missing ↦ ap (passes (is_hit s.on)) (told_missed (task_of s) s.slots (i + 1) missing)
       ]
 
-  -- the activity of the least serial
+  -- the activity of the least id
   module _ (slot : ℕ) (key : Key) (least : IsLeast keys slot key) where
     pub struck : (live : Live) × (slot_at s.slots slot ≡ Some live) × (uses_off s.on (place_at s slot live) ≡ true) × (key ≡ record { date = 0; serial = live.serial })
     struck = go (slot_at s.slots slot) refl
@@ -137,7 +137,7 @@ module _ (s : State) (is : IsKept s) (keys : List (Option Key)) (are : AreHits s
           to = omega (arith, h.to, serial, length-listed s.drawn (λ j. told_at (task_of s) s.slots (j + 1)));
         }
 
--- the phase of one changes, and isn't due any more
+-- the phase of one changes, and no longer completes
 pub changed_told : (s new : State) (key : ℕ) (live : Live) (slot : Option Live) (x : Option Task) (room : ℕ) → IsKept s → slot_at s.slots key ≡ Some live → Turns s new key live.serial slot → new.drawn ≡ s.drawn → under_of new ≡ with_task live.serial x (under_of s) →
     doing_of new room ≡ record (doing_of s room) { under = with_task live.serial x (under_of s); due = without live.serial (doing_of s room).due; settled = false; stamps = anew live.serial (with_task live.serial x (under_of s)) (told_by stamp_of s) }
 changed_told s new key live slot x room is at by drawn under =

@@ -73,6 +73,6 @@ unfolding upto
 places_sum f [] d = refl
 places_sum f (x ∷ xs) d = omega (arith, sum_by-cons f x xs, places_sum f xs d)
 
--- a sum over numbers is one over places, where as much stands at each place as its number adds
+-- a sum over numbers is one over places, if as much stands at each place as its number adds
 pub sum_by_places : {X : Type 0} (w : ℕ → ℕ) (f : X → ℕ) (ys : List ℕ) (xs : List X) (d : X) → All (λ y. y < length xs) ys → ((i : ℕ) → times i ys * w i ≡ f (get_or xs i d)) → sum_by w ys ≡ sum_by f xs
 sum_by_places w f ys xs d below same = times_sum (length xs) w ys below ∙ upto_same (length xs) (λ i. times i ys * w i) (λ i. f (get_or xs i d)) (λ i less. same i) ∙ places_sum f xs d

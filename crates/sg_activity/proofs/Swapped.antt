@@ -1,4 +1,4 @@
--- An activity takes the place of one that goes on there: the same is used, and hit.
+-- An activity replaces one at the same place: the same is used, and hit.
 use Rattle.std.proofs.Common.{◌≡◌, ℕ, ◌≤◌, inl, inr, Option, Some, List, length, length-set, set, sym, ap, ◌∙◌}
 use Rattle.sg_base.specs.declared.ids.LinkId.{LinkId}
 use Rattle.sg_heap.specs.Agenda.{Key}
@@ -16,7 +16,7 @@ use Rattle.sg_activity.proofs.Pairing.{there_within}
 use Rattle.sg_activity.proofs.Starts.{set_here, set_there}
 
 module _ (slots others : List (Option Live)) (key : ℕ) (old live : Live) (at : slot_at slots key ≡ Some old) (swapped : others ≡ set slots key (Some live)) where
-  -- what is told of each slot is the same
+  -- the value for each slot is the same
   alike : {Y : Type 0} (tell : ℕ → Option Live → Y) → tell key (Some live) ≡ tell key (Some old) → (k : ℕ) → tell k (slot_at others k) ≡ tell k (slot_at slots k)
   alike tell same k = elim (eq_cases k key) [
     | inl e ↦

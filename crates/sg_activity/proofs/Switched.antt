@@ -1,11 +1,11 @@
--- Hosts and links go off and on.
+-- Hosts and links are turned off and on.
 use Rattle.std.proofs.Common.{◌≡◌, ◌≢◌, ℕ, ◌+◌, ◌==◌, ◌<◌, Bool, true, false, cond, not, ◌||◌, true≢false, Option, None, Some, List, [], ◌∷◌, ◌++◌, map, length, length-set, set, get_or-set_same, get_or-set_other, inl, inr, refl, sym, ap, ap₂, subst, ◌∙◌, arith}
 use Rattle.std.specs.List.{list_any}
 use Rattle.sg_base.specs.declared.ids.LinkId.{LinkId}
 use Rattle.sg_base.specs.MarkSet.{is_in}
 use Rattle.sg_heap.specs.Agenda.{Key, key_at}
 use Rattle.sg_chains.specs.Chained.{users_on}
-use Rattle.sg_activity.specs.declared.kept.Kept.{Kept}
+use Rattle.sg_activity.specs.declared.activity_state.Kept.{Kept}
 use Rattle.sg_lives.specs.declared.lives.Live.{Live}
 use Rattle.sg_activity.specs.Links.{Switches, is_off}
 use Rattle.sg_activity.specs.Task.{Place, nowhere, on_host, over, uses_off}
@@ -58,7 +58,7 @@ link_switched on hosts links number b (over way) e =
     let second = neither (hosts + links + way.receiver == hosts + number) (is_in (hosts + number) (map (λ (link : LinkId). hosts + link.0) way.links)) first.1 in
     ap (λ x. x || (is_off on.hosts way.sender || is_off on.hosts way.receiver)) (any_switched on.links hosts number b way.links second.1)
 
--- ---- all stays of one mind
+-- ---- all stays consistent
 pub flipped_kept : (s : State) (on : Switches) → IsKept s → IsKept (record s { on = on })
 flipped_kept s on is = record {
   each = λ key live at.
@@ -166,7 +166,7 @@ module _ (kept : Kept) (index : Indexed) (used : IsUsed kept index) (both : AreB
 abbrev hit_at : Switches → List (Option Live) → (ℕ → List LinkId) → ℕ → Option Key
 hit_at on slots ways key = hit_in on (links_at ways key) (slot_at slots key)
 
--- one more is looked at
+-- one more is visited
 pub looked_on : (on : Switches) (slots : List (Option Live)) (ways : ℕ → List LinkId) (old mid new : List (Option Key)) (keys : List ℕ) (key : ℕ) → AreLooked on slots ways old mid keys → key < length mid → new ≡ set mid key (hit_in on (links_at ways key) (slot_at slots key)) → AreLooked on slots ways old new (keys ++ key ∷ [])
 looked_on on slots ways old mid new keys key a within by = record {
   each = λ k. elim (eq_cases k key) [

@@ -12,7 +12,7 @@ use Rattle.sg_lives.specs.Slots.{passes, serials}
 use Rattle.sg_activity.specs.Stamp.{Stamp, stamped, anew}
 use Rattle.sg_activity.specs.Task.{Task, flow_in, task_at}
 use Rattle.sg_lives.specs.Kinds.{pace, takes_share}
-use Rattle.sg_activity.specs.Underway.{Underway, started, drawn, with_task}
+use Rattle.sg_activity.specs.Underway.{Underway, started, with_next_serial, with_task}
 use Rattle.sg_activity.specs.Doing.{Doing, started_in, begun_in}
 use Rattle.sg_lives.specs.Pool.{slot_at}
 use Rattle.sg_activity.specs.kept.Stamps.{left_at}
@@ -92,7 +92,7 @@ stamp_from left date rate = record { left = left; date = date; rate = rate }
 stamp_same : (a a' b b' c c' : ℕ) → a ≡ a' → b ≡ b' → c ≡ c' → stamp_from a b c ≡ stamp_from a' b' c'
 stamp_same a a' b b' c c' p q r = ap (λ x. stamp_from x b c) p ∙ ap (λ x. stamp_from a' x c) q ∙ ap (λ x. stamp_from a' b' x) r
 
--- of a phase that begins, is held or goes on at a date
+-- of a phase that begins, is suspended or resumed at a date
 stamp_now : (key date : ℕ) (links : List LinkId) (live : Live) → live.stamp ≡ date → (IsTrue (takes_share live.kind) → live.rate ≡ 0) → (takes_share live.kind ≡ false → live.rate ≡ pace live.kind) → stamp_of key live ≡ stamped date (task_from date links live)
 stamp_now key date links live at full empty =
     stamp_same live.kept (left_at live.kept live.rate live.stamp date) live.stamp date live.rate (cond (takes_share live.kind) 0 (pace live.kind)) (sym (ap (λ n. left_at live.kept live.rate n date) at ∙ still live.kept live.rate date)) at (rates (takes_share live.kind) refl)
@@ -107,7 +107,7 @@ stamp_now key date links live at full empty =
     rates true e = full e
     rates false e = empty e
 
--- the task under a serial
+-- the task under an activity id
 pub task_told : (s : State) (serial : ℕ) → 0 < serial → serial ≤ s.drawn → task_at (told_by (task_of s) s) serial ≡ told_at (task_of s) s.slots serial
 task_told s serial from to =
     let back : serial - 1 + 1 ≡ serial = omega (arith, from) in
@@ -122,7 +122,7 @@ module _ (s new : State) (key serial : ℕ) (slot : Option Live) (is : IsKept s)
       marked true e = ap (λ o. takes_share live.kind && is_marked o) (by.flows k live ne at e).0
       marked false e = ap (λ b. b && is_marked (running_at new.runs live.flow)) e ∙ sym (ap (λ b. b && is_marked (running_at s.runs live.flow)) e)
 
-  -- by serial what is marked
+  -- by activity id what is marked
   pub changed_set : new.drawn ≡ s.drawn → 0 < serial → serial ≤ s.drawn → changed_by new ≡ set (changed_by s) (serial - 1) (passes is_so (told_at (changed_at new.fresh new.runs) new.slots serial))
   changed_set drawn from to =
       ap (map (passes is_so)) (told_set s new key serial slot is by (changed_at s.fresh s.runs) (changed_at new.fresh new.runs) drawn from to changed_elsewhere)
@@ -145,7 +145,7 @@ module _ (s new : State) (key serial : ℕ) (slot : Option Live) (is : IsKept s)
   stamp_here : (live : Live) → slot ≡ Some live → told_at stamp_of new.slots serial ≡ Some (stamped new.date (task_of new key live))
   stamp_here live e = told_here s new key serial slot is by stamp_of live e ∙ ap Some (stamp_now key new.date (links_at new.ways key) live (by.stamped live e) (by.unrated live e) (by.holds live e).paced)
 
-  -- by serial the stamps
+  -- by activity id the stamps
   stamps_pushed : (live : Live) → slot ≡ Some live → new.drawn ≡ s.drawn + 1 → serial ≡ s.drawn + 1 → told_by stamp_of new ≡ told_by stamp_of s ++ Some (stamped s.date (task_of new key live)) ∷ []
   stamps_pushed live e drawn is_next =
       told_pushed s new key serial slot is by stamp_of stamp_of drawn is_next (λ k live ne at. refl)
@@ -161,7 +161,7 @@ module _ (s new : State) (key serial : ℕ) (slot : Option Live) (is : IsKept s)
       here None f = told_gone s new key serial slot is by stamp_of f ∙ sym (ap (option_map (stamped new.date)) (told_gone s new key serial slot is by (task_of new) f))
       here (Some live) f = stamp_here live f ∙ sym (ap (option_map (stamped new.date)) (told_here s new key serial slot is by (task_of new) live f))
 
-  -- the next serial begins
+  -- the next activity id begins
   pub started_told : (live : Live) (room : ℕ) → slot ≡ Some live → new.drawn ≡ s.drawn + 1 → serial ≡ s.drawn + 1 → is_in key new.fresh ≡ true → new.ended ≡ s.ended → doing_of new (room - 1) ≡ started_in (task_of new key live) (doing_of s room)
   started_told live room e drawn is_next fresh ended =
       let under : under_of new ≡ started (task_of new key live) (under_of s) =
@@ -172,7 +172,7 @@ module _ (s new : State) (key serial : ℕ) (slot : Option Live) (is : IsKept s)
       (told_by stamp_of new) (told_by stamp_of s ++ Some (stamped s.date (task_of new key live)) ∷ []) under
       (ap₂ (λ b l. cond b l []) by.arrived (due_pushed s new key serial slot is by drawn is_next)) by.unsettled refl (stamps_pushed live e drawn is_next)
 
-  -- under a serial that was drawn another phase is under way, or none
+  -- under an activity id that was drawn another phase is running, or none
   pub under_set : (x : Option Task) → new.drawn ≡ s.drawn → 0 < serial → serial ≤ s.drawn → told_at (task_of new) new.slots serial ≡ x → (is_some (told_at (task_of s) s.slots serial) || is_some x) ≡ true → passes is_so (told_at (changed_at new.fresh new.runs) new.slots serial) ≡ is_some x →
       new.ended ≡ s.ended ++ option_to_list (flow_in s.capacities (told_at (task_of s) s.slots serial)) → under_of new ≡ with_task serial x (under_of s)
   under_set x drawn from to told some changed ended =

@@ -1,4 +1,4 @@
--- One activity makes way for another: all is of one mind still, and what is told changes at its serial alone.
+-- One activity replaces another: all stays consistent, and what contracts see changes at its id alone.
 use Rattle.std.proofs.Common.{◌≡◌, ◌≢◌, ℕ, ◌+◌, ◌-◌, ◌<◌, ◌≤◌, inl, inr, false, cond, ◌||◌, true≢false, Option, None, Some, List, [], ◌∷◌, ◌++◌, length, set, slice_index, IsTrue, IsSome, refl, sym, ap, ap₂, subst, ◌∙◌, arith}
 use Rattle.sg_base.specs.declared.ids.LinkId.{LinkId}
 use Rattle.sg_base.specs.MarkSet.{is_in}
@@ -96,7 +96,7 @@ turned s new key serial slot is by = record {
   rates = λ set. absurd (true≢false (sym set ∙ by.unsettled));
 }
 
--- ---- what is told
+-- ---- what contracts see
 module _ (s new : State) (key serial : ℕ) (slot : Option Live) (is : IsKept s) (by : Turns s new key serial slot) where
   pub told_other : {Y : Type 0} (tell other : ℕ → Live → Y) (n : ℕ) → n ≢ serial → ((k : ℕ) (live : Live) → k ≢ key → slot_at s.slots k ≡ Some live → other k live ≡ tell k live) → told_at other new.slots n ≡ told_at tell s.slots n
   told_other tell other n ne same = told_alike tell other s.slots new.slots n is.apart (turned_apart s new key serial slot is by)
@@ -142,7 +142,7 @@ module _ (s new : State) (key serial : ℕ) (slot : Option Live) (is : IsKept s)
   pub tasks_pushed : new.drawn ≡ s.drawn + 1 → serial ≡ s.drawn + 1 → told_by (task_of new) new ≡ told_by (task_of s) s ++ told_at (task_of new) new.slots serial ∷ []
   tasks_pushed drawn is_next = told_pushed (task_of s) (task_of new) drawn is_next tasks_elsewhere
 
-  -- nothing is due at the serial
+  -- nothing completes at the activity id
   not_now : passes is_so (told_at (is_now new) new.slots serial) ≡ false
   not_now = cases slot refl
     where
@@ -156,7 +156,7 @@ module _ (s new : State) (key serial : ℕ) (slot : Option Live) (is : IsKept s)
   pub due_pushed : new.drawn ≡ s.drawn + 1 → serial ≡ s.drawn + 1 → serials is_so 1 (told_by (is_now new) new) ≡ serials is_so 1 (told_by (is_now s) s)
   due_pushed drawn is_next = ap (serials is_so 1) (told_pushed (is_now s) (is_now new) drawn is_next now_elsewhere) ∙ serials_push is_so 1 (told_by (is_now s) s) (told_at (is_now new) new.slots serial) not_now
 
-  -- nothing was due at the serial
+  -- nothing completed at the activity id
   pub due_still : new.drawn ≡ s.drawn → 0 < serial → serial ≤ s.drawn → passes is_so (told_at (is_now s) s.slots serial) ≡ false → serials is_so 1 (told_by (is_now new) new) ≡ serials is_so 1 (told_by (is_now s) s)
   due_still drawn from to nothing =
       ap (serials is_so 1) (due_set drawn from to)

@@ -70,7 +70,7 @@ held_state s key live runs ended = record s {
   settled = false;
 }
 
--- what begins under a key and a serial
+-- what begins under a key and an activity id
 pub record Begins (s : State) (drawn key : ℕ) (live : Live) (keys : List (Option Key)) : Type 0 where
   pub key_in : key < length s.slots
   pub from : 0 < live.serial
@@ -170,7 +170,7 @@ time_turns s drawn key live ways is b free empty rate ways_same placed counted =
     others : (k : ℕ) → k ≢ key → slot_at (set s.slots key (Some live)) k ≡ slot_at s.slots k
     others k ne = set_there s.slots key k (Some live) ne
 
--- what becomes of the flows as an activity is done
+-- what happens to the flows as an activity is done
 pub data Went (s : State) (live : Live) (runs : List (Option RunningFlow)) : Type 0 where
   with_flow : IsTrue (takes_share live.kind) → runs ≡ set s.runs live.flow None → Went s live runs
   without : takes_share live.kind ≡ false → runs ≡ s.runs → Went s live runs
@@ -265,7 +265,7 @@ left_kept kept rate stamp now e = ap (λ r. kept - r * (now - stamp)) e ∙ none
     none : (n : ℕ) → kept - 0 * n ≡ kept
     none n = omega arith
 
--- an execution that is held goes on
+-- a suspended execution is resumed
 pub resumed_under : (s : State) (key : ℕ) (old live : Live) (runs : List (Option RunningFlow)) (by_flow : List ℕ) → IsKept s → slot_at s.slots key ≡ Some old → old.kind ≡ phase.Kept →
     live ≡ record old { kind = phase.Exec; stamp = s.date; rate = 0; flow = live.flow } →
     Turns s (begun_state s s.drawn key live s.ways s.keys runs by_flow) key live.serial (Some live) → under_of (begun_state s s.drawn key live s.ways s.keys runs by_flow) ≡ with_task old.serial (Some (rekinded phase.Exec (task_of s key old))) (under_of s)
@@ -292,7 +292,7 @@ ended_filled s key live full = ap (λ o. s.ended ++ option_to_list o) (sym (fill
 pub ended_unfilled : (s : State) (key : ℕ) (live : Live) → takes_share live.kind ≡ false → s.ended ≡ s.ended ++ option_to_list (flow_in s.capacities (Some (task_of s key live)))
 ended_unfilled s key live empty = sym (append-nil s.ended) ∙ ap (λ o. s.ended ++ option_to_list o) (sym (unfilled_flow s.capacities (task_of s key live) empty))
 
--- ---- an execution is held
+-- ---- an execution is suspended
 pub held_turns : (s : State) (key : ℕ) (old live : Live) (ended : List Flow) → IsKept s → slot_at s.slots key ≡ Some old → IsTrue (takes_share old.kind) → key < length s.slots → key < length s.keys → live.serial ≡ old.serial → live.stamp ≡ s.date → takes_share live.kind ≡ false →
     IsHeld (held_state s key live (set s.runs old.flow None) ended) key live → Turns s (held_state s key live (set s.runs old.flow None) ended) key live.serial (Some live)
 held_turns s key old live ended is at full key_in keys_in serial stamp empty held = record {
@@ -342,7 +342,7 @@ held_under s key old live runs ended is at exec live_is ended_is by =
     ∙ ap₂ (λ n t. with_task n (Some t) (under_of s)) serial (ap (task_from s.date (links_at s.ways key)) live_is ∙ place)
 
 -- ---- what begins
--- the next serial begins
+-- the next activity id begins
 pub new_begins : (s : State) (key : ℕ) (live : Live) → IsKept s → key < length s.slots → slot_at s.slots key ≡ None → live.serial ≡ s.drawn + 1 → live.stamp ≡ s.date → live.kept ≤ 10 ^ 24 → live.bytes ≤ 10 ^ 15 → IsPriority live.weight → Begins s (s.drawn + 1) key live s.keys
 new_begins s key live is within free serial stamp small bytes weighs = record {
   key_in = within;
@@ -360,7 +360,7 @@ new_begins s key live is within free serial stamp small bytes weighs = record {
   others = λ k ne. refl;
 }
 
--- a serial begins that was drawn, and isn't under way
+-- an activity begins whose id was drawn, and which isn't running
 pub idle_begins : (s : State) (key : ℕ) (live : Live) → IsKept s → key < length s.slots → slot_at s.slots key ≡ None → 0 < live.serial → live.serial ≤ s.drawn → told_at (task_of s) s.slots live.serial ≡ None → live.stamp ≡ s.date → live.kept ≤ 10 ^ 24 → live.bytes ≤ 10 ^ 15 → IsPriority live.weight →
     Begins s s.drawn key live s.keys
 idle_begins s key live is within free from to idle stamp small bytes weighs = record {
@@ -400,7 +400,7 @@ flow_begins s key old live is at latency within keys_in serial stamp kept bytes 
       others = λ k ne. set_there s.keys key k None ne;
     }
 
--- one that is held is never due
+-- a suspended execution never completes
 pub undated_kept : (s : State) (key : ℕ) (live : Live) → IsKept s → slot_at s.slots key ≡ Some live → live.kind ≡ phase.Kept → key_at s.keys key ≡ None
 undated_kept s key live is at held = (is.each key live at).dated ∙ undue (is_in key s.fresh) live.kind held
   where
@@ -411,7 +411,7 @@ undated_kept s key live is at held = (is.each key live at).dated ∙ undue (is_i
     undue true kind e = refl
     undue false kind e = ap key_by e
 
--- one that is held goes on
+-- a suspended execution is resumed
 pub resumed_begins : (s : State) (key : ℕ) (old live : Live) → IsKept s → slot_at s.slots key ≡ Some old → old.kind ≡ phase.Kept → key < length s.slots → live.serial ≡ old.serial → live.stamp ≡ s.date → live.kept ≡ old.kept → live.bytes ≡ old.bytes → live.weight ≡ old.weight → Begins s s.drawn key live s.keys
 resumed_begins s key old live is at held within serial stamp kept bytes weight =
     let h = is.each key old at in

@@ -9,9 +9,9 @@ use Rattle.sg_lives.specs.declared.kinds.Phase.{Phase}
 use Rattle.sg_activity.specs.Links.{machines}
 use Rattle.sg_activity.specs.Stamp.{Stamp, stamped, anew, all_rerated}
 use Rattle.sg_activity.specs.Task.{Task, Way, task_at}
-use Rattle.sg_activity.specs.Underway.{Underway, next_in, due_in, later, drawn, started, begun, ended, settled, given_up, held, gone_on, hits, is_computing, is_kept, nothing_on, rate}
+use Rattle.sg_activity.specs.Underway.{Underway, next_in, due_in, later, with_next_serial, started, begun, ended, with_rates_updated, given_up, held, gone_on, hits, is_computing, is_kept, nothing_on, rate}
 
--- What is under way, the serials that are due and not ended yet, whether the rates are up to date, room for so many starts, and by serial the stamp of the phase that is under way, or nothing.
+-- The running activities, the ids that complete now and haven't ended yet, whether the rates are up to date, room for so many starts, and by id the stamp of the running phase, or nothing.
 pub record Doing : Type 0 where
   pub under : Underway
   pub due : List ℕ
@@ -29,14 +29,14 @@ idle_on hosts links = record {
   stamps = [];
 }
 
--- a serial is drawn
+-- an activity id is drawn
 abbrev pub drawn_in : Doing → Doing
 drawn_in doing = record doing {
-  under = drawn doing.under;
+  under = with_next_serial doing.under;
   stamps = doing.stamps ++ None ∷ [];
 }
 
--- a phase begins under the next serial
+-- a phase begins under the next activity id
 abbrev pub started_in : Task → Doing → Doing
 started_in task doing = record doing {
   under = started task doing.under;
@@ -45,7 +45,7 @@ started_in task doing = record doing {
   stamps = doing.stamps ++ Some (stamped doing.under.date task) ∷ [];
 }
 
--- a phase begins under this serial
+-- a phase begins under this activity id
 abbrev pub begun_in : ℕ → Task → Doing → Doing
 begun_in serial task doing = record doing {
   under = begun serial task doing.under;
@@ -54,20 +54,20 @@ begun_in serial task doing = record doing {
   stamps = anew serial (begun serial task doing.under) doing.stamps;
 }
 
--- The rates are up to date. What was due and hasn't ended is due again at the next date that is gone to.
+-- The rates are up to date. A phase that completed and hasn't ended completes again at the next date reached.
 abbrev pub settled_in : Doing → Doing
 settled_in doing = record doing {
-  under = settled doing.under;
+  under = with_rates_updated doing.under;
   due = [];
   settled = true;
   stamps = all_rerated doing.under doing.stamps;
 }
 
--- so many nanoseconds later those whose time this is are due, and no stamp is another
+-- so many nanoseconds later the phases whose time this is complete, and no stamp changed
 abbrev pub later_in : ℕ → Doing → Doing
 later_in span doing = record doing { under = later span doing.under; due = due_in span doing.under }
 
--- the first of those due has ended
+-- the first phase that completes now has ended
 abbrev pub ended_first : List ℕ → Doing → Doing
 ended_first [] doing = doing
 ended_first (serial ∷ more) doing = record doing {
@@ -80,19 +80,19 @@ ended_first (serial ∷ more) doing = record doing {
 abbrev pub ended_in : Doing → Doing
 ended_in doing = ended_first doing.due doing
 
--- What is under way changes so, and the rates are not up to date.
+-- The running activities change so, and the rates are not up to date.
 abbrev pub set_in : (Underway → Underway) → Doing → Doing
 set_in change doing = record doing { under = change doing.under; settled = false }
 
--- Something goes on or off, which changes no rate.
+-- Something is turned on or off, which changes no rate.
 abbrev pub switched_in : (Underway → Underway) → Doing → Doing
 switched_in change doing = record doing { under = change doing.under }
 
--- the serials without this one
+-- the activity ids without this one
 abbrev pub without : ℕ → List ℕ → List ℕ
 without serial serials = filter (λ other. not (other == serial)) serials
 
--- the activity of this serial is given up, and isn't due any more
+-- the activity of this id is given up, and no longer completes
 abbrev pub gave_up : ℕ → Doing → Doing
 gave_up serial doing = record doing {
   under = given_up serial doing.under;
@@ -101,7 +101,7 @@ gave_up serial doing = record doing {
   stamps = anew serial (given_up serial doing.under) doing.stamps;
 }
 
--- the execution of this serial is held, and isn't due any more
+-- the execution of this activity id is suspended, and no longer completes
 abbrev pub held_in : ℕ → Doing → Doing
 held_in serial doing = record doing {
   under = held serial doing.under;
@@ -110,7 +110,7 @@ held_in serial doing = record doing {
   stamps = anew serial (held serial doing.under) doing.stamps;
 }
 
--- the one that is held goes on
+-- the suspended execution is resumed
 abbrev pub went_on_in : ℕ → Doing → Doing
 went_on_in serial doing = record doing {
   under = gone_on serial doing.under;
@@ -119,7 +119,7 @@ went_on_in serial doing = record doing {
   stamps = anew serial (gone_on serial doing.under) doing.stamps;
 }
 
--- this serial is the first of those that use something that is off
+-- this activity id is the first of those that use something that is off
 pub record IsHit (doing : Doing) (serial : ℕ) : Type 0 where
   pub rest : List ℕ
   pub first : hits doing.under ≡ serial ∷ rest
@@ -135,24 +135,24 @@ pub record MakesRoom (n : ℕ) (old new : Doing) (done : Result Unit Memory) : T
   pub kept : new ≡ record old { room = new.room }
 
 -- ---- what is asked for
--- there is room for a start, and serials are left
+-- there is room for a start, and activity ids remain
 pub record CanStart (doing : Doing) : Type 0 where
   pub room : 0 < doing.room
   pub few : length doing.under.tasks < 10 ^ 9
 
--- there is room for that of this serial, which was drawn, and under which nothing is under way
+-- there is room for the activity of this id, which was drawn, and which isn't running
 pub record CanBegin (doing : Doing) (serial : ℕ) : Type 0 where
   pub from : 0 < serial
   pub to : serial ≤ length doing.under.tasks
   pub idle : task_at doing.under.tasks serial ≡ None
   pub room : 0 < doing.room
 
--- an activity of this serial is under way
+-- an activity of this id is running
 pub record IsUnderWay (doing : Doing) (serial : ℕ) : Type 0 where
   pub from : 0 < serial
   pub under_way : IsSome (task_at doing.under.tasks serial)
 
--- it is an execution that goes on
+-- it is an execution that isn't suspended
 pub record IsComputing (doing : Doing) (serial : ℕ) : Type 0 where
   pub from : 0 < serial
   pub computes : IsTrue (is_computing doing.under serial)
@@ -163,7 +163,7 @@ pub record CanGoOn (doing : Doing) (serial : ℕ) : Type 0 where
   pub held : IsTrue (is_kept doing.under serial)
   pub room : 0 < doing.room
 
--- the way over these links, from one host to another
+-- the route over these links, from one host to another
 abbrev pub way_of : List LinkId → ℕ → ℕ → Way
 way_of links sender receiver = record { links = links; sender = sender; receiver = receiver }
 
@@ -178,7 +178,7 @@ pub record IsTransfer (under : Underway) (way : Way) (lasts amount : ℕ) : Type
   pub latency : lasts ≤ 10 ^ 20
   pub bytes : IsAmount amount
 
--- this phase is the first of those due
+-- this phase is the first that completes now
 pub record IsDue (doing : Doing) (phase : Phase) : Type 0 where
   pub rest : List ℕ
   pub first : doing.due ≡ phase.serial.0 ∷ rest
@@ -188,7 +188,7 @@ pub record IsDue (doing : Doing) (phase : Phase) : Type 0 where
   pub from : 0 < phase.serial.0
   pub to : phase.serial.0 ≤ length doing.under.tasks
 
--- the next phase is due at this date
+-- the next phase completes at this date
 pub record IsNext (doing : Doing) (date : ℕ) : Type 0 where
   pub from : doing.under.date ≤ date
   pub in_time : next_in doing.under ≡ Some (date - doing.under.date)
@@ -199,13 +199,14 @@ abbrev pub IsUpTo : ℕ → Option ℕ → Type 0
 IsUpTo span None = Unit {0}
 IsUpTo span (Some time) = span ≤ time
 
--- What is left of a phase follows from its stamp, which is of now or of an earlier date, and once the rates are up to date its rate is the stamp's.
+-- The remaining work of a phase follows from its stamp, which is of now or of an earlier date; once the rates are up to date its rate is the
+-- stamp's.
 pub record IsStamp (doing : Doing) (task : Task) (stamp : Stamp) : Type 0 where
   pub from : stamp.date ≤ doing.under.date
   pub left : task.left ≡ stamp.left - stamp.rate * (doing.under.date - stamp.date)
   pub rate : IsTrue doing.settled → rate doing.under task ≡ stamp.rate
 
--- each phase under way has its stamp
+-- each running phase has its stamp
 abbrev pub HaveStamps : Doing → Type 0
 HaveStamps doing =
     (serial : ℕ) (task : Task) → 0 < serial → serial ≤ length doing.under.tasks →

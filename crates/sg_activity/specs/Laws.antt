@@ -14,7 +14,7 @@ asked_on capacities host None = None
 asked_on capacities host (Some task) =
     if loads host task then Some (flow_of capacities task) else None
 
--- what all executions ask of a host, by serial
+-- what all executions ask of a host, by activity id
 unfoldable pub asked_of : Underway → ℕ → List Flow
 asked_of under host = filter_map (asked_on under.capacities host) under.tasks
 
@@ -23,7 +23,7 @@ pub record IsHostOf (under : Underway) (host : ℕ) : Type 0 where
   pub exists : host < length under.capacities.hosts
   pub limited : HaveLimits (flows under.capacities under.tasks)
 
--- The host is the same in both, as on as in the other, and the same executions take shares of it. Whatever else is under way may differ.
+-- The host is the same in both, as on as in the other, and the same executions take shares of it. Whatever else is running may differ.
 pub record IsSameHost (past under : Underway) (host : ℕ) : Type 0 where
   pub offers : host_at under.capacities.hosts host ≡ host_at past.capacities.hosts host
   pub on : is_off under.on.hosts host ≡ is_off past.on.hosts host

@@ -31,13 +31,15 @@ all_on capacities = record {
   links = map (λ _. true) capacities.links;
 }
 
+-- whether the host or link of a number is off; one that isn't there is on
 abbrev pub is_off : List Bool → ℕ → Bool
 is_off on number = not (slice_index_or on number true)
 
+-- the bandwidth of each link, in bytes a second
 abbrev pub bandwidths_of : List LinkCap → List ℕ
 bandwidths_of links = map (λ (link : LinkCap). link.bandwidth) links
 
--- The resources are the hosts, and behind them the links. A FATPIPE link has a number there like any other, but no flow uses it.
+-- The resources are the hosts, and after them the links. A FATPIPE link has a number there like any other, but no flow uses it.
 abbrev pub capacities_of : Capacities → List ℕ
 capacities_of capacities = offers_of capacities.hosts ++ bandwidths_of capacities.links
 
@@ -49,6 +51,7 @@ bound_of_link link = if link.fatpipe then Some link.bandwidth else None
 abbrev pub cap_at : List LinkCap → ℕ → LinkCap
 cap_at links number = slice_index_or links number (record { bandwidth = 0; fatpipe = false })
 
+-- the link with this identifier: its bandwidth, and whether it is FATPIPE
 abbrev pub link_at : List LinkCap → LinkId → LinkCap
 link_at links link = cap_at links link.0
 
@@ -58,19 +61,19 @@ route_bound links [] = None
 route_bound links (link ∷ route) =
     sooner (bound_of_link (link_at links link)) (route_bound links route)
 
--- the numbers of the links that the flows of a route share with others, where so many resources stand in front of the links
+-- the numbers of the links that the flows of a route share with others, if so many resources stand in front of the links
 abbrev pub shared_of : ℕ → List LinkCap → List LinkId → List ℕ
 shared_of hosts links route =
     map (λ link. hosts + link.0) (filter (λ link. not (link_at links link).fatpipe) route)
 
--- the same, but for the speed of a host
+-- the same, except for the speed of a host
 abbrev pub at_speed : ℕ → ℕ → Capacities → Capacities
 at_speed host speed capacities = record capacities {
   hosts = slice_set capacities.hosts host
       (record (host_at capacities.hosts host) { speed = speed });
 }
 
--- the same, but for the bandwidth of a link
+-- the same, except for the bandwidth of a link
 abbrev pub at_bandwidth : ℕ → ℕ → Capacities → Capacities
 at_bandwidth link bandwidth capacities = record capacities {
   links = slice_set capacities.links link

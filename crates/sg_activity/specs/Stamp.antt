@@ -11,7 +11,7 @@ pub record Stamp : Type 0 where
   pub date : ℕ
   pub rate : ℕ
 
--- the stamp of a phase that begins at this date, is held or goes on: no share was given to it yet
+-- the stamp of a phase that begins, is suspended or resumed at this date: it has no share yet
 abbrev pub stamped : ℕ → Task → Stamp
 stamped date task = record {
   left = task.left;
@@ -19,26 +19,27 @@ stamped date task = record {
   rate = if is_filled task then 0 else pace task.kind;
 }
 
--- by serial the stamps, where the phase of this serial alone is another now
+-- by activity id the stamps, if only the phase of this id changed
 abbrev pub anew : ℕ → Underway → List (Option Stamp) → List (Option Stamp)
 anew serial under stamps =
     slice_set stamps (serial - 1)
     (option_map (stamped under.date) (task_at under.tasks serial))
 
--- The stamp once the rates are up to date. Only of what takes a share, and has another rate now, it is another: what is left now.
+-- The stamp once the rates are up to date. It changes only if the phase takes a share and has another rate now: to the remaining
+-- work now.
 abbrev pub rerated : Underway → Task → Stamp → Stamp
 rerated under task stamp =
     if is_filled task && not (rate under task == stamp.rate)
     then record { left = task.left; date = under.date; rate = rate under task }
     else stamp
 
--- that of the phase under a serial
+-- that of the phase under an activity id
 abbrev pub rerated_at : Underway → List (Option Stamp) → ℕ → Option Stamp
 rerated_at under stamps serial =
     option_and_then (λ task.
     option_map (rerated under task) (slice_index_or stamps (serial - 1) None))
     (task_at under.tasks serial)
 
--- those of all serials
+-- those of all activity ids
 abbrev pub all_rerated : Underway → List (Option Stamp) → List (Option Stamp)
 all_rerated under stamps = listed (length under.tasks) (λ i. rerated_at under stamps (i + 1))

@@ -1,4 +1,4 @@
--- Phases: what goes on and where, what it asks for, and what follows it.
+-- Phases: their kind and place, what they ask for, and what follows them.
 use Rattle.std.specs.Prelude.{ℕ, ◌-◌, ◌*◌, ◌||◌, Bool, false, Option, None, Some, if◌then◌else◌, List, [], ◌∷◌, filter_map, length, slice_index_or}
 use Rattle.std.specs.List.{list_any}
 use Rattle.sg_base.specs.declared.ids.LinkId.{LinkId}
@@ -16,13 +16,13 @@ pub record Way : Type 0 where
   pub sender : ℕ
   pub receiver : ℕ
 
--- where a phase goes on: a sleep nowhere, an execution on its host, a latency and a flow over their way
+-- the place of a phase: nowhere for a sleep, its host for an execution, its route for a latency and a flow
 pub data Place : Type 0 where
   nowhere : Place
   on_host : ℕ → Place
   over : Way → Place
 
--- What goes on, and how much of it is left: unit-nanoseconds of an execution or a flow, nanoseconds of a sleep or a latency. Where it goes on; its weight among those that share with it; a bound of its own, where it has one; how many bytes a communication has.
+-- The kind of a phase, and how much of it remains: unit-nanoseconds of an execution or a flow, nanoseconds of a sleep or a latency. Its place; its weight among those that share with it; a bound of its own, if it has one; how many bytes a communication has.
 pub record Task : Type 0 where
   pub kind : PhaseKind
   pub left : ℕ
@@ -42,6 +42,7 @@ exec_of host flops priority = record {
   bytes = 0;
 }
 
+-- the one phase of a sleep of this many nanoseconds, which uses no resource
 abbrev pub timer_of : ℕ → Task
 timer_of ns = record {
   kind = phase.Timer;
@@ -52,7 +53,7 @@ timer_of ns = record {
   bytes = 0;
 }
 
--- a communication over a way lets its latency pass first; its bytes flow at no more than its bound
+-- a communication over a route lets its latency pass first; its bytes flow at no more than its bound
 abbrev pub comm_of : Way → ℕ → ℕ → Option ℕ → Task
 comm_of way latency bytes bound = record {
   kind = phase.Latency;
@@ -64,7 +65,8 @@ comm_of way latency bytes bound = record {
 }
 
 -- ---- what a phase asks for
--- An execution uses its host, and gets at most the host's speed. A flow uses the SHARED links of its way, and gets at most the bandwidth of each FATPIPE link on it, as these are now. None gets more than its own bound.
+-- An execution uses its host, and gets at most the host's speed. A flow uses the SHARED links of its route, and gets at most the bandwidth of each FATPIPE link on it, as these are now. None gets more than its own
+-- bound.
 abbrev pub flow_at : Capacities → Task → Place → Flow
 flow_at capacities task nowhere = flow [] task.weight task.bound
 flow_at capacities task (on_host host) =
@@ -74,11 +76,12 @@ flow_at capacities task (over way) =
     flow (shared_of (length capacities.hosts) capacities.links way.links) task.weight
     (sooner (route_bound capacities.links way.links) task.bound)
 
+-- what a phase asks of the solver at its place: its uses, its weight and its bound
 abbrev pub flow_of : Capacities → Task → Flow
 flow_of capacities task = flow_at capacities task task.place
 
 -- ---- what is off
--- whether a link of a way is off, or a host at an end of it
+-- whether a link of a route is off, or a host at an end of it
 abbrev pub is_cut : Switches → Way → Bool
 is_cut on way =
     list_any (λ link. is_off on.links link.0) way.links
@@ -90,13 +93,16 @@ uses_off on nowhere = false
 uses_off on (on_host host) = is_off on.hosts host
 uses_off on (over way) = is_cut on way
 
+-- whether a phase uses a host or link that is off, and so fails
 abbrev pub is_hit : Switches → Task → Bool
 is_hit on task = uses_off on task.place
 
 -- ---- what takes shares
+-- whether the solver gives a phase a share: it is a flow or an execution
 abbrev pub is_filled : Task → Bool
 is_filled task = takes_share task.kind
 
+-- what an activity asks of the solver now; none: it takes no share
 abbrev pub flow_in : Capacities → Option Task → Option Flow
 flow_in capacities None = None
 flow_in capacities (Some task) = if is_filled task then Some (flow_of capacities task) else None
@@ -106,21 +112,24 @@ unfoldable pub flows : Capacities → List (Option Task) → List Flow
 flows capacities tasks = filter_map (flow_in capacities) tasks
 
 -- ---- what follows
--- What follows once a phase is over: after a latency the bytes flow, and after any other phase the activity is done.
+-- What follows once a phase completes: after a latency the bytes flow, and after any other phase the activity is
+-- done.
 abbrev pub next_phase : PhaseKind → Task → Option Task
 next_phase phase.Latency task =
     Some (record task { kind = phase.Flow; left = task.bytes * 1000000000 })
 next_phase other task = None
 
+-- the phase that follows the one that was running; none: the activity is done
 abbrev pub phase_after : Option Task → Option Task
 phase_after None = None
 phase_after (Some task) = next_phase task.kind task
 
--- the phase under a serial, if there is one under way
+-- the running phase under an activity id, if there is one
 abbrev pub task_at : List (Option Task) → ℕ → Option Task
 task_at tasks serial = slice_index_or tasks (serial - 1) None
 
--- ---- executions that are held
+-- ---- suspended executions
+-- whether the kind of a phase passes the test
 abbrev pub of_kind : (PhaseKind → Bool) → Task → Bool
 of_kind test task = test task.kind
 

@@ -1,4 +1,4 @@
--- The part of the world that `Activities` keeps: when its phases are due, and how it changes.
+-- The part of the world that `Activities` keeps: when its phases complete, and how it changes.
 use Rattle.std.specs.Prelude.{ℕ, ◌+◌, ◌-◌, ◌*◌, ◌==◌, ◌++◌, ◌||◌, ◌&&◌, not, Bool, true, false, Option, None, Some, is_some, option_map, option_to_list, if◌then◌else◌, List, [], ◌∷◌, filter_map, length, map, replicate, slice_index, slice_index_or, slice_set}
 use Rattle.std.specs.Int.{div_ceil}
 use Rattle.std.specs.List.{list_any}
@@ -8,24 +8,24 @@ use Rattle.sg_lazy.specs.RunningFlow.{RunningFlow, is_same_bound}
 use Rattle.sg_lazy.specs.Work.{work}
 use Rattle.sg_activity.specs.Hosts.{host_at, offer_of}
 use Rattle.sg_activity.specs.Links.{Capacities, Switches, all_on, capacities_of, is_off, at_speed, at_bandwidth}
-use Rattle.sg_lives.specs.Slots.{soonest, passes, serials, is_at, listed}
+use Rattle.sg_lives.specs.Slots.{soonest, passes, serials, is_over_after, listed}
 use Rattle.sg_lives.specs.declared.kinds.PhaseKind.{PhaseKind}
 use Rattle.sg_lives.specs.declared.kinds.PhaseKind.TheVariants as phase
 use Rattle.sg_activity.specs.Power.{load_by, power_in}
 use Rattle.sg_activity.specs.Task.{Task, is_filled, flow_in, flow_of, flows, is_hit, phase_after, task_at, of_kind, rekinded}
 use Rattle.sg_lives.specs.Kinds.{goes_by, pace, wait_by, is_exec, is_held}
 
--- What changed since the rates were brought up to date: by serial whether the phase that is under way began, or has another bound; what those asked for that ended; and the numbers of the resources whose capacity changed.
+-- What changed since the rates were brought up to date: by activity id whether the running phase began, or has another bound; what those asked for that ended; and the numbers of the resources whose capacity changed.
 pub record Marks : Type 0 where
   pub changed : List Bool
   pub ended : List Flow
   pub resources : List ℕ
 
--- nothing changed, of so many serials
+-- nothing changed, of so many activity ids
 abbrev pub no_marks : ℕ → Marks
 no_marks drawn = record { changed = replicate drawn false; ended = []; resources = [] }
 
--- The date, the hosts and links as they are now and which of them are on, by serial from 1 on the phase that is under way, or nothing, what changed since the rates were brought up to date, and by host the energy that it used, in milliwatt-nanoseconds.
+-- The date, the hosts and links as they are now and which of them are on, by activity id from 1 on the running phase, or nothing, what changed since the rates were brought up to date, and by host the energy that it used, in milliwatt-nanoseconds.
 pub record Underway : Type 0 where
   pub date : ℕ
   pub capacities : Capacities
@@ -45,12 +45,13 @@ nothing_on capacities = record {
   energy = replicate (length capacities.hosts) 0;
 }
 
--- whether something is under way
+-- whether an activity is running
 abbrev pub is_running : Underway → Bool
 is_running under = list_any (passes (of_kind goes_by)) under.tasks
 
 -- ---- how much a change touches
--- What runs under a serial and takes shares, and whether it began, or its bound changed, since the rates were brought up to date.
+-- The flow of an activity id that takes shares, and whether it began, or its bound changed, since the rates were brought up to
+-- date.
 abbrev pub running_under : Underway → ℕ → Option RunningFlow
 running_under under serial =
     option_map (λ flow. record {
@@ -60,16 +61,16 @@ running_under under serial =
       marked = slice_index_or under.marks.changed (serial - 1) false;
     }) (flow_in under.capacities (task_at under.tasks serial))
 
--- all that runs and takes shares, by serial
+-- all that runs and takes shares, by activity id
 abbrev pub runnings : Underway → List (Option RunningFlow)
 runnings under = listed (length under.tasks) (λ i. running_under under (i + 1))
 
--- at how many uses of hosts and links may be looked to bring the rates up to date
+-- how many visits to uses of hosts and links may be needed to bring the rates up to date
 unfoldable pub work_of : Underway → ℕ
 work_of under =
     work (filter_map (λ slot. slot) (runnings under)) under.marks.ended under.marks.resources
 
--- ---- when phases are due
+-- ---- when phases complete
 -- units, or nanoseconds, in a nanosecond
 unfoldable pub rate : Underway → Task → ℕ
 rate under task =
@@ -78,21 +79,22 @@ rate under task =
     (flow_of under.capacities task)
     else pace task.kind
 
--- in how many nanoseconds nothing is left; none: never
+-- in how many nanoseconds no work remains; none: never
 abbrev pub wait : ℕ → ℕ → Option ℕ
 wait rate left =
     if left == 0 then Some 0 else if rate == 0 then None else Some (div_ceil left rate)
 
+-- in how many nanoseconds a phase completes at its present rate; none: never
 abbrev pub wait_in : Underway → Task → Option ℕ
 wait_in under task = wait_by task.kind (wait (rate under task) task.left)
 
--- in how many nanoseconds the next phase is due; none: never
+-- in how many nanoseconds the next phase completes; none: never
 abbrev pub next_in : Underway → Option ℕ
 next_in under = soonest (wait_in under) under.tasks
 
--- the serials of the phases that are due in just so many nanoseconds
+-- the ids of the activities whose phases complete in exactly so many nanoseconds
 abbrev pub due_in : ℕ → Underway → List ℕ
-due_in span under = serials (λ task. is_at (wait_in under task) span) 1 under.tasks
+due_in span under = serials (λ task. is_over_after (wait_in under task) span) 1 under.tasks
 
 -- the phase, so many nanoseconds later: each of them took as much as the rate, as far as there was something left
 abbrev pub passed : Underway → ℕ → Task → Task
@@ -122,7 +124,7 @@ later span under = record under {
 }
 
 -- ---- how the activities change
--- what changed, once a phase of this serial makes way for another
+-- what changed, once another phase replaces that of this activity id
 abbrev pub marked : Capacities → ℕ → Option Task → Option Task → Marks → Marks
 marked capacities serial before after marks = record {
   changed =
@@ -132,45 +134,45 @@ marked capacities serial before after marks = record {
   resources = marks.resources;
 }
 
--- the one place at which the phase of a serial changes
+-- the one place at which the phase of an activity id changes
 abbrev pub with_task : ℕ → Option Task → Underway → Underway
 with_task serial task under = record under {
   tasks = slice_set under.tasks (serial - 1) task;
   marks = marked under.capacities serial (task_at under.tasks serial) task under.marks;
 }
 
--- the next serial is drawn, and nothing is under way there yet
-abbrev pub drawn : Underway → Underway
-drawn under = record under {
+-- the next activity id is drawn, and nothing is running there yet
+abbrev pub with_next_serial : Underway → Underway
+with_next_serial under = record under {
   tasks = under.tasks ++ None ∷ [];
   marks = record under.marks { changed = under.marks.changed ++ false ∷ [] };
 }
 
--- the next serial is of this phase
+-- the next activity id has this phase
 abbrev pub started : Task → Underway → Underway
 started task under = record under {
   tasks = under.tasks ++ Some task ∷ [];
   marks = record under.marks { changed = under.marks.changed ++ true ∷ [] };
 }
 
--- the activity of this serial, which was drawn before, begins with this phase
+-- the activity of this id, which was drawn before, begins with this phase
 abbrev pub begun : ℕ → Task → Underway → Underway
 begun serial task under = with_task serial (Some task) under
 
--- the phase of this serial ends, and what follows it begins
+-- the phase of this activity id ends, and what follows it begins
 abbrev pub ended : ℕ → Underway → Underway
 ended serial under = with_task serial (phase_after (task_at under.tasks serial)) under
 
 -- the rates are brought up to date
-abbrev pub settled : Underway → Underway
-settled under = record under { marks = no_marks (length under.tasks) }
+abbrev pub with_rates_updated : Underway → Underway
+with_rates_updated under = record under { marks = no_marks (length under.tasks) }
 
 -- whether a phase takes a share, and has another bound at the new capacities
 abbrev pub is_rebound : Capacities → Capacities → Task → Bool
 is_rebound old new task =
     is_filled task && not (is_same_bound (flow_of old task).bound (flow_of new task).bound)
 
--- The hosts and links are these now, and differ in this resource alone. It is marked where its capacity is another, and so is what has another bound by that.
+-- The hosts and links are these now, and differ in this resource alone. It is marked if its capacity is another, and so is what has another bound by that.
 abbrev pub with_capacities : Capacities → ℕ → Underway → Underway
 with_capacities capacities resource under = record under {
   capacities = capacities;
@@ -197,44 +199,44 @@ with_bandwidth link bandwidth under =
     (length under.capacities.hosts + link) under
 
 -- ---- what fails
--- the serials of the phases that use something that is off
+-- the activity ids of the phases that use something that is off
 abbrev pub hits : Underway → List ℕ
 hits under = serials (is_hit under.on) 1 under.tasks
 
--- a host goes on or off
+-- a host is turned on or off
 abbrev pub with_host_on : ℕ → Bool → Underway → Underway
 with_host_on host on under = record under {
   on = record under.on { hosts = slice_set under.on.hosts host on };
 }
 
--- a link goes on or off
+-- a link is turned on or off
 abbrev pub with_link_on : ℕ → Bool → Underway → Underway
 with_link_on link on under = record under {
   on = record under.on { links = slice_set under.on.links link on };
 }
 
--- the activity of this serial is given up
+-- the activity of this id is given up
 abbrev pub given_up : ℕ → Underway → Underway
 given_up serial under = with_task serial None under
 
--- ---- executions that are held
--- whether an execution is under way there, and goes on
+-- ---- suspended executions
+-- whether an execution is running there, and isn't suspended
 abbrev pub is_computing : Underway → ℕ → Bool
 is_computing under serial = passes (of_kind is_exec) (task_at under.tasks serial)
 
--- whether an execution is held there
+-- whether an execution is suspended there
 abbrev pub is_kept : Underway → ℕ → Bool
 is_kept under serial = passes (of_kind is_held) (task_at under.tasks serial)
 
--- what is under way there is a phase of this kind from now on
-abbrev pub turned : PhaseKind → ℕ → Underway → Underway
-turned kind serial under =
+-- what is running there is a phase of this kind from now on
+abbrev pub with_phase_kind : PhaseKind → ℕ → Underway → Underway
+with_phase_kind kind serial under =
     with_task serial (option_map (rekinded kind) (task_at under.tasks serial)) under
 
--- The execution of this serial is held: it keeps what is left of it.
+-- The execution of this activity id is suspended: it keeps its remaining work.
 abbrev pub held : ℕ → Underway → Underway
-held serial under = turned phase.Kept serial under
+held serial under = with_phase_kind phase.Kept serial under
 
--- the one that is held goes on
+-- the suspended execution is resumed
 abbrev pub gone_on : ℕ → Underway → Underway
-gone_on serial under = turned phase.Exec serial under
+gone_on serial under = with_phase_kind phase.Exec serial under

@@ -1,4 +1,4 @@
--- How `Activities` keeps what is under way.
+-- How `Activities` keeps what is running.
 pub mod Stamps
 pub mod Rows
 pub mod State

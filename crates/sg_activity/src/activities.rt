@@ -1,4 +1,4 @@
-//! Activities under way.
+//! Running activities.
 
 ghost use Rattle.std.specs.Prelude.{◌≡◌, ◌≢◌, ◌+◌, ◌-◌, ◌*◌, ◌<◌, ◌≤◌, ◌^◌, ◌++◌, true, None, Some, IsTrue, IfOk, OnOk, OnErr, All, AllPairs, MatchOption, [], ◌∷◌, length, map, slice_index_or};
 ghost use Rattle.sg_base.specs.declared.ids.LinkId.{LinkId};
@@ -9,13 +9,13 @@ ghost use Rattle.sg_activity.specs.Task.{comm_of, exec_of, is_cut as is_cut_spec
 ghost use Rattle.sg_activity.specs.Underway.{hits, is_computing as is_computing_spec, is_kept as is_kept_spec, is_running, load as load_spec, next_in, with_bandwidth, with_host_on, with_link_on, with_speed, work_of};
 ghost use Rattle.sg_activity.specs.Doing.{idle_on, started_in, drawn_in, begun_in, settled_in, later_in, ended_in, gave_up, held_in, went_on_in, set_in, switched_in, way_of, CanBegin, CanGoOn, CanStart, HaveStamps, IsComputing, IsDue, IsHit, IsNext, IsTransfer, IsUnderWay, IsUpTo, MakesRoom};
 
+use crate::activity_room::grow;
+use crate::activity_state::Kept;
 use crate::beginning::first_parts;
 use crate::capacities::{set_bandwidth, set_speed};
-use crate::kept::Kept;
 use crate::phases::{end_phase, first_due, go_on, hold, leave};
 use crate::power::{first_meter, load, note, set_powers};
 use crate::renewal::{renew, restamp};
-use crate::room::grow;
 use crate::routes::write_things;
 use crate::switches::{is_way_cut, note_hit, set_host_on, set_link_on};
 use sg_base::{LinkId, Marks, Memory, PointId, Serial, Steps};
@@ -27,32 +27,32 @@ use std::alloc::Global;
 use std::marker::Model;
 use std::sync::ledger::Ledger;
 
-/// The activities under way on some hosts and links: executions, sleeps and communications. Executions share their
-/// hosts and flows their links, all by one progressive filling, in which an execution weighs as much as its priority
-/// and a flow weighs 1. Each activity has the serial that it drew, counted up from 1.
+/// The running activities on some hosts and links: executions, sleeps and communications. Executions share their hosts
+/// and flows their links, all in one max-min solve, in which an execution weighs as much as its priority and a flow
+/// weighs 1. Each activity has the id that it drew, counted up from 1.
 ///
-/// A communication has two phases: first the latency of its route passes, and takes no bandwidth; then its bytes
-/// flow. It has both also where the latency is 0 or there are no bytes. A flow uses the SHARED links of its route, and
-/// is bounded by the FATPIPE links on it, and by a bound of its own where it was given one.
+/// A communication has two phases: first the latency of its route passes, and takes no bandwidth; then its bytes flow.
+/// It has both even if the latency is 0 or there are no bytes. A flow uses the SHARED links of its route. Its rate is
+/// bounded by the FATPIPE links of its route, and by a bound of its own if it has one.
 ///
-/// Contracts see the hosts and links, the date, by serial the phase that is under way or nothing, and what was left of
-/// it at which date, the serials that are due, whether the rates are up to date, and for how many starts there is room.
-/// Dates and times are in nanoseconds.
-/// What is left of an execution or a flow is in unit-nanoseconds: one of so many flops or bytes needs 10^9 times as
-/// many, and each nanosecond takes as much as the rate.
+/// Contracts see the hosts and links, the date, by activity id the running phase or nothing, and how much of it
+/// remained at which date, the ids that complete now, whether the rates are up to date, and for how many starts there
+/// is room. Dates and times are in nanoseconds.
+/// The remaining work of an execution or a flow is in unit-nanoseconds: one of n flops or bytes needs n times 10^9, and
+/// each nanosecond takes as much as the rate.
 ///
-/// An execution can be held: it keeps what is left of it, takes no share and is never due, until it goes on.
+/// An execution can be suspended: it keeps its remaining work, takes no share and never completes, until it is resumed.
 ///
 /// Each host with power uses energy as time passes, at the power that its load gives.
 ///
-/// A pass is `settle`, `next_date`, `advance_to`, and then `due` and `finish` for each phase that is due.
+/// A time advance is `settle`, `next_date`, `advance_to`, and then `due` and `finish` for each phase that completes.
 pub struct Activities {
     kept: Kept,
-    // by key the serials of the activities that use something that is off
+    // by key the ids of the activities that use something that is off
     hits: Agenda,
     // what each host used, and the power that it had last
     meter: Meter,
-    // the hosts whose power may be another since the meter was told it
+    // the hosts whose power may have changed since the meter got it
     touched: Marks,
 }
 
@@ -83,7 +83,7 @@ impl Model for Activities {
 }
 
 impl Activities {
-    /// Nothing is under way on these hosts and links, and the date is 0.
+    /// Makes the state with these hosts and links, no running activity and the date 0.
     pub fn new(alloc: Global, hosts: &[HostCap], links: &[LinkCap]) -> Result<Activities, Memory>
         requires hosts { All IsHost hosts.now }
         requires links { All IsLink links.now }
@@ -99,8 +99,8 @@ impl Activities {
         })
     }
 
-    /// Makes room for so many more starts, which then take no memory. Nothing but the room changes, also where there
-    /// is no memory, and the room doesn't shrink.
+    /// Makes room for this many more starts, which then take no memory. Only the room changes, even if memory runs out,
+    /// and the room doesn't shrink.
     pub fn reserve(&mut self, n: usize) -> Result<(), Memory>
         ensures { MakesRoom n self.old self.new result }
     {
@@ -110,13 +110,13 @@ impl Activities {
         self.grow(n)
     }
 
-    // The same, where there isn't that much room yet.
+    // Does the same, if there isn't that much room yet.
     fn grow(&mut self, n: usize) -> Result<(), Memory>
         ensures { MakesRoom n self.old self.new result }
     {
         let n = n.max(self.kept.room);
         let more = n - self.kept.room;
-        // each latency that passes is followed by a flow, over the links of its own way
+        // each latency that passes is followed by a flow, over the links of its own route
         let Some(flows) = self.kept.flows.checked_add(more) else {
             return Err(Memory);
         };
@@ -137,9 +137,9 @@ impl Activities {
         Ok(())
     }
 
-    /// Starts an execution of so many flops on a host, and answers its serial. Beside others there it gets as many
-    /// times the flops of one of priority 1 as its priority says, and at most the host's speed. It goes on as any other
-    /// where the host is off, and is told by `hit` until it is given up.
+    /// Starts an execution of this many flops on a host, and returns its activity id. Beside others on the host it gets
+    /// as many times the flops of one of priority 1 as its priority says, and at most the host's speed. It runs even
+    /// if the host is off; then `hit` returns it until it is given up.
     pub fn start_exec(&mut self, host: PointId, flops: u64, priority: u32) -> Serial
         requires host { host.0 < length self.old.under.capacities.hosts }
         requires flops { IsAmount flops }
@@ -180,7 +180,7 @@ impl Activities {
         serial
     }
 
-    /// Starts a sleep of so many nanoseconds, and answers its serial.
+    /// Starts a sleep of this many nanoseconds, and returns its activity id.
     pub fn start_timer(&mut self, ns: u64) -> Serial
         requires ns { IsTime ns }
         requires start { CanStart self.old }
@@ -211,9 +211,9 @@ impl Activities {
         serial
     }
 
-    /// Starts the communication of a serial that was drawn and isn't under way, over the links of a route, which are all
-    /// different, from one host to another. The latency passes first; then so many bytes flow, at most so many a second
-    /// as the bound says. It goes on as any other where a link or a host is off, and is told by `hit` until it is given up.
+    /// Starts the communication of an activity id that was drawn and isn't running, over the links of a route, which are
+    /// all different, from one host to another. The latency passes first; then this many bytes flow, at most as many a
+    /// second as the bound says. It runs even if a link or a host is off; then `hit` returns it until it is given up.
     pub fn start_comm(
         &mut self,
         serial: Serial,
@@ -264,8 +264,7 @@ impl Activities {
         note_hit(&mut self.hits, key, serial, cut);
     }
 
-    /// Gives each core of a host this speed, from now on. How fast its executions go is brought up to date by
-    /// `settle`.
+    /// Gives each core of a host this speed, from now on. `settle` brings the rates of its executions up to date.
     pub fn set_speed(&mut self, host: PointId, speed: u64)
         requires host { host.0 < length self.old.under.capacities.hosts }
         requires speed { speed ≤ 10 ^ 15 }
@@ -275,7 +274,7 @@ impl Activities {
         self.touched.insert(host.0 as usize);
     }
 
-    /// Gives a link this bandwidth, from now on. How fast the flows over it go is brought up to date by `settle`.
+    /// Gives a link this bandwidth, from now on. `settle` brings the rates of the flows over it up to date.
     pub fn set_bandwidth(&mut self, link: LinkId, bandwidth: u64)
         requires link { link.0 < length self.old.under.capacities.links }
         requires bandwidth { bandwidth ≤ 10 ^ 18 }
@@ -284,7 +283,7 @@ impl Activities {
         set_bandwidth(&mut self.kept, link.0 as usize, bandwidth);
     }
 
-    /// Whether a host is off.
+    /// Returns whether a host is off.
     pub fn is_host_off(&self, host: PointId) -> bool
         requires { host.0 < length self.now.under.capacities.hosts }
         ensures { result ≡ is_off self.now.under.on.hosts host.0 }
@@ -292,7 +291,7 @@ impl Activities {
         !self.kept.hosts_on[host.0 as usize]
     }
 
-    /// Whether something is off of these links and of the hosts at both ends.
+    /// Returns whether something is off of these links and of the hosts at both ends.
     pub fn is_cut(&self, links: &[LinkId], sender: PointId, receiver: PointId) -> bool
         requires links { All (λ (link : LinkId).
             link.0 < length self.now.under.capacities.links) links.now }
@@ -304,7 +303,7 @@ impl Activities {
         is_way_cut(&self.kept, links, sender.0 as usize, receiver.0 as usize)
     }
 
-    /// Puts a host on or off. What uses it goes on as it does, until it is given up.
+    /// Turns a host on or off. What uses it continues as it is, until it is given up.
     pub fn set_host_on(&mut self, host: PointId, on: bool)
         requires { host.0 < length self.old.under.capacities.hosts }
         ensures { self.new ≡ switched_in (with_host_on host.0 on) self.old }
@@ -313,7 +312,7 @@ impl Activities {
         self.touched.insert(host.0 as usize);
     }
 
-    /// Puts a link on or off. What uses it goes on as it does, until it is given up.
+    /// Turns a link on or off. What uses it continues as it is, until it is given up.
     pub fn set_link_on(&mut self, link: LinkId, on: bool)
         requires { link.0 < length self.old.under.capacities.links }
         ensures { self.new ≡ switched_in (with_link_on link.0 on) self.old }
@@ -321,7 +320,7 @@ impl Activities {
         set_link_on(&mut self.kept, &mut self.hits, link.0 as usize, on);
     }
 
-    /// The least serial of an activity that uses a host or a link that is off.
+    /// Returns the least id of an activity that uses a host or a link that is off.
     pub fn hit(&self) -> Option<Serial>
         ensures { MatchOption result (hits self.now.under ≡ [])
             (λ serial. IsHit self.now serial.0) }
@@ -332,7 +331,7 @@ impl Activities {
         }
     }
 
-    /// Gives up the activity of a serial.
+    /// Gives up the activity of an id.
     pub fn give_up(&mut self, serial: Serial)
         requires { IsUnderWay self.old serial.0 }
         ensures { self.new ≡ gave_up serial.0 self.old }
@@ -344,7 +343,7 @@ impl Activities {
         leave(&mut self.kept, &mut self.hits, key, live);
     }
 
-    /// Whether an execution is under way under a serial, and goes on.
+    /// Returns whether an execution is running under an activity id, and isn't suspended.
     pub fn is_computing(&self, serial: Serial) -> bool
         requires { 0 < serial.0 }
         ensures { result ≡ is_computing_spec self.now.under serial.0 }
@@ -355,7 +354,7 @@ impl Activities {
         }
     }
 
-    /// Whether an execution is held under a serial.
+    /// Returns whether an execution is suspended under an activity id.
     pub fn is_kept(&self, serial: Serial) -> bool
         requires { 0 < serial.0 }
         ensures { result ≡ is_kept_spec self.now.under serial.0 }
@@ -366,7 +365,7 @@ impl Activities {
         }
     }
 
-    /// Holds an execution: it keeps what is left of it, and gets nothing of its host until it goes on.
+    /// Suspends an execution: it keeps its remaining work, and gets nothing of its host until it is resumed.
     pub fn hold(&mut self, serial: Serial)
         requires { IsComputing self.old serial.0 }
         ensures { self.new ≡ held_in serial.0 self.old }
@@ -378,7 +377,7 @@ impl Activities {
         hold(&mut self.kept, key, live);
     }
 
-    /// An execution that is held goes on, with what was left of it.
+    /// Resumes a suspended execution with its remaining work.
     pub fn go_on(&mut self, serial: Serial)
         requires { CanGoOn self.old serial.0 }
         ensures { self.new ≡ went_on_in serial.0 self.old }
@@ -390,14 +389,14 @@ impl Activities {
         go_on(&mut self.kept, key, live);
     }
 
-    /// The serial that is drawn next.
+    /// Returns the activity id that is drawn next.
     pub fn next_serial(&self) -> Serial
         ensures { result.0 ≡ length self.now.under.tasks + 1 }
     {
         Serial(self.kept.drawn + 1)
     }
 
-    /// Draws the next serial, for a communication that starts once both its sides are there.
+    /// Draws the next activity id, for a communication that starts once both endpoints are there.
     pub fn take_serial(&mut self) -> Serial
         requires { length self.old.under.tasks < 10 ^ 9 }
         ensures serial { result.0 ≡ length self.old.under.tasks + 1 }
@@ -408,8 +407,8 @@ impl Activities {
         serial
     }
 
-    /// Brings the rates up to date. Only what shares hosts or links with what began and ended since is looked at:
-    /// `steps` counts the looks at uses of hosts and links.
+    /// Brings the rates up to date. It visits only what shares hosts or links with what began and ended since: `steps`
+    /// counts the visits to uses of hosts and links.
     pub fn settle<L: Ledger>(&mut self, steps: &mut Steps<L>)
         ensures settles { self.new ≡ settled_in self.old }
         ensures looks { steps.new ≤ steps.old + work_of self.old.under }
@@ -432,31 +431,31 @@ impl Activities {
         self.kept.arrived = false;
     }
 
-    /// Each phase under way has a stamp, from which what is left of it follows: so much was left at a date, and each
-    /// nanosecond took so much from then on. `advance_to` writes none of them, `settle` those of phases that began or
-    /// have another rate, and a start, an end, a hold or a going on its own.
+    /// States that each running phase has a stamp, from which its remaining work follows: so much remained at a date,
+    /// and each nanosecond took so much from then on. `advance_to` writes no stamp, `settle` those of phases that began
+    /// or have another rate, and a start, an end, a suspension or a resumption its own.
     pub fn stamps_tell(&self)
         ensures { HaveStamps self.now }
     {
         let _date = self.kept.date;
     }
 
-    /// The date.
+    /// Returns the date.
     pub fn date(&self) -> u128
         ensures { result ≡ self.now.under.date }
     {
         self.kept.date
     }
 
-    /// Whether something goes on: an execution that is held doesn't.
+    /// Returns whether some activity is running and isn't a suspended execution.
     pub fn running(&self) -> bool
         ensures { result ≡ is_running self.now.under }
     {
         !self.kept.lives.is_idle()
     }
 
-    /// The date at which the next phase is due: now where nothing is left of it, and else once its rate has taken what
-    /// is left. `None` where none ever is, since each has the rate 0 or nothing is under way.
+    /// Returns the date at which the next phase completes: now if no work remains of it, and else once its rate has
+    /// taken the rest. `None` if none ever completes, since each has the rate 0 or nothing is running.
     pub fn next_date(&self) -> Option<u128>
         requires { IsTrue self.now.settled }
         ensures { MatchOption result (next_in self.now.under ≡ None)
@@ -468,8 +467,8 @@ impl Activities {
         }
     }
 
-    /// Goes to a date, from now to that of `next_date`, or to any from now on where that is `None`: of each phase so
-    /// much is left as its rate leaves in that time, and those whose date it is are due.
+    /// Moves to a date, from now to that of `next_date`, or to any from now on if that is `None`: of each phase as much
+    /// remains as its rate leaves in that time, and those whose date it is complete.
     pub fn advance_to(&mut self, date: u128)
         requires settled { IsTrue self.old.settled }
         requires from { self.old.under.date ≤ date }
@@ -482,7 +481,7 @@ impl Activities {
         self.kept.arrived = true;
     }
 
-    /// The phase of least serial that is due and not ended yet.
+    /// Returns the phase of least activity id that completes now and hasn't ended yet.
     pub fn due(&self) -> Option<Phase>
         ensures { MatchOption result (self.now.due ≡ []) (λ phase. IsDue self.now phase) }
     {
@@ -495,7 +494,7 @@ impl Activities {
         }
     }
 
-    /// Ends the phase that `due` tells: after a latency its bytes begin to flow, and else its activity is done.
+    /// Ends the phase that `due` returns: after a latency its bytes begin to flow, and else its activity is done.
     pub fn finish(&mut self)
         requires { self.old.due ≢ [] }
         ensures { self.new ≡ ended_in self.old }
@@ -507,7 +506,7 @@ impl Activities {
         end_phase(&mut self.kept, &mut self.hits, key, live);
     }
 
-    /// What the executions of a host that go on get together, as flops a second; `None` where there is none.
+    /// Returns what the executions of a host get together, in flops a second; `None` if all are suspended or none runs.
     pub fn load(&self, host: PointId) -> Option<u64>
         requires settled { IsTrue self.now.settled }
         requires host { host.0 < length self.now.under.capacities.hosts }
@@ -516,7 +515,7 @@ impl Activities {
         load(&self.kept, host.0 as usize)
     }
 
-    /// The energy that a host used: whole joules, and the milliwatt-nanoseconds below a joule.
+    /// Returns the energy that a host used: whole joules, and the milliwatt-nanoseconds below a joule.
     pub fn energy(&self, host: PointId) -> (u128, u64)
         requires { host.0 < length self.now.under.capacities.hosts }
         ensures energy { result.0 * 10 ^ 12 + result.1

@@ -5,8 +5,8 @@ ghost use Rattle.sg_activity.specs.Hosts.{IsHost, offers_of};
 ghost use Rattle.sg_activity.specs.Links.{IsLink, bandwidths_of};
 ghost use Rattle.sg_activity.specs.kept.Whole.{AreIdle};
 
+use crate::activity_state::Kept;
 use crate::index::Index;
-use crate::kept::Kept;
 use arrayvec::ArrayVec;
 use sg_base::{Marks, Memory};
 use sg_heap::Agenda;
@@ -15,14 +15,14 @@ use sg_lives::{HostCap, LinkCap, Lives};
 use sg_maxmin::System;
 use std::alloc::Global;
 
-/// All that is kept but for the meter.
+/// All that is kept except for the meter.
 #[derive(Drop)]
 pub(crate) struct Parts {
     pub(crate) kept: Kept,
     pub(crate) hits: Agenda,
 }
 
-// Puts the bandwidths of the links behind.
+// Appends the bandwidths of the links.
 fn add_bandwidths(capacities: &mut Vec<u64>, links: &[LinkCap]) -> Result<(), Memory>
     ensures { OnOk result (capacities.new.items ≡ capacities.old.items ++ bandwidths_of links.now) }
 {
@@ -35,7 +35,7 @@ fn add_bandwidths(capacities: &mut Vec<u64>, links: &[LinkCap]) -> Result<(), Me
     Ok(())
 }
 
-// So many that are on.
+// Returns so many switches that are on.
 fn all_on(alloc: Global, n: usize) -> Result<Vec<bool>, Memory>
     ensures long { IfOk result (λ on. length on.items ≡ n) }
     ensures on { IfOk result (λ on. All (λ b. b ≡ true) on.items) }
@@ -50,7 +50,7 @@ fn all_on(alloc: Global, n: usize) -> Result<Vec<bool>, Memory>
     Ok(on)
 }
 
-// What all hosts offer, and behind it the bandwidths of the links.
+// Returns what all hosts offer, and after it the bandwidths of the links.
 fn capacities(alloc: Global, hosts: &[HostCap], links: &[LinkCap]) -> Result<Vec<u64>, Memory>
     requires hosts { All IsHost hosts.now }
     ensures { IfOk result (λ capacities. capacities.items
@@ -92,7 +92,7 @@ fn own_machines(alloc: Global, hosts: &[HostCap], links: &[LinkCap]) -> Result<M
     })
 }
 
-// Two agendas with nothing in them.
+// Makes two agendas with nothing in them.
 fn agendas(alloc: Global) -> Result<(Agenda, Agenda), Memory>
     ensures first { IfOk result (λ both. both.0 ≡ []) }
     ensures second { IfOk result (λ both. both.1 ≡ []) }
@@ -102,7 +102,7 @@ fn agendas(alloc: Global) -> Result<(Agenda, Agenda), Memory>
     Ok((first, second))
 }
 
-/// Nothing is under way on these hosts and links, and the date is 0.
+/// Makes the parts of the state with these hosts and links, no running activity and the date 0.
 pub(crate) fn first_parts(
     alloc: Global,
     hosts: &[HostCap],

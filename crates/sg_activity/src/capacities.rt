@@ -10,11 +10,11 @@ ghost use Rattle.sg_activity.specs.kept.Sound.{IsSound};
 ghost use Rattle.sg_activity.specs.kept.State.{asked_by, state_of};
 ghost use Rattle.sg_activity.specs.kept.Whole.{IsUsed};
 
-use crate::kept::Kept;
+use crate::activity_state::Kept;
 use crate::routes::{bound_of, tighter, way_of};
 use sg_lives::{HostCap, LinkCap, Live, PhaseKind, takes_share};
 
-// What bounds the activity under a key, as its host or the links of its way are now.
+// Returns what bounds the activity under a key, as its host or the links of its route are now.
 fn bound_now(kept: &Kept, key: usize, live: &Live) -> Option<u64>
     requires { IsPlacedAt kept.now key live.now }
     ensures { result ≡ (asked_by (state_of kept.now) key live.now).bound }
@@ -31,7 +31,7 @@ fn bound_now(kept: &Kept, key: usize, live: &Live) -> Option<u64>
     }
 }
 
-// The flow of the activity under a key, if it has one, gets the bound that holds now.
+// Gives the flow of the activity under a key, if it has one, the bound that holds now.
 fn update_bound(kept: &mut Kept, key: usize)
     requires key { key < length kept.old.lives.slots }
     requires flows { HasFlows kept.old }
@@ -49,7 +49,7 @@ fn update_bound(kept: &mut Kept, key: usize)
     kept.lazy.set_bound(live.flow, bound);
 }
 
-// The flows of the activities that use a thing get the bounds that hold now.
+// Gives the flows of the activities that use a thing the bounds that hold now.
 fn update_bounds(kept: &mut Kept, thing: usize)
     requires thing { thing < length kept.old.index.users }
     requires keys { All (λ key. key < length kept.old.lives.slots)
@@ -65,7 +65,7 @@ fn update_bounds(kept: &mut Kept, thing: usize)
     }
 }
 
-/// Each core of a host has this speed from now on.
+/// Gives each core of a host this speed from now on.
 pub(crate) fn set_speed(kept: &mut Kept, host: usize, speed: u64)
     requires host { host < length kept.old.hosts.items }
     requires speed { speed ≤ 10 ^ 15 }
@@ -83,7 +83,7 @@ pub(crate) fn set_speed(kept: &mut Kept, host: usize, speed: u64)
     kept.settled = false;
 }
 
-/// A link has this bandwidth from now on.
+/// Gives a link this bandwidth from now on.
 pub(crate) fn set_bandwidth(kept: &mut Kept, link: usize, bandwidth: u64)
     requires link { link < length kept.old.links.items }
     requires sound { IsSound kept.old }

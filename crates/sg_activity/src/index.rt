@@ -24,7 +24,7 @@ const NO_USES: Uses = Uses {
 };
 
 /// The things, hosts or links, that the activity under each key uses, and the keys of those that use each thing.
-/// Nothing but `reserve` takes memory.
+/// Only `reserve` takes memory.
 #[derive(Drop)]
 pub(crate) struct Index {
     chains: Chains,
@@ -65,7 +65,7 @@ fn grow_rows(rows: &mut Vec<Uses>, n: usize) -> Result<(), Memory>
     Ok(())
 }
 
-// The use under a number of these chains, counted for nobody.
+// Returns the use under a number of these chains, counted for nobody.
 fn look_from<L: Ledger>(chains: &Chains, i: usize, blank: Blank) -> Use
     requires there { IsSome (slice_index_or chains.now.uses i None) }
     requires name { blank.name ≡ L.name }
@@ -78,7 +78,7 @@ fn look_from<L: Ledger>(chains: &Chains, i: usize, blank: Blank) -> Use
 }
 
 impl Index {
-    /// There are so many things, and nothing uses them.
+    /// Makes an index of so many things, which nothing uses.
     pub(crate) fn new(alloc: Global, things: usize) -> Result<Index, Memory>
         ensures rows { IfOk result (λ index. index.rows ≡ []) }
         ensures things { IfOk result (λ index. length index.users ≡ things) }
@@ -89,7 +89,7 @@ impl Index {
         })
     }
 
-    /// Makes room for so many keys, and for so many uses more.
+    /// Makes room for so many keys, and for so many more uses.
     pub(crate) fn reserve(&mut self, keys: usize, uses: usize) -> Result<(), Memory>
         ensures wider { IsWider self.old self.new }
         ensures keys { OnOk result (keys ≤ length self.new.rows) }
@@ -99,7 +99,7 @@ impl Index {
         self.chains.reserve(uses)
     }
 
-    /// The activity under a key, which used nothing, uses these things.
+    /// Enters that the activity under a key, which used nothing, uses these things.
     pub(crate) fn enter(&mut self, key: usize, things: &[usize])
         requires key { key < length self.old.rows }
         requires idle { row_at self.old.rows key ≡ [] }
@@ -114,7 +114,7 @@ impl Index {
         };
     }
 
-    /// The activity under a key uses nothing any more.
+    /// Removes all uses of the activity under a key.
     pub(crate) fn leave(&mut self, key: usize)
         requires { key < length self.old.rows }
         ensures { IsEntered self.old self.new key [] }
@@ -124,7 +124,7 @@ impl Index {
         self.rows[key] = NO_USES;
     }
 
-    /// The first use of the activity under a key; `None` where it uses nothing.
+    /// Returns the first use of the activity under a key; `None` if it uses nothing.
     pub(crate) fn first_of(&self, key: usize) -> Option<usize>
         requires { key < length self.now.rows }
         ensures leads { Leads next_of_flow resource_of self.now.uses result
@@ -134,7 +134,7 @@ impl Index {
         self.rows[key].first
     }
 
-    /// The first use of a thing; `None` where nothing uses it.
+    /// Returns the first use of a thing; `None` if nothing uses it.
     pub(crate) fn first_on(&self, thing: usize) -> Option<usize>
         requires { thing < length self.now.users }
         ensures leads { Leads next_on user_of self.now.uses result
@@ -144,7 +144,7 @@ impl Index {
         self.chains.first_on(thing)
     }
 
-    /// The use under a number. No look is counted here.
+    /// Returns the use under a number. No visit is counted here.
     pub(crate) fn look(&self, i: usize) -> Use
         requires { IsSome (slice_index_or self.now.uses i None) }
         ensures { slice_index_or self.now.uses i None ≡ Some result }
@@ -152,7 +152,7 @@ impl Index {
         look_from::<Brand>(&self.chains, i, Blank::new(1))
     }
 
-    /// A thing is used under a key as often as the key is among its users.
+    /// States that a thing is used under a key as often as the key is among its users.
     pub(crate) fn is_both_ways(&self)
         ensures { (key thing : ℕ) →
             times key (users_on self.now.users thing) ≡ times thing (row_at self.now.rows key) }

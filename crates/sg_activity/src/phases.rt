@@ -1,4 +1,4 @@
-//! Phases that are due, and their ends, and executions that are held.
+//! Phases that complete, and their ends, and suspended executions.
 
 ghost use Rattle.std.specs.Prelude.{List, MatchOption, None, Option, Some};
 ghost use Rattle.sg_lives.specs.declared.kinds.PhaseKind.TheVariants as phase;
@@ -11,13 +11,13 @@ ghost use Rattle.sg_activity.specs.kept.Ends.{Ends, GoesOn, IsFirst, IsIdle};
 ghost use Rattle.sg_activity.specs.kept.Whole.{IsUsed};
 ghost use Rattle.sg_activity.specs.kept.Asks.{AreKnown, CanEnd, IsHeldAt, IsPhaseAt};
 
-use crate::kept::Kept;
+use crate::activity_state::Kept;
 use crate::renewal::left_at;
 use crate::routes::{bound_of, tighter, write_uses, write_way};
 use sg_heap::Agenda;
 use sg_lives::{Live, PhaseKind, flows_ahead, takes_share, uses_ahead};
 
-/// The activity whose phase is due first, and its key.
+/// Returns the activity whose phase completes first, and its key.
 pub(crate) fn first_due(kept: &Kept) -> Option<(usize, Live)>
     requires { IsSound kept.now }
     ensures { MatchOption result (IsIdle (state_of kept.now))
@@ -37,7 +37,7 @@ pub(crate) fn first_due(kept: &Kept) -> Option<(usize, Live)>
     }
 }
 
-// A latency is over, and the bytes of its communication begin to flow over its way.
+// Begins the flow of a communication over its route, after its latency passed.
 fn begin_flow(kept: &mut Kept, key: usize, live: Live)
     requires { IsPhaseAt kept.old key live phase.Latency }
     ensures ends { Ends kept.old kept.new key live
@@ -71,7 +71,7 @@ fn begin_flow(kept: &mut Kept, key: usize, live: Live)
     kept.settled = false;
 }
 
-/// The activity is done, or given up: its flow ends, it uses nothing, and its key is free.
+/// Ends an activity that is done, or given up: its flow ends, it uses nothing, and its key is free.
 pub(crate) fn leave(kept: &mut Kept, hits: &mut Agenda, key: usize, live: Live)
     requires { CanEnd kept.old hits.old key live }
     ensures ends { Ends kept.old kept.new key live None }
@@ -104,7 +104,7 @@ pub(crate) fn end_phase(kept: &mut Kept, hits: &mut Agenda, key: usize, live: Li
     }
 }
 
-/// Holds an execution: its flow ends, and it keeps what is left of it.
+/// Suspends an execution: its flow ends, and it keeps its remaining work.
 pub(crate) fn hold(kept: &mut Kept, key: usize, live: Live)
     requires { IsPhaseAt kept.old key live phase.Exec }
     ensures ends { Ends kept.old kept.new key live
@@ -128,7 +128,7 @@ pub(crate) fn hold(kept: &mut Kept, key: usize, live: Live)
     kept.settled = false;
 }
 
-/// An execution that is held goes on: its flow begins, with what was left of it.
+/// Resumes a suspended execution: its flow begins, with its remaining work.
 pub(crate) fn go_on(kept: &mut Kept, key: usize, live: Live)
     requires { IsHeldAt kept.old key live }
     ensures goes_on { GoesOn kept.old kept.new key live }

@@ -1,4 +1,4 @@
-//! What hosts take: the load of each, and the power that its meter is told.
+//! What hosts take: the load of each, and the power that its meter gets.
 
 ghost use Rattle.std.specs.Prelude.{◌≡◌, ◌<◌, ◌≤◌, ◌+◌, ◌^◌, ℕ, [], All, IfOk, IfSome, IsTrue, length, slice_set, unwrap_or};
 ghost use Rattle.sg_base.specs.MarkSet.{is_in};
@@ -14,13 +14,13 @@ ghost use Rattle.sg_activity.specs.kept.State.{state_of, under_of};
 ghost use Rattle.sg_activity.specs.kept.Whole.{CanTell};
 ghost use Rattle.sg_activity.specs.kept.Asks.{CanMeter, CanTellOf};
 
-use crate::kept::Kept;
+use crate::activity_state::Kept;
 use sg_base::{Marks, Memory, PointId};
 use sg_energy::Meter;
 use sg_lives::{Live, PhaseKind, Power, takes_share};
 use std::alloc::Global;
 
-// The sum with the rate of the activity under a key, if it takes a share.
+// Returns the sum with the rate of the activity under a key, if it takes a share.
 fn with_rate(kept: &Kept, key: usize, sum: Option<u64>) -> Option<u64>
     requires key { key < length kept.now.lives.slots }
     requires fits { unwrap_or sum 0 + unwrap_or (rate_of (slot_at kept.now.lives.slots key)) 0
@@ -33,7 +33,7 @@ fn with_rate(kept: &Kept, key: usize, sum: Option<u64>) -> Option<u64>
     }
 }
 
-// The sum of the rates of those that use a thing and take shares.
+// Returns the sum of the rates of those that use a thing and take shares.
 fn sum_on(kept: &Kept, thing: usize) -> Option<u64>
     requires thing { thing < length kept.now.index.users }
     requires keys { All (λ key. key < length kept.now.lives.slots)
@@ -52,7 +52,7 @@ fn sum_on(kept: &Kept, thing: usize) -> Option<u64>
     sum
 }
 
-/// What the executions of a host get together; `None` where none takes a share.
+/// Returns what the executions of a host get together; `None` if none takes a share.
 pub(crate) fn load(kept: &Kept, host: usize) -> Option<u64>
     requires { CanTellOf kept.now host }
     ensures load { result ≡ load_spec (under_of (state_of kept.now)) host }
@@ -62,7 +62,7 @@ pub(crate) fn load(kept: &Kept, host: usize) -> Option<u64>
     sum_on(kept, host)
 }
 
-// The power of a host that is on, at its capacity and load.
+// Returns the power of a host that is on, at its capacity and load.
 fn power_by(power: Power, capacity: u64, load: Option<u64>) -> u64
     requires power { IsPower power }
     requires fits { IfSome load (λ load. load ≤ capacity) }
@@ -79,7 +79,7 @@ fn power_by(power: Power, capacity: u64, load: Option<u64>) -> u64
     power.epsilon + (range * u128::from(load) / u128::from(capacity)) as u64
 }
 
-// The power of a host.
+// Returns the power of a host.
 fn power_of(kept: &Kept, host: usize) -> u64
     requires { CanTellOf kept.now host }
     ensures power { result ≡ power_at (under_of (state_of kept.now)) host }
@@ -96,7 +96,7 @@ fn power_of(kept: &Kept, host: usize) -> u64
     power_by(power, capacity, load(kept, host))
 }
 
-// Tells the meter the power of a host.
+// Gives the meter the power of a host.
 fn set_power(kept: &Kept, meter: &mut Meter, host: usize)
     requires host { host < length kept.now.hosts.items }
     requires meter { CanMeter kept.now meter.old }
@@ -108,7 +108,7 @@ fn set_power(kept: &Kept, meter: &mut Meter, host: usize)
     meter.set(PointId(host as u32), power, kept.date);
 }
 
-// The same of all these hosts.
+// Does the same for all these hosts.
 fn set_each(kept: &Kept, meter: &mut Meter, hosts: &[usize])
     requires hosts { All (λ host. host < length kept.now.hosts.items) hosts.now }
     requires meter { CanMeter kept.now meter.old }
@@ -119,7 +119,7 @@ fn set_each(kept: &Kept, meter: &mut Meter, hosts: &[usize])
     }
 }
 
-/// Tells the meter the power of each touched host; none is touched any more.
+/// Gives the meter the power of each touched host; none is touched any more.
 pub(crate) fn set_powers(kept: &Kept, meter: &mut Meter, touched: &mut Marks)
     requires tell { CanTell kept.now }
     requires metered { IsMetered kept.now meter.old touched.old }
@@ -131,7 +131,7 @@ pub(crate) fn set_powers(kept: &Kept, meter: &mut Meter, touched: &mut Marks)
     touched.clear();
 }
 
-/// An activity goes, or is held: its host is touched, if it is an execution that goes on.
+/// Touches the host of an activity before it ends or is suspended, if it is a running execution.
 pub(crate) fn note(touched: &mut Marks, live: &Live)
     requires { IsTrue (is_exec live.now.kind) → live.now.host < touched.old.room }
     ensures { touched.new ≡ record touched.old { members = noted live.now touched.old.members } }
@@ -142,7 +142,7 @@ pub(crate) fn note(touched: &mut Marks, live: &Live)
     }
 }
 
-// All of so many hosts are touched.
+// Makes a set in which all of so many hosts are touched.
 fn all_touched(alloc: Global, hosts: usize) -> Result<Marks, Memory>
     ensures room { IfOk result (λ touched. touched.room ≡ hosts) }
     ensures all { IfOk result (λ touched. (host : ℕ) → host < hosts
@@ -156,7 +156,7 @@ fn all_touched(alloc: Global, hosts: usize) -> Result<Marks, Memory>
     Ok(touched)
 }
 
-/// A meter of so many hosts, of which all are touched.
+/// Makes a meter of so many hosts, of which all are touched.
 pub(crate) fn first_meter(alloc: Global, hosts: usize) -> Result<(Meter, Marks), Memory>
     ensures { IfOk result (λ first. AreFirst hosts first.0 first.1) }
 {

@@ -1,4 +1,4 @@
-//! What is left of activities, and when they are due, as their rates change.
+//! What remains of activities, and when they complete, as their rates change.
 
 ghost use Rattle.std.specs.Prelude.{◌≡◌, ◌<◌, ◌≤◌, ℕ, All, length, slice_index, slice_set};
 ghost use Rattle.std.specs.Int.{div_ceil};
@@ -12,7 +12,7 @@ use sg_heap::Agenda;
 use sg_lazy::Lazy;
 use sg_lives::{Live, Lives, PhaseKind};
 
-// The quotient, rounded up. Most amounts are small, and short division is several times as fast.
+// Returns the quotient, rounded up. Most amounts are small, and short division is several times as fast.
 fn span_of(left: u128, rate: u64) -> u128
     requires { 0 < rate }
     ensures { result ≡ div_ceil left rate }
@@ -24,7 +24,7 @@ fn span_of(left: u128, rate: u64) -> u128
     }
 }
 
-// In how many nanoseconds nothing is left.
+// Returns in how many nanoseconds no work remains.
 fn wait(rate: u64, left: u128) -> Option<u128>
     ensures { result ≡ wait_spec rate left }
 {
@@ -37,7 +37,7 @@ fn wait(rate: u64, left: u128) -> Option<u128>
     }
 }
 
-// When nothing is left of an activity.
+// Returns when no work of an activity remains.
 fn spent_at(live: &Live) -> Option<u128>
     requires { IsSmall live.now }
     ensures { result ≡ due_of_spec live.now.stamp live.now.kept live.now.rate }
@@ -48,7 +48,7 @@ fn spent_at(live: &Live) -> Option<u128>
     }
 }
 
-// When a phase is over.
+// Returns when a phase completes.
 fn due_of(live: &Live) -> Option<u128>
     requires { IsSmall live.now }
     ensures { result ≡ due_at live.now }
@@ -61,7 +61,7 @@ fn due_of(live: &Live) -> Option<u128>
     }
 }
 
-/// What is left of an activity at a date.
+/// Returns the remaining work of an activity at a date.
 pub(crate) fn left_at(live: &Live, date: u128) -> u128
     requires { live.now.stamp ≤ date }
     ensures { result ≡ left_at_spec live.now.kept live.now.rate live.now.stamp date }
@@ -70,7 +70,7 @@ pub(crate) fn left_at(live: &Live, date: u128) -> u128
         .saturating_sub(u128::from(live.rate).saturating_mul(date - live.stamp))
 }
 
-// The activity with what is left of it at a date, from which on it goes at this rate.
+// Returns the activity with its remaining work at a date, from which on it has this rate.
 fn at_rate(live: &Live, rate: u64, date: u128) -> Live
     requires { live.now.stamp ≤ date }
     ensures { let left = left_at_spec live.now.kept live.now.rate live.now.stamp date in
@@ -84,7 +84,7 @@ fn at_rate(live: &Live, rate: u64, date: u128) -> Live
     }
 }
 
-// The key of the activity of a flow.
+// Returns the key of the activity of a flow.
 fn key_of(by_flow: &[usize], id: usize) -> usize
     requires { id < length by_flow.now }
     ensures { result ≡ slice_index by_flow.now id }
@@ -92,8 +92,8 @@ fn key_of(by_flow: &[usize], id: usize) -> usize
     by_flow[id]
 }
 
-/// Notes the new rates of the flows whose rates changed, with what is left of their activities now, and that these are
-/// to be dated anew.
+/// Notes the new rates of the flows whose rates changed, with the remaining work of their activities now, and that
+/// these are to be dated anew.
 pub(crate) fn restamp(
     lives: &mut Lives,
     fresh: &mut Marks,
@@ -131,7 +131,7 @@ pub(crate) fn renew(agenda: &mut Agenda, lives: &Lives, keys: &[usize])
     }
 }
 
-// Dates an activity: in the agenda it has the date at which it is due, if it ever is.
+// Dates an activity: in the agenda it has the date at which it completes, if it ever does.
 fn date_anew(agenda: &mut Agenda, key: usize, live: &Live)
     requires key { key < length agenda.old }
     requires small { IsSmall live.now }

@@ -13,7 +13,7 @@ use arrayvec::ArrayVec;
 use sg_base::LinkId;
 use sg_lives::LinkCap;
 
-/// The less of two bounds.
+/// Returns the less of two bounds.
 pub(crate) fn tighter(bound: Option<u64>, other: Option<u64>) -> Option<u64>
     ensures { result ≡ sooner bound other }
 {
@@ -24,7 +24,7 @@ pub(crate) fn tighter(bound: Option<u64>, other: Option<u64>) -> Option<u64>
     }
 }
 
-// What bounds each flow over the link by itself.
+// Returns what bounds each flow over the link by itself.
 fn own_bound(link: &LinkCap) -> Option<u64>
     ensures { result ≡ bound_of_link link.now }
 {
@@ -35,7 +35,7 @@ fn own_bound(link: &LinkCap) -> Option<u64>
     }
 }
 
-/// The least bandwidth of the FATPIPE links of a route.
+/// Returns the least bandwidth of the FATPIPE links of a route.
 pub(crate) fn bound_of(links: &[LinkCap], route: &[LinkId]) -> Option<u64>
     requires { All (λ (link : LinkId). link.0 < length links.now) route.now }
     ensures { result ≡ route_bound links.now route.now }
@@ -68,8 +68,8 @@ pub(crate) fn write_uses(
     }
 }
 
-/// Writes the things of a way: all its links, and the hosts of the sender and the receiver as its ends. In front of the
-/// links stand so many hosts, and behind so many links the ends.
+/// Writes the things of a route: all its links, and the hosts of the sender and the receiver as its ends. Before the
+/// links come so many hosts, and after so many links the ends.
 pub(crate) fn write_things(
     hosts: usize,
     links: usize,
@@ -93,7 +93,7 @@ pub(crate) fn write_things(
     }
 }
 
-// What stands at a place of what a communication uses comes to the end of its links, unless it is one of the two ends.
+// Appends the thing at a place of a communication's uses to its links, unless it is one of the two ends.
 fn put_link(links: &mut ArrayVec<LinkId, 64>, hosts: usize, place: usize, thing: usize)
     requires room { 2 ≤ place → length links.old.items < 64 }
     requires behind { 2 ≤ place → hosts ≤ thing }
@@ -106,8 +106,7 @@ fn put_link(links: &mut ArrayVec<LinkId, 64>, hosts: usize, place: usize, thing:
     }
 }
 
-/// Writes the links of the way of the communication under a key, which the index has. In front of the links stand so
-/// many hosts.
+/// Writes the links of a communication's route, by its key, from the index. Before the links come so many hosts.
 pub(crate) fn write_way(index: &Index, key: usize, hosts: usize, links: &mut ArrayVec<LinkId, 64>)
     requires key { key < length index.now.rows }
     requires way { IsWayRow hosts (row_at index.now.rows key) }
@@ -124,7 +123,7 @@ pub(crate) fn write_way(index: &Index, key: usize, hosts: usize, links: &mut Arr
     }
 }
 
-/// The same links, for a caller that has no place for them.
+/// Returns the same links, for a caller that has no place for them.
 pub(crate) fn way_of(index: &Index, key: usize, hosts: usize) -> ArrayVec<LinkId, 64>
     requires key { key < length index.now.rows }
     requires way { IsWayRow hosts (row_at index.now.rows key) }

@@ -1,4 +1,4 @@
-//! Hosts and links that go off and on, and the activities that use what is off.
+//! Hosts and links that are turned off and on, and the activities that use what is off.
 
 ghost use Rattle.std.specs.Prelude.{◌≡◌, ◌<◌, ◌+◌, ◌||◌, All, length, slice_set};
 ghost use Rattle.std.specs.List.{list_any};
@@ -13,13 +13,13 @@ ghost use Rattle.sg_activity.specs.kept.State.{links_at, state_of, ways_of};
 ghost use Rattle.sg_activity.specs.kept.Whole.{CanSwitch};
 ghost use Rattle.sg_activity.specs.kept.Asks.{CanLook, IsPlacedAt, IsSwitched};
 
-use crate::kept::Kept;
+use crate::activity_state::Kept;
 use crate::routes::way_of;
 use sg_base::{LinkId, Serial};
 use sg_heap::Agenda;
 use sg_lives::{Live, PhaseKind};
 
-// Whether one of the links is off.
+// Returns whether one of the links is off.
 fn any_off(on: &[bool], links: &[LinkId]) -> bool
     requires { All (λ (link : LinkId). link.0 < length on.now) links.now }
     ensures { result ≡ list_any (λ (link : LinkId). is_off on.now link.0) links.now }
@@ -32,7 +32,7 @@ fn any_off(on: &[bool], links: &[LinkId]) -> bool
     false
 }
 
-/// Whether something is off of these links and of the hosts at both ends.
+/// Returns whether something is off of these links and of the hosts at both ends.
 pub(crate) fn is_way_cut(kept: &Kept, links: &[LinkId], sender: usize, receiver: usize) -> bool
     requires links { All (λ (link : LinkId). link.0 < length kept.now.links_on.items) links.now }
     requires sender { sender < length kept.now.hosts_on.items }
@@ -43,7 +43,7 @@ pub(crate) fn is_way_cut(kept: &Kept, links: &[LinkId], sender: usize, receiver:
     any_off(&kept.links_on, links) || !kept.hosts_on[sender] || !kept.hosts_on[receiver]
 }
 
-// Whether the activity under a key uses something that is off.
+// Returns whether the activity under a key uses something that is off.
 fn uses_off(kept: &Kept, key: usize, live: &Live) -> bool
     requires at { IsPlacedAt kept.now key live.now }
     requires switches { AreSwitches kept.now }
@@ -60,7 +60,7 @@ fn uses_off(kept: &Kept, key: usize, live: &Live) -> bool
     }
 }
 
-/// Notes the activity that begins under a key, where it uses something that is off.
+/// Notes the activity that begins under a key, if it uses something that is off.
 pub(crate) fn note_hit(hits: &mut Agenda, key: usize, serial: Serial, off: bool)
     requires { key < length hits.old }
     ensures { hits.new ≡ noted off key serial.0 hits.old }
@@ -89,7 +89,7 @@ fn update_hit(kept: &Kept, hits: &mut Agenda, key: usize)
     }
 }
 
-// The same of each activity that uses a thing.
+// Does the same for each activity that uses a thing.
 fn update_hits(kept: &Kept, hits: &mut Agenda, thing: usize)
     requires thing { thing < length kept.now.index.users }
     requires keys { All (λ key. key < length kept.now.lives.slots)

@@ -16,6 +16,6 @@ IsAtStepIf worker numbers = ⊤
 IsAtStepIf master numbers = ⊤
 IsAtStepIf ended numbers = ⊤
 
--- where the mind churns, its numbers are so
+-- if the mind churns, its numbers are so
 abbrev pub CountsSteps : Mind → Type 0
 CountsSteps m = IsAtStepIf m.kind m.numbers

@@ -1,4 +1,4 @@
--- What a seat shows, and what it shows after the turns of a round.
+-- What contracts see of a slot, and what they see after the turns of a scheduling round.
 use Rattle.std.specs.Prelude.{Bool, IsTrue, IfSome, Option, Some, None, IsSome, List, map, if◌then◌else◌}
 use Rattle.std.specs.Option.{option_and_then}
 use Rattle.sg_base.specs.declared.call.Answer.{Answer}
@@ -14,20 +14,20 @@ pub record SeatView : Type 0 where
   pub outbox : Call
   pub ready : Bool
 
--- what a seat shows, where this tells the minds of actors: where nobody sits there, no mind
+-- what contracts see of a slot, if this gives the minds of actors: no mind if the slot is empty
 abbrev pub seat_view : {A : Type 0} → (A → Option Mind) → Seat A → SeatView
 seat_view mind_in seat = record { mind = option_and_then mind_in seat.actor; inbox = seat.inbox; outbox = seat.outbox; ready = seat.ready }
 
--- the same of each seat
+-- the same of each slot
 abbrev pub seat_views : {A : Type 0} → (A → Option Mind) → List (Seat A) → List SeatView
 seat_views mind_in seats = map (seat_view mind_in) seats
 
--- the seat after the turn of its actor on its inbox
+-- the slot after the turn of its actor on its inbox
 abbrev pub with_turn : SeatView → Option Mind → SeatView
 with_turn seat None = seat
 with_turn seat (Some mind) = let t = turn mind seat.inbox in record seat { mind = Some t.mind; outbox = t.call }
 
--- the seat after the turns of a round: that after a turn where it is ready, and else as it was
+-- the slot after the turns of a scheduling round: after a turn if it is ready, and else unchanged
 abbrev pub after : SeatView → SeatView
 after seat = if seat.ready then with_turn seat seat.mind else seat
 

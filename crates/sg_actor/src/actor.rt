@@ -15,7 +15,7 @@ pub trait Actor: Drop {
     /// What it has in mind, and nothing while it is blank.
     ghost mind: { Self → Option Mind };
 
-    /// Whether it was never cast.
+    /// Returns whether it was never bound.
     fn is_blank(&self) -> bool
         ensures { IsTrue result ↔ (mind self.now ≡ None) };
 

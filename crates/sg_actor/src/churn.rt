@@ -38,7 +38,7 @@ pub(crate) struct Churn {
 }
 
 impl Churn {
-    /// One turn, before it has ended.
+    /// Runs one turn, before it has ended.
     pub(crate) fn turn(&mut self) -> Call
         requires { IsChurnKept self.old }
         ensures kept { IsChurnKept self.new }

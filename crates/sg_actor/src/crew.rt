@@ -1,9 +1,9 @@
-//! The contexts of a crew.
+//! The contexts of a context pool.
 ghost use Rattle.std.specs.Prelude.{◌≡◌, ◌↔◌, All, None, IsTrue};
 
 use crate::actor::Actor;
 
-/// Whether all of a crew are blank.
+/// Returns whether all contexts of a pool are blank.
 pub fn all_blank(crew: &[Box<dyn Actor + Send>]) -> bool
     ensures { IsTrue result ↔ All (λ b. mind b ≡ None) crew.now }
 {
@@ -15,7 +15,7 @@ pub fn all_blank(crew: &[Box<dyn Actor + Send>]) -> bool
     true
 }
 
-// In a function of its own, so that the loop knows what it says of the mind.
+// Returns whether a context is blank, in a function of its own, so that the loop knows what it says of the mind.
 fn is_blank(actor: &Box<dyn Actor + Send>) -> bool
     ensures { IsTrue result ↔ (mind actor.now ≡ None) }
 {

@@ -1,6 +1,6 @@
-//! Actors: what they have in mind, and the turns of a round, one of each that is ready.
-//! One enters by `run_round`, over seats in each of which an `Actor` sits: whoever writes actors of another kind
-//! implements this trait. Here are `PlainContext` and `TapeContext`.
+//! Actors: what they know, and the turns of a scheduling round, one of each actor that is ready.
+//! The entrance is `run_round`, over slots with an `Actor` in each: implement this trait for actors of another kind.
+//! `PlainContext` and `TapeContext` are here.
 //! It stands on `sg_base`.
 #![tactic(auto)]
 

@@ -4,7 +4,7 @@ ghost use Rattle.sg_base.specs.Turn.{call_of, replay_turn, worker_turn};
 
 use sg_base::{Action, ActorId, Answer, BoxId, Call, Msg};
 
-/// The call of an actor that replays its lines.
+/// Returns the call of an actor that replays its lines.
 pub(crate) fn replay_call(me: ActorId, answer: Answer) -> Call
     ensures { result ≡ (replay_turn (me.0 ∷ []) answer).call }
 {
@@ -15,7 +15,7 @@ pub(crate) fn replay_call(me: ActorId, answer: Answer) -> Call
     }
 }
 
-// The call by which an actor does an action.
+// Returns the call by which an actor does an action.
 fn action_call(me: ActorId, action: Action) -> Call
     ensures { result ≡ call_of me action }
 {
@@ -41,7 +41,7 @@ fn action_call(me: ActorId, action: Action) -> Call
     }
 }
 
-/// The call of a worker.
+/// Returns the call of a worker.
 pub(crate) fn worker_call(me: ActorId, answer: Answer) -> Call
     ensures { result ≡ (worker_turn (me.0 ∷ []) answer).call }
 {

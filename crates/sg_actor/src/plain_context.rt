@@ -2,7 +2,7 @@
 ghost use Rattle.std.specs.Prelude.{◌≡◌, ◌+◌, ◌^◌, ◌<◌, ◌≤◌, Some, None, IsSome, IfSome, IfOk, false, length, map, slice_index};
 ghost use Rattle.sg_base.specs.Mind.{mind, master};
 ghost use Rattle.sg_base.specs.Turn.{actor_of, master_turn, turn};
-ghost use Rattle.sg_actor.specs.Roles.{mind_of, number_of, CanCast};
+ghost use Rattle.sg_actor.specs.Roles.{mind_of, actor_number, CanCast};
 ghost use Rattle.sg_actor.specs.kept.Fields.{fields_mind, is_exit, kind_now, master_numbers, IsKept};
 
 use crate::actor::Actor;
@@ -57,7 +57,7 @@ impl Model for PlainContext {
 }
 
 impl PlainContext {
-    /// A blank one. It takes no memory.
+    /// Makes a blank context. It takes no memory.
     pub fn new(alloc: Global) -> PlainContext
         ensures { result ≡ None }
     {
@@ -92,7 +92,7 @@ impl Actor for PlainContext {
     }
 }
 
-// The fields with which a role begins.
+// Returns the fields with which a role begins.
 fn fields_of(alloc: Global, role: &Role) -> Result<Fields, Memory>
     requires { CanCast role.now }
     ensures { IfOk result (λ f. IsKept f × (fields_mind false f ≡ Some (mind_of role.now))) }
@@ -133,7 +133,7 @@ fn fields_of(alloc: Global, role: &Role) -> Result<Fields, Memory>
     }
 }
 
-// One turn of an actor that hasn't ended. It ends where it calls Exit.
+// Runs one turn of an actor that hasn't ended. The actor ends if it calls `Exit`.
 fn fields_turn(fields: &mut Fields, answer: Answer) -> Call
     requires kept { IsKept fields.old }
     requires cast { IsSome (fields_mind false fields.old) }
@@ -157,7 +157,7 @@ fn fields_turn(fields: &mut Fields, answer: Answer) -> Call
     }
 }
 
-// One turn of a master that has sent so many messages.
+// Runs one turn of a master that has sent so many messages.
 fn master_call(tasks: u64, flops: u64, bytes: u64, next: &mut u64, workers: &[ActorId]) -> Call
     requires some { 0 < length workers.now }
     requires fit { tasks + length workers.now < 2 ^ 64 }
@@ -183,10 +183,10 @@ fn master_call(tasks: u64, flops: u64, bytes: u64, next: &mut u64, workers: &[Ac
     Call::Exit
 }
 
-// The worker of this place.
+// Returns the worker of this place.
 fn worker_at(workers: &[ActorId], place: u64) -> ActorId
     requires { place < length workers.now }
-    ensures { result ≡ actor_of (slice_index (map number_of workers.now) place) }
+    ensures { result ≡ actor_of (slice_index (map actor_number workers.now) place) }
 {
     workers[place as usize]
 }

@@ -1,8 +1,8 @@
-//! The seats of a round.
+//! The slots of a scheduling round.
 use crate::actor::Actor;
 use sg_base::{Answer, Call};
 
-/// Where an actor sits from round to round.
+/// The slot of an actor, which it keeps from one scheduling round to the next.
 #[derive(Drop)]
 pub struct Seat<A = Box<dyn Actor + Send>> {
     /// None while nobody sits there.
@@ -11,6 +11,6 @@ pub struct Seat<A = Box<dyn Actor + Send>> {
     pub inbox: Answer,
     /// The call of its last turn.
     pub outbox: Call,
-    /// Whether it takes a turn in the next round.
+    /// Whether it takes a turn in the next scheduling round.
     pub ready: bool,
 }

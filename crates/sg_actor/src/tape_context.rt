@@ -2,7 +2,7 @@
 ghost use Rattle.std.specs.Prelude.{◌≡◌, Some, None, IsSome, IfSome, IfOk, OnOk, ◌++◌, map, vec_len};
 ghost use Rattle.sg_base.specs.Mind.{master, churn};
 ghost use Rattle.sg_base.specs.Turn.{turn, turn_of, master_turn, churn_turn};
-ghost use Rattle.sg_actor.specs.Roles.{mind_of, number_of, CanCast};
+ghost use Rattle.sg_actor.specs.Roles.{mind_of, actor_number, CanCast};
 ghost use Rattle.sg_actor.specs.kept.Tape.{tape_mind, kind_of, IsTape, IsTapeOf, FitActorsFrom};
 ghost use Rattle.sg_actor.specs.kept.Fields.{is_exit, kind_now};
 
@@ -46,7 +46,7 @@ impl Model for TapeContext {
 }
 
 impl TapeContext {
-    /// A blank one. It takes no memory.
+    /// Makes a blank context. It takes no memory.
     pub fn new(alloc: Global) -> TapeContext
         ensures { result ≡ None }
     {
@@ -74,7 +74,7 @@ impl Actor for TapeContext {
     }
 }
 
-// The words with which a role begins.
+// Returns the words with which a role begins.
 fn tape_of(alloc: Global, role: &Role) -> Result<Vec<u64>, Memory>
     requires { CanCast role.now }
     ensures { IfOk result (λ v. IsTape v.items × (tape_mind v.items ≡ Some (mind_of role.now))) }
@@ -112,7 +112,7 @@ fn words_of(alloc: Global, words: &[u64]) -> Result<Vec<u64>, Memory>
 }
 
 fn push_actors(words: &mut Vec<u64>, actors: &[ActorId]) -> Result<(), Memory>
-    ensures all { OnOk result (words.new.items ≡ words.old.items ++ map number_of actors.now) }
+    ensures all { OnOk result (words.new.items ≡ words.old.items ++ map actor_number actors.now) }
     ensures fit { OnOk result (FitActorsFrom (vec_len words.old) words.new.items) }
 {
     for actor in actors {
@@ -121,7 +121,7 @@ fn push_actors(words: &mut Vec<u64>, actors: &[ActorId]) -> Result<(), Memory>
     Ok(())
 }
 
-// One turn.
+// Runs one turn.
 fn tape_turn(words: &mut [u64], answer: Answer) -> Call
     requires kept { IsTape words.old }
     requires cast { IsSome (tape_mind words.old) }
@@ -138,7 +138,7 @@ fn tape_turn(words: &mut [u64], answer: Answer) -> Call
     call
 }
 
-// What one turn does to the numbers of a mind of this kind. It ends where it calls Exit.
+// Runs one turn on the numbers of a mind of this kind. The actor ends if it calls `Exit`.
 fn numbers_turn(kind: u64, numbers: &mut [u64], answer: Answer) -> Call
     requires { IsTapeOf (kind_of kind) numbers.old }
     ensures kept { IsTapeOf (kind_of kind) numbers.new }
@@ -156,7 +156,8 @@ fn numbers_turn(kind: u64, numbers: &mut [u64], answer: Answer) -> Call
     }
 }
 
-// One turn of a master: its numbers are the tasks, the flops, the bytes, how many messages it has sent, and the workers.
+// Runs one turn of a master: its numbers are the tasks, the flops, the bytes, the messages sent so far, and the
+// workers.
 fn master_step(numbers: &mut [u64]) -> Call
     requires { IsTapeOf master numbers.old }
     ensures kept { IsTapeOf master numbers.new }
@@ -179,8 +180,8 @@ fn master_step(numbers: &mut [u64]) -> Call
     Call::Exit
 }
 
-// One turn of an actor that churns: its numbers are the state of its generator, its step, its phase, how many steps it
-// does, itself, the next actor of the ring, and the one before it.
+// Runs one turn of an actor that churns: its numbers are the state of its generator, its step, its phase, how many
+// steps it does, itself, the next actor of the ring, and the one before it.
 fn churn_step(numbers: &mut [u64]) -> Call
     requires { IsTapeOf churn numbers.old }
     ensures kept { IsTapeOf churn numbers.new }

@@ -1,4 +1,4 @@
-//! A round whose two turns see each other only where they overlap.
+//! A scheduling round whose two turns see each other only if they overlap.
 ghost use Rattle.std.specs.Prelude.{IfOk};
 ghost use Rattle.sg_actor.specs.Seats.{CanTurn, seat_view};
 
@@ -55,7 +55,7 @@ impl Actor for Flagger {
     }
 }
 
-// A seat whose actor is ready. In its turn it sets the one flag and looks for the other.
+// Makes a slot whose actor is ready. In its turn it sets the one flag and looks for the other.
 fn ready_seat(
     alloc: Global,
     own: &Arc<AtomicU64>,

@@ -1,4 +1,4 @@
-//! The turns of a round: one of each actor that is ready.
+//! The turns of a scheduling round: one of each actor that is ready.
 ghost use Rattle.std.specs.Prelude.{◌≡◌, ◌<◌, length, All, map};
 ghost use Rattle.std.specs.Thread.{IsSync, IsSend};
 ghost use Rattle.sg_actor.specs.kept.Chunks.{chunk_size, seats_before_middle};
@@ -8,11 +8,11 @@ use crate::actor::Actor;
 use crate::seat::Seat;
 use std::thread::{Threads, join_mut};
 
-/// Each actor whose seat is ready takes one turn on its inbox, and its call goes into its outbox. Every other seat
+/// Runs one turn of each actor whose slot is ready, on its inbox, and its call goes into its outbox. Every other slot
 /// stays as it is.
 ///
-/// The seats are cut into chunks, one for each worker where there are enough seats, and each is run in a thread of its
-/// own; which worker has which seats can't be told afterwards. It takes no memory.
+/// The slots are cut into chunks, one for each worker if there are enough slots, and each is run in a thread of its
+/// own; the result doesn't show which worker had which slots. It takes no memory.
 pub fn run_round<R: Threads + Sync>(rt: &R, seats: &mut [Seat], workers: u32)
     requires some { 0 < workers }
     requires ready { All CanTurn (seat_views (λ b. mind b) seats.old) }
@@ -26,7 +26,7 @@ pub fn run_round<R: Threads + Sync>(rt: &R, seats: &mut [Seat], workers: u32)
     run_chunks(rt, size, seats);
 }
 
-// How many seats each chunk has but the last, which may have fewer.
+// Returns how many slots each chunk has, except the last, which may have fewer.
 fn chunk_size(seats: usize, workers: u32) -> usize
     requires seats { 0 < seats }
     requires workers { 0 < workers }
@@ -36,8 +36,8 @@ fn chunk_size(seats: usize, workers: u32) -> usize
     seats.div_ceil(workers as usize)
 }
 
-// The same, in a thread for each chunk of so many seats. The chunks are halved at each step, so the stack grows with the
-// logarithm of their number.
+// Does the same, in a thread for each chunk of so many slots. The chunks are halved at each step, so the stack grows
+// with the logarithm of their number.
 #[cycle(halves)]
 fn run_chunks<R: Threads + Sync, A: Actor + Send>(rt: &R, size: usize, seats: &mut [Seat<A>])
     requires size { 0 < size }
@@ -53,7 +53,7 @@ fn run_chunks<R: Threads + Sync, A: Actor + Send>(rt: &R, size: usize, seats: &m
     run_halves(rt, size, front, back);
 }
 
-// The same of two halves. In a function of its own, so that what the closures ask is what it asks.
+// Does the same for two halves, in a function of its own, so that what the closures ask is what it asks.
 #[cycle(halves)]
 fn run_halves<R: Threads + Sync, A: Actor + Send>(
     rt: &R,
@@ -81,7 +81,7 @@ fn run_halves<R: Threads + Sync, A: Actor + Send>(
     join_mut(rt, &mut first, &mut second);
 }
 
-// Where the second half of the chunks begins.
+// Returns where the second half of the chunks begins.
 fn middle(seats: usize, size: usize) -> usize
     requires some { 0 < size }
     requires more { size < seats }
@@ -92,7 +92,7 @@ fn middle(seats: usize, size: usize) -> usize
     seats.div_ceil(size) / 2 * size
 }
 
-// The same, one after the other.
+// Does the same, one after the other.
 fn run_in_turn<A: Actor>(seats: &mut [Seat<A>])
     requires { All CanTurn (seat_views A.mind seats.old) }
     ensures { seat_views A.mind seats.new ≡ map after (seat_views A.mind seats.old) }
@@ -102,7 +102,7 @@ fn run_in_turn<A: Actor>(seats: &mut [Seat<A>])
     }
 }
 
-// One turn of the actor of a seat, where it is ready.
+// Runs one turn of the actor of a slot, if it is ready.
 fn run_seat<A: Actor>(seat: &mut Seat<A>)
     requires { CanTurn (seat_view A.mind seat.old) }
     ensures { seat_view A.mind seat.new ≡ after (seat_view A.mind seat.old) }

@@ -1,4 +1,4 @@
--- A create is refused exactly where no context was given.
+-- A create is refused exactly if no context was given.
 use Rattle.std.proofs.Common.{◌≢◌, ℕ, ◌-◌, true, false, true≢false, IsTrue, refl, sym, subst, ◌∙◌, arith}
 use Rattle.std.proofs.lemmas.List.{length-set}
 use Rattle.sg_base.specs.declared.call.Answer.TheVariants as answer

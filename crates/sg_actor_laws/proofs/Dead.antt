@@ -1,4 +1,5 @@
--- Who has ended is never answered again, and who has an answer keeps it until it calls or is killed.
+-- An actor that has ended is never answered again, and one that has an answer keeps it until it
+-- calls or is killed.
 use Rattle.std.proofs.Common.{◌≡◌, ◌≢◌, ◌⊎◌, ℕ, ◌<◌, ◌==◌, false, true≢false, cond, IsTrue, inl, inr, Option, None, Some, List, [], refl, sym, ap, ◌∙◌, arith}
 use Rattle.sg_base.specs.declared.awaits.Await.{Await}
 use Rattle.sg_base.specs.declared.call.Action.{Action}
@@ -22,10 +23,10 @@ use Rattle.sg_actor_laws.proofs.Others.{Apart, Rests, Spares, Stays, apart_fresh
 unless_spares : (resting : ℕ) (Q : State → List Await → Type 0) (budget : ℕ) (core : Core) (step : Step) → Stays resting Q core → Spares resting Q step → Spares resting Q (cond (core.events == budget) (stops core [] Budget) step)
 unless_spares resting Q budget core step q s = either (Stays resting Q) (IsOfAnother resting) (core.events == budget) (stops core [] Budget) step (still (Stays resting Q) (IsOfAnother resting) core (Some Budget) q) s
 
-answered_spares : (roads : Roads) (setup : Setup) (core : Core) (actor resting : ℕ) (Q : State → List Await → Type 0) → Rests Q → (what : Call) → Apart resting actor → Stays resting Q core → Spares resting Q (answered roads setup core actor what)
+pub answered_spares : (roads : Roads) (setup : Setup) (core : Core) (actor resting : ℕ) (Q : State → List Await → Type 0) → Rests Q → (what : Call) → Apart resting actor → Stays resting Q core → Spares resting Q (answered roads setup core actor what)
 answered_spares roads setup core actor resting Q rests what apart q = unless_spares resting Q setup.budget core (answered_call roads setup core actor what) q (call_spares roads setup core actor resting Q rests what apart q)
 
-told_spares : (setup : Setup) (core : Core) (actor resting : ℕ) (Q : State → List Await → Type 0) (action : Option Action) → Apart resting actor → Stays resting Q core → Spares resting Q (told setup core actor action)
+pub told_spares : (setup : Setup) (core : Core) (actor resting : ℕ) (Q : State → List Await → Type 0) (action : Option Action) → Apart resting actor → Stays resting Q core → Spares resting Q (told setup core actor action)
 told_spares setup core actor resting Q action apart q =
     unless_spares resting Q setup.budget core (goes_on (readied actor (answer_of_ask action) (counted core)) []) q
     (still (Stays resting Q) (IsOfAnother resting) (readied actor (answer_of_ask action) (counted core)) None (put_stays core.actors (queue_at core.requests resting) resting Q actor _ apart q))
@@ -41,7 +42,7 @@ dead_rests queue = record {
   killed = λ state now d alive. absurd (true≢false (sym alive ∙ ap is_alive d.0));
 }
 
--- who may call hasn't ended
+-- an actor that may call hasn't ended
 unanswered : (state : State) → state ≡ Ended → IsTrue (is_answered state) → ⊥
 unanswered state e a = true≢false (sym a ∙ ap is_answered e)
 

@@ -25,7 +25,7 @@ use Rattle.sg_owners.specs.declared.owners.Whose.{Whose}
 use Rattle.sg_owners.specs.declared.owners.Whose.TheVariants.{Over, Alone, Posted, Pair}
 use Rattle.sg_calls.specs.declared.stop.Stop.{Stop}
 use Rattle.sg_calls.specs.declared.stop.Stop.TheVariants.{Budget}
-use Rattle.sg_calls.specs.Answers.{answer_to, answers, answers_by, answers_side, bare_side, finishes, for_receiver, is_on, tells_bytes, with_over}
+use Rattle.sg_calls.specs.Answers.{answer_to, answers, answers_by, answers_side, bare_side, finishes, for_receiver, awaits_side, tells_bytes, with_over}
 use Rattle.sg_calls.specs.Kills.{gives_up, gives_up_by}
 use Rattle.sg_calls.specs.Locks.{all_wake, joiners_wake, wakes, wakes_from}
 use Rattle.sg_kernel.specs.Passes.{all_fail, applied_if, changes, core_later, ends, ends_by, ends_in, ends_one, enters, enters_one, entry_stretches, fails, next_span, pass_at, pass_of, settled, stretches}
@@ -68,7 +68,7 @@ pub more_kept : (P : Core → Type 0) (Q : Record → Type 0) (first : Core → 
 unfolding all_of
 more_kept P Q first rest core one more = both P Q (first core) (all_of rest) one (more (first core).core)
 
--- one that goes on, and what holds after it
+-- one that continues, and what holds after it
 pub then_kept : (M P : Core → Type 0) (Q : Record → Type 0) (first : Step) (next : Core → Step) → first.stop ≡ None → Kept M Q first → (M first.core → Kept P Q (next first.core)) → Kept P Q (and_then first next)
 then_kept M P Q first next on s more = subst (λ o. Kept P Q (follows o first (next first.core))) (sym on) (let t = more s.holds in record { holds = t.holds; made = All-append Q first.made (next first.core).made s.made t.made })
 
@@ -76,7 +76,7 @@ pub then_more : (M P : Core → Type 0) (Q : Record → Type 0) (first : Core �
 unfolding all_of
 then_more M P Q first rest core on one more = then_kept M P Q (first core) (all_of rest) on one (more (first core).core)
 
--- ---- what is kept as those that are blocked are answered, and as activities are over
+-- ---- what is kept as those that are blocked are answered, and as activities end
 pub record Replying (P : Core → Type 0) (Q : Record → Type 0) : Type 0 where
   pub replies : (actor : ℕ) (blocking : Blocking) (bytes : ℕ) (answer : Answer) (core : Core) → blocking_in (state_of core actor) ≡ Some blocking → P core → Kept P Q (replied actor blocking.what blocking.since bytes answer core)
 
@@ -103,7 +103,7 @@ side_kept P Q closed over serial side given core p = by (blocking_in (state_of c
     by : (found : Option Blocking) → blocking_in (state_of core given.actor.0) ≡ found → Kept P Q (answers_by over serial side given found core)
     by None e = still P Q core None p
     by (Some blocking) e =
-        either P Q (is_on serial side blocking.on)
+        either P Q (awaits_side serial side blocking.on)
         (replied given.actor.0 blocking.what blocking.since (cond (tells_bytes blocking.what) given.bytes 0) (answer_to over blocking.what given.msg) core) (goes_on core [])
         (closed.replies given.actor.0 blocking (cond (tells_bytes blocking.what) given.bytes 0) (answer_to over blocking.what given.msg) core e p) (still P Q core None p)
 
@@ -127,7 +127,7 @@ gives_up_kept P Q closed serial core p = by (whose_at core serial)
     by (Posted mailbox sends side) = finishes_kept P Q closed how.Failed serial core p
     by (Pair sender receiver) = finishes_kept P Q closed how.Failed serial core p
 
--- ---- what is kept in a pass
+-- ---- what is kept in a time advance
 abbrev pub Finishing : (Core → Type 0) → (Record → Type 0) → Type 0
 Finishing P Q = (over : How) (serial : ℕ) (core : Core) → P core → Kept P Q (finishes over serial core)
 
@@ -186,4 +186,4 @@ date_kept P Q finishing flowing setup core (Some span) p =
 
 pub pass_kept : (P : Core → Type 0) (Q : Record → Type 0) → Finishing P Q → Flowing P → (setup : Setup) (core : Core) → P core → Kept P Q (pass_of setup core)
 pass_kept P Q finishing flowing setup core p =
-    date_kept P Q finishing flowing setup (settled core) (next_span setup (settled core)) (flowing.moved (underway.settled core.under) core.turns core refl p)
+    date_kept P Q finishing flowing setup (settled core) (next_span setup (settled core)) (flowing.moved (underway.with_rates_updated core.under) core.turns core refl p)

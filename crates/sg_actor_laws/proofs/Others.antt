@@ -1,4 +1,4 @@
--- What others' calls and passes keep of an actor that isn't blocked.
+-- What others' calls and time advances keep of an actor that isn't blocked.
 use Rattle.std.proofs.Common.{◌≡◌, ◌≢◌, ◌⊎◌, ℕ, zero, suc, ◌+◌, ◌-◌, ◌==◌, Bool, true, false, true≢false, cond, IsTrue, inl, inr, Option, None, Some, Result, Ok, Err, List, [], ◌∷◌, length, set, get_or, refl, sym, ap, subst, ◌∙◌, arith}
 use Rattle.std.proofs.lemmas.Bool.{cases_eq}
 use Rattle.std.proofs.lemmas.List.{get_or-set_other}
@@ -31,9 +31,9 @@ use Rattle.sg_calls.specs.declared.meetings.Comer.{Comer}
 use Rattle.sg_owners.specs.declared.owners.How.TheVariants as how
 use Rattle.sg_calls.specs.declared.stop.Stop.{Stop}
 use Rattle.sg_calls.specs.Answers.{answers_side, for_receiver, side_of, with_over}
-use Rattle.sg_calls.specs.Calls.{actor_of, answered_call, computes, executed, executes}
+use Rattle.sg_calls.specs.Calls.{answered_call, computes, executed, executes}
 use Rattle.sg_calls.specs.Kills.{awaited, gives_up, kill_done, kill_stretches, kills, kills_alive, withdrawn}
-use Rattle.sg_calls.specs.Lives.{begins, created, joins_by, leaves}
+use Rattle.sg_calls.specs.Lives.{begins, created, joins_by, with_actor_ended}
 use Rattle.sg_calls.specs.Locks.{all_wake, caller_first, caller_gets, caller_last, joiners_wake, with_objects}
 use Rattle.sg_calls.specs.Meetings.{answer_of_over, both_fail, comer_fails, comes, comes_by, fails_with, joined, joins_over, joins_with, other_fails, posted, posts_at, receiver_of, receives_by, route_between, sender_of, sends_by, takes_part, takes_part_failed, waits_by, waits_until, way_with}
 use Rattle.sg_calls.specs.Steps.{Step, goes_on, counted, and_then, each, all_of, at_once, blocked_by}
@@ -42,6 +42,7 @@ use Rattle.sg_setup.specs.Setup.{Setup}
 use Rattle.sg_calls.specs.World.{Core, host_of, is_suspended, state_of, whose_at, with_suspended}
 use Rattle.sg_actor_laws.specs.Dead.{IsOfAnother}
 use Rattle.sg_actor_laws.proofs.Kept.{Kept, Closed, Replying, Flowing, still, one_made, either, both, each_kept, none_kept, more_kept, all_kept, joiners_kept, side_kept, gives_up_kept}
+use Rattle.sg_base.specs.Turn.{actor_of}
 
 -- ---- one actor, and another
 abbrev pub Apart : ℕ → ℕ → Type 0
@@ -270,12 +271,12 @@ call_spares roads setup core actor resting Q rests (call.Kill n) apart e = kill_
 call_spares roads setup core actor resting Q rests (call.Suspend n) apart e = now_spares resting Q rests actor (call.Suspend n) 0 answer.Done (suspended_to true n (counted core)) apart (suspended_ended resting Q rests true n (counted core) e)
 call_spares roads setup core actor resting Q rests (call.Resume n) apart e = now_spares resting Q rests actor (call.Resume n) 0 answer.Done (suspended_to false n (counted core)) apart (suspended_ended resting Q rests false n (counted core) e)
 call_spares roads setup core actor resting Q rests call.Yield apart e = now_spares resting Q rests actor call.Yield 0 answer.Done (counted core) apart e
-call_spares roads setup core actor resting Q rests call.Exit apart e = joiners_kept (Stays resting Q) (IsOfAnother resting) (replying resting Q rests) actor (leaves actor (counted core)) (put_stays core.actors (queue_at core.requests resting) resting Q actor _ apart e)
+call_spares roads setup core actor resting Q rests call.Exit apart e = joiners_kept (Stays resting Q) (IsOfAnother resting) (replying resting Q rests) actor (with_actor_ended actor (counted core)) (put_stays core.actors (queue_at core.requests resting) resting Q actor _ apart e)
 
 pub create_spares : (given : Bool) (actor resting : ℕ) (Q : State → List Await → Type 0) (rests : Rests Q) (target : ActorId) (core : Core) → Apart resting actor → (IsTrue given → Apart resting target.0) → Stays resting Q core → Spares resting Q (created given actor target core)
 create_spares true actor resting Q rests target core apart fresh e = now_spares resting Q rests actor (call.Create target) 0 answer.Done (begins target (counted core)) apart (put_stays core.actors (queue_at core.requests resting) resting Q target.0 _ (fresh refl) e)
 create_spares false actor resting Q rests target core apart fresh e = now_spares resting Q rests actor (call.Create target) 0 answer.Refused (counted core) apart e
 
--- ---- passes
+-- ---- time advances
 pub flowing : (resting : ℕ) (Q : State → List Await → Type 0) (rests : Rests Q) → Flowing (Stays resting Q)
 flowing resting Q rests = record { moved = λ under turns core long e. e; counted = λ core e. e }

@@ -11,12 +11,13 @@ use Rattle.sg_calls.specs.Lives.{created}
 use Rattle.sg_calls.specs.Steps.{Step}
 use Rattle.sg_calls.specs.World.{Core, IsActor, MayCall, state_of}
 
--- by whether the named actor was given a context
+-- the answer to a create, by whether the named actor was given a context
 abbrev pub answer_of_create : Bool → Answer
 answer_of_create true = answer.Done
 answer_of_create false = answer.Refused
 
--- The caller is answered so, in one event and one record. Where a context was given the named actor starts, and all others do what they did.
+-- The caller is answered so, in one event and one record. If a context was given the named actor starts, and all others
+-- do what they did.
 pub record CreatesBy (given : Bool) (actor : ℕ) (target : ActorId) (core : Core) (step : Step) : Type 0 where
   pub caller : state_of step.core actor ≡ Ready (answer_of_create given)
   pub starts : IsTrue given → state_of step.core target.0 ≡ Ready answer.Start

@@ -1,4 +1,4 @@
--- Who has ended is never answered again, and who has an answer keeps it.
+-- An actor that has ended is never answered again, and one that has an answer keeps it.
 use Rattle.std.specs.Prelude.{◌≡◌, ◌≢◌, ◌⊎◌, ℕ, ◌<◌, Bool, IsTrue, Option, All}
 use Rattle.sg_base.specs.declared.call.Action.{Action}
 use Rattle.sg_base.specs.declared.call.Answer.{Answer}
@@ -29,7 +29,8 @@ pub record LeavesDead (dead : ℕ) (before : Core) (step : Step) : Type 0 where
   pub requests : queue_at step.core.requests dead ≡ queue_at before.requests dead
   pub silent : All (IsOfAnother dead) step.made
 
--- So it is with each call of an actor that may call, which is another, with each Ask that is answered, with each actor that is created, and with each pass.
+-- So it is with each call of another actor that may call, each fetch of a line that is answered, each actor that is
+-- created, and each time advance.
 pub record DeadStayDead : Type 0 where
   pub calls : (roads : Roads) (setup : Setup) (core : Core) (actor dead : ℕ) (what : Call) → MayCall core actor → HasEnded dead core → LeavesDead dead core (answered roads setup core actor what)
   pub creates : (given : Bool) (actor dead : ℕ) (target : ActorId) (core : Core) → MayCall core actor → (IsTrue given → IsTrue (is_unstarted (state_of core target.0))) → HasEnded dead core → LeavesDead dead core (created given actor target core)
@@ -40,7 +41,8 @@ pub record DeadStayDead : Type 0 where
 abbrev pub KeepsAnswer : ℕ → Answer → Core → Type 0
 KeepsAnswer actor answer core = (state_of core actor ≡ Ready answer) ⊎ HasEnded actor core
 
--- So it is of one that has an answer, after each call of another, each actor that another creates, each Ask of another that is answered, and each pass.
+-- So it is of one that has an answer, after each call of another, each actor that another creates, each line that
+-- another is given, and each time advance.
 pub record AnswersStay : Type 0 where
   pub calls : (roads : Roads) (setup : Setup) (core : Core) (actor other : ℕ) (what : Call) (answer : Answer) → MayCall core actor → 0 < other → other ≢ actor → state_of core other ≡ Ready answer → KeepsAnswer other answer (answered roads setup core actor what).core
   pub creates : (given : Bool) (actor other : ℕ) (target : ActorId) (core : Core) (answer : Answer) → MayCall core actor → (IsTrue given → IsTrue (is_unstarted (state_of core target.0))) → 0 < other → other ≢ actor → state_of core other ≡ Ready answer → KeepsAnswer other answer (created given actor target core).core

@@ -19,7 +19,7 @@ pub record EndsBy (target : ActorId) (core : Core) (step : Step) : Type 0 where
   pub waits : waiting step.core.objects target ≡ 0
   pub owners : step.core.objects.owners ≡ core.objects.owners
 
--- who is killed by one that may call, maybe itself, ends so if it is alive
+-- an actor that is killed by one that may call, maybe itself, ends so if it is alive
 abbrev pub KillsEnd : Type 0
 KillsEnd = (actor : ℕ) (target : ActorId) (core : Core) → MayCall core actor → IsActor core target.0 →
     IsTrue (is_alive (state_of core target.0)) → EndsBy target core (kills actor target core)

@@ -3,13 +3,14 @@ ghost use Rattle.sg_actor_laws.specs.Creates.{CreatesAreExact};
 ghost use Rattle.sg_actor_laws.specs.Dead.{AnswersStay, DeadStayDead};
 ghost use Rattle.sg_actor_laws.specs.Kills.{KillsEnd};
 
-/// An actor that has ended, also one that was killed, stays so with each call and each pass, has the requests that it
+/// An actor that has ended, even by a kill, stays so with each call and each time advance, has the requests that it
 /// had, and no record that they make is of it: it is never answered again.
 pub fn the_dead_stay_dead()
     ensures { DeadStayDead }
 {}
 
-/// An actor that has an answer has it still after each call of another and each pass, or that call has killed it.
+/// An actor that has an answer still has it after each call of another and each time advance, or that call has killed
+/// it.
 pub fn answers_stay()
     ensures { AnswersStay }
 {}
@@ -20,8 +21,8 @@ pub fn kills_end()
     ensures { KillsEnd }
 {}
 
-/// A create is refused exactly where the named actor was given no context; with one it starts, and all others stay as
-/// they are but the caller, which is answered.
+/// A create is refused exactly if the named actor was given no context; with one it starts, and all others stay as they
+/// are except the caller, which is answered.
 pub fn creates_are_exact()
     ensures { CreatesAreExact }
 {}

@@ -23,7 +23,7 @@ use Rattle.sg_owners.specs.declared.owners.How.{How}
 use Rattle.sg_owners.specs.declared.owners.Whose.{Whose}
 use Rattle.sg_owners.specs.declared.owners.Whose.TheVariants.{Over, Alone, Posted, Pair}
 use Rattle.sg_calls.specs.declared.stop.Stop.{Stop}
-use Rattle.sg_calls.specs.Answers.{answer_to, answers, answers_by, answers_side, bare_side, finishes, for_receiver, is_on, party_eq, tells_bytes, with_over}
+use Rattle.sg_calls.specs.Answers.{answer_to, answers, answers_by, answers_side, bare_side, finishes, for_receiver, awaits_side, party_eq, tells_bytes, with_over}
 use Rattle.sg_calls.specs.Kills.{blocked_on}
 use Rattle.sg_calls.specs.Locks.{all_wake, joiners_wake, wakes, wakes_from}
 use Rattle.sg_calls.specs.Steps.{Step, goes_on, follows, and_then, each, replied}
@@ -35,7 +35,7 @@ use Rattle.sg_actor_laws.proofs.Kept.{Replying, one_made, side_kept, wake_kept}
 use Rattle.sg_await_laws.proofs.Over.{IsGone, anything, gone_replying, over_there, over_unnamed}
 use Rattle.sg_await_laws.proofs.Naming.{awaited_over}
 
--- what holds after the first step, where it stops, holds after both
+-- what holds after the first step, if it stops, holds after both
 pub after_both : (P : Core → Type 0) (first : Step) (next : Core → Step) → P first.core → (P first.core → P (next first.core).core) → P (and_then first next).core
 after_both P first next p more = by first.stop
   where
@@ -46,14 +46,14 @@ after_both P first next p more = by first.stop
 pub caller_replying : (actor : ℕ) → Replying (IsCaller actor) anything
 caller_replying actor = record { replies = λ other blocking bytes given core is caller. one_made (IsCaller actor) anything _ _ (caller_put actor other (Ready given) core refl caller) tt }
 
--- ---- an activity is over
--- who is blocked on one that is over goes on
+-- ---- an activity ends
+-- an actor that is blocked on one that ended is unblocked
 record IsOn (serial : ℕ) (on : Option Await) : Type 0 where
   side : Await
   is : on ≡ Some side
   of : side.serial.0 ≡ serial
 
-on_is : (serial : ℕ) (side : Party) (on : Option Await) → is_on serial side on ≡ true → IsOn serial on
+on_is : (serial : ℕ) (side : Party) (on : Option Await) → awaits_side serial side on ≡ true → IsOn serial on
 on_is serial side None e = absurd (cc e)
 on_is serial side (Some on) e = record { side = on; is = refl; of = by (on.serial.0 == serial) refl e }
   where
@@ -98,7 +98,7 @@ awaited_done Misses going actor on given core blocked gone a = record {
 pub awaited_side : (Misses : ActorId → ℕ → Type 0) (going : List ActorId) (over : How) (serial : ℕ) (side : Party) (given : Side) (core : Core) → IsGone serial core → AreAwaited Misses going core → AreAwaited Misses going (answers_side over serial side given core).core
 awaited_side Misses going over serial side given core gone a = by (blocking_in (state_of core given.actor.0)) refl
   where
-    on : (blocking : Blocking) → blocking_in (state_of core given.actor.0) ≡ Some blocking → (b : Bool) → is_on serial side blocking.on ≡ b
+    on : (blocking : Blocking) → blocking_in (state_of core given.actor.0) ≡ Some blocking → (b : Bool) → awaits_side serial side blocking.on ≡ b
         → AreAwaited Misses going (cond b (replied given.actor.0 blocking.what blocking.since (cond (tells_bytes blocking.what) given.bytes 0) (answer_to over blocking.what given.msg) core) (goes_on core [])).core
     on blocking e true there =
         let at : IsOn serial blocking.on = on_is serial side blocking.on there in
@@ -107,7 +107,7 @@ awaited_side Misses going over serial side given core gone a = by (blocking_in (
 
     by : (found : Option Blocking) → blocking_in (state_of core given.actor.0) ≡ found → AreAwaited Misses going (answers_by over serial side given found core).core
     by None e = a
-    by (Some blocking) e = on blocking e (is_on serial side blocking.on) refl
+    by (Some blocking) e = on blocking e (awaits_side serial side blocking.on) refl
 
 pub awaited_finish : (Misses Less : ActorId → ℕ → Type 0) (going : List ActorId) (over : How) (serial : ℕ) (core : Core) → ((target : ActorId) (other : ℕ) → Misses target other → (other ≡ serial) ⊎ Less target other) → AreAwaited Misses going core → AreAwaited Less going (finishes over serial core).core
 awaited_finish Misses Less going over serial core so before = by (whose_at core serial)
@@ -131,7 +131,7 @@ awaited_finish Misses Less going over serial core so before = by (whose_at core 
         (awaited_side Less going over serial party.Receiver (for_receiver sender receiver) (answers_side over serial party.Sender sender mid).core
         (side_kept (IsGone serial) anything (gone_replying serial) over serial party.Sender sender mid gone).holds)
 
--- ---- those that go on by a call
+-- ---- those that a call unblocks
 held_fewer : (going less : List ActorId) (actors : List Actor) (objects : Objects) → ((actor : ActorId) → times actor less ≤ times actor going) → AreHeld going actors objects → AreHeld less actors objects
 held_fewer going less actors objects few held = record {
   stand = λ actor from. fewer_stand (state_at actors actor.0) (waiting objects actor + times actor going) (waiting objects actor + times actor less) (omega (arith, few actor)) (held.stand actor from);
@@ -146,7 +146,7 @@ few_places : (joined : Option ActorId) (n : ℕ) → n ≤ places_for joined →
 few_places None n le = le
 few_places (Some target) n le = omega (arith, le)
 
--- who stands in a queue and is blocked is blocked on no activity, and stands there once
+-- an actor that stands in a queue and is blocked is blocked on no activity, and stands there once
 stands_free : (state : State) (blocking : Blocking) (n : ℕ) → blocking_in state ≡ Some blocking → 0 < n → MayStand state n → (blocked_on (blocking_in state) ≡ None) × (n ≤ 1)
 stands_free Unstarted blocking n e some may = absurd (cc e)
 stands_free (Ready answer) blocking n e some may = absurd (cc e)

@@ -71,28 +71,28 @@ pub put_long : (actors : List Actor) (actor : ℕ) (state : State) → length (p
 put_long actors actor state = length-set actors (actor - 1) (record (actor_at actors actor) { state = state })
 
 -- ---- what actors await
--- the serials of what an actor in this state with these requests awaits
+-- the ids of the activities that an actor in this state with these requests awaits
 abbrev pub serials_in : State → List Await → List ℕ
 serials_in state queue = map serial_of (option_to_list (blocked_on (blocking_in state)) ++ queue)
 
--- the actor awaits the activity of this serial
+-- the actor awaits the activity with this id
 abbrev pub IsAwaited : List Actor → List (List Await) → ActorId → ℕ → Type 0
 IsAwaited actors requests actor serial = Has serial (serials_in (state_at actors actor.0) (queue_at requests actor.0))
 
--- all that name an actor are awaited by it, but for what it misses
+-- all that name an actor are awaited by it, except for what it misses
 abbrev pub AreNamed : (ActorId → ℕ → Type 0) → List Actor → List Whose → List (List Await) → Type 0
 AreNamed Misses actors whose requests =
     (actor : ActorId) (serial : ℕ) → 0 < serial → IsTrue (names actor (get_or whose (serial - 1) (Over how.Done))) → IsAwaited actors requests actor serial ⊎ Misses actor serial
 
--- nobody misses anything
+-- no actor misses anything
 abbrev pub Nobody : ActorId → ℕ → Type 0
 Nobody actor serial = ⊥
 
--- this actor misses the activity of this serial
+-- this actor misses the activity with this id
 abbrev pub Lacks : ℕ → ℕ → ActorId → ℕ → Type 0
 Lacks actor serial other missed = (other.0 - 1 ≡ actor - 1) × (missed ≡ serial)
 
--- who is blocked on no activity loses none
+-- an actor that is blocked on no activity loses none
 pub has_free : (n : ℕ) (old new : State) (queue : List Await) → blocked_on (blocking_in old) ≡ None → Has n (serials_in old queue) → Has n (serials_in new queue)
 has_free n old new queue free h = by (blocked_on (blocking_in new))
   where
@@ -112,18 +112,19 @@ abbrev pub places_on : Option Await → Option ActorId → ℕ
 places_on None joined = places_for joined
 places_on (Some on) joined = 0
 
--- Whether an actor in this state may stand so often in queues: once, where it is blocked by a call that is no join, and on no activity. Who has ended is never woken.
+-- Whether an actor in this state may stand so often in queues: once, if it is blocked by a call that is no join, and on
+-- no activity. An actor that has ended is never woken.
 abbrev pub MayStand : State → ℕ → Type 0
 MayStand Unstarted n = n ≡ 0
 MayStand (Ready answer) n = n ≡ 0
 MayStand (Blocked what since on) n = n ≤ places_on on (joined_by what)
 MayStand Ended n = Unit {0}
 
--- who joins another is blocked on no activity
+-- an actor that joins another is blocked on no activity
 abbrev pub JoinsAlone : State → Type 0
 JoinsAlone state = (target : ActorId) → joined_in state ≡ Some target → blocked_on (blocking_in state) ≡ None
 
--- So it is of all actors, with those that are still to go on by a call. Ids are from 1 on.
+-- So it is of all actors, with those that a call is still to unblock. Ids are from 1 on.
 pub record AreHeld (going : List ActorId) (actors : List Actor) (objects : Objects) : Type 0 where
   pub stand : (actor : ActorId) → 0 < actor.0 → MayStand (state_at actors actor.0) (waiting objects actor + times actor going)
   pub real : (actor : ActorId) → actor.0 ≡ 0 → waiting objects actor + times actor going ≡ 0

@@ -28,9 +28,9 @@ use Rattle.sg_owners.specs.declared.owners.Whose.{Whose}
 use Rattle.sg_owners.specs.declared.owners.Whose.TheVariants.{Over, Alone, Posted, Pair}
 use Rattle.sg_calls.specs.declared.stop.Stop.TheVariants.{Budget}
 use Rattle.sg_calls.specs.Answers.{finishes, side_of}
-use Rattle.sg_calls.specs.Calls.{actor_of, alone, answer_of_ask, answered, answered_call, blocks_on, computes, executes, told, with_execution}
+use Rattle.sg_calls.specs.Calls.{await_alone, answer_of_ask, answered, answered_call, blocks_on, computes, executes, told, with_execution}
 use Rattle.sg_calls.specs.Kills.{awaited, blocked_on, gives_up, gives_up_by, kill_done, kill_stretches, kills, withdrawn}
-use Rattle.sg_calls.specs.Lives.{begins, created, joins_by, leaves}
+use Rattle.sg_calls.specs.Lives.{begins, created, joins_by, with_actor_ended}
 use Rattle.sg_calls.specs.Locks.{joiners_wake}
 use Rattle.sg_calls.specs.Meetings.{receives_by, sends_by}
 use Rattle.sg_calls.specs.Steps.{Step, goes_on, stops, counted, each, all_of, at_once, readied}
@@ -46,6 +46,7 @@ use Rattle.sg_await_laws.proofs.Meeting.{awaited_comes, awaited_cond, awaited_wa
 use Rattle.sg_await_laws.proofs.Naming.{awaited_less, awaited_pushed, unnamed}
 use Rattle.sg_await_laws.proofs.Objects.{acquired_most, awaited_barrier, awaited_first, locked_most, released_most, unlocked_most}
 use Rattle.sg_await_laws.proofs.Over.{core_after, gives_up_goes, kill_done_goes, is_over}
+use Rattle.sg_base.specs.Turn.{actor_of}
 
 -- ---- executions and sleeps
 -- phases become others
@@ -69,7 +70,7 @@ awaited_if false serial core a = a
 
 awaited_begins : (task : Task) (actor : ℕ) (what : Call) (core : Core) → joined_by what ≡ None → IsCaller actor core → AreAwaited Nobody [] core → AreAwaited Nobody [] (blocks_on task actor what core)
 awaited_begins task actor what core none caller a =
-    awaited_blocked actor what (alone (length core.under.tasks + 1)) (record core { under = started task core.under; whose = core.whose ++ Alone (actor_of actor) ∷ [] }) none caller
+    awaited_blocked actor what (await_alone (length core.under.tasks + 1)) (record core { under = started task core.under; whose = core.whose ++ Alone (actor_of actor) ∷ [] }) none caller
     (awaited_pushed actor (started task core.under) (Alone (actor_of actor)) core (omega (arith, length-append core.under.tasks (Some task ∷ []))) only a)
   where
     only : (target : ActorId) → (actor == target.0) ≡ true → target.0 ≡ actor
@@ -156,9 +157,9 @@ awaited_suspends : (actor : ℕ) (on : Bool) (target : ActorId) (core : Core) �
 awaited_suspends actor on target core caller a = (let b = both_suspended actor on target core caller a in awaited_ready Nobody [] actor answer.Done (suspended_to on target core) b.calls.apart b.awaits)
 
 -- ---- kills
-pub withdrawn_fewer : (o : Objects) (target other : ActorId) → waiting (sync.withdrawn target o) other ≤ waiting o other
+pub withdrawn_fewer : (o : Objects) (target other : ActorId) → waiting (sync.after_withdrawal target o) other ≤ waiting o other
 withdrawn_fewer o target other = elim (cases_eq other.0 target.0) [
-  | inl same ↦ (let none : waiting (sync.withdrawn target o) other ≡ 0 = ap (waiting (sync.withdrawn target o)) (id_same other target same) ∙ waits_nowhere o target in omega (arith, none))
+  | inl same ↦ (let none : waiting (sync.after_withdrawal target o) other ≡ 0 = ap (waiting (sync.after_withdrawal target o)) (id_same other target same) ∙ waits_nowhere o target in omega (arith, none))
   | inr differs ↦ omega (arith, waits_stays target other o.locking differs, waits_stays target other o.acquiring differs, times_stays target other o.arrived differs)
 ]
 
@@ -170,8 +171,8 @@ awaited_withdrawn target core a = record {
   named = λ other serial from is. by other serial (cases_eq (other.0 - 1) (target.0 - 1)) (a.named other serial from is);
   held = record {
     stand = λ other from.
-        put_there (λ state. MayStand state (waiting (sync.withdrawn target core.objects) other + times other [])) core.actors target.0 other.0 Ended (λ same. tt)
-        (fewer_stand (state_of core other.0) (waiting core.objects other + times other []) (waiting (sync.withdrawn target core.objects) other + times other []) (omega (arith, withdrawn_fewer core.objects target other)) (a.held.stand other from));
+        put_there (λ state. MayStand state (waiting (sync.after_withdrawal target core.objects) other + times other [])) core.actors target.0 other.0 Ended (λ same. tt)
+        (fewer_stand (state_of core other.0) (waiting core.objects other + times other []) (waiting (sync.after_withdrawal target core.objects) other + times other []) (omega (arith, withdrawn_fewer core.objects target other)) (a.held.stand other from));
     real = λ other zero. omega (arith, withdrawn_fewer core.objects target other, a.held.real other zero);
     joins = λ other. put_there JoinsAlone core.actors target.0 other Ended (λ same of e. refl) (a.held.joins other);
   };
@@ -273,7 +274,7 @@ awaited_call roads setup core actor (call.Kill n) caller a = awaited_kills actor
 awaited_call roads setup core actor (call.Suspend n) caller a = awaited_suspends actor true n (counted core) caller a
 awaited_call roads setup core actor (call.Resume n) caller a = awaited_suspends actor false n (counted core) caller a
 awaited_call roads setup core actor call.Yield caller a = awaited_ready Nobody [] actor answer.Done core caller.apart a
-awaited_call roads setup core actor call.Exit caller a = awaited_joiners actor (leaves actor (counted core)) (awaited_put Nobody [] actor Ended core (λ target e. refl) caller.apart a)
+awaited_call roads setup core actor call.Exit caller a = awaited_joiners actor (with_actor_ended actor (counted core)) (awaited_put Nobody [] actor Ended core (λ target e. refl) caller.apart a)
 
 pub awaited_answered : (roads : Roads) (setup : Setup) (core : Core) (actor : ℕ) (what : Call) → MayCall core actor → AreAwaited Nobody [] core → AreAwaited Nobody [] (answered roads setup core actor what).core
 awaited_answered roads setup core actor what may a =

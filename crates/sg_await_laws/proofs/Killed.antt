@@ -1,4 +1,4 @@
--- Where a run kills an actor nothing names it from then on.
+-- If a run kills an actor nothing names it from then on.
 use Rattle.std.proofs.Common.{◌≡◌, ◌+◌, ◌-◌, ◌∙◌, ℕ, suc, false, ◌&&◌, IsTrue, sym, ap, subst, refl, Option, None, Some, option_map, is_some, arith}
 use Rattle.std.proofs.lemmas.Bool.{and_right, cond-false}
 use Rattle.sg_base.specs.declared.call.Call.TheVariants as call

@@ -1,4 +1,4 @@
--- What comes behind a call of a round.
+-- What follows a call of a scheduling round.
 use Rattle.std.proofs.Common.{◌≡◌, ◌<◌, ◌≤◌, ◌+◌, ◌∙◌, ℕ, zero, suc, Bool, true, false, not, ◌&&◌, cond, sym, ap, ap₂, subst, refl, List, [], ◌∷◌, length, get_or, take, take_all, Option, None, Some, is_some, arith}
 use Rattle.std.specs.List.{list_any, list_all}
 use Rattle.std.specs.Prelude.{IsSome}
@@ -15,14 +15,14 @@ use Rattle.sg_engine.specs.World.{World}
 use Rattle.sg_engine.specs.declared.ended.Ended.{Ended}
 use Rattle.sg_engine.specs.declared.ended.Ended.TheVariants as ended
 use Rattle.sg_engine.specs.Fuel.{parts_from}
-use Rattle.sg_engine.specs.Run.{Scene, Answering, Progress, and_then, and_then_by, are_completed, at_world, calls_from, if_call, in_world, inboxes, mind_after, one_call, round, round_or_pass, run_from, zip_with}
+use Rattle.sg_engine.specs.Run.{Scene, Answering, Progress, then_unless_ended, and_then_by, are_completed, at_world, calls_from, if_call, in_world, inboxes, mind_after, one_call, round, round_or_pass, run_from, zip_with}
 use Rattle.sg_await_laws.specs.Reached.{Reaches}
 use Rattle.sg_await_laws.specs.Runs.{calls_in, round_to}
 use Rattle.sg_await_laws.proofs.RoundCalls.{Leads, call_leads, may_call}
 use Rattle.sg_await_laws.proofs.Rounds.{AllStand, IsCaller, by_end, callers_stand, calls_come, parts_come, rest_stand, taken_stand, who_calls}
 
 -- ---- one who calls is ready
-ready_at : (actors : List Actor) (j : ℕ) → IsCaller (get_or actors j (not_suspended state.Ended)) → list_any is_ready actors ≡ true
+pub ready_at : (actors : List Actor) (j : ℕ) → IsCaller (get_or actors j (not_suspended state.Ended)) → list_any is_ready actors ≡ true
 ready_at [] j caller = absurd (cc caller.state)
 ready_at (actor ∷ actors) zero caller = or_left (is_ready actor) (list_any is_ready actors) (ap₂ (λ (s : State) (b : Bool). is_answered s && not b) caller.state caller.awake)
 ready_at (actor ∷ actors) (suc j) caller = or_right (is_ready actor) (list_any is_ready actors) (ready_at actors j caller)
@@ -114,7 +114,7 @@ module _ (at : Scene) (answers : Answering) (start : Core) where
       let all : take (n + length calls) calls ≡ calls = take_all (n + length calls) calls (omega arith) in
       subst (λ (cs : List (Option Call)). Comes (calls_from at answers 1 cs (turned world)).world.core) all (round_on n (n + length calls) world (omega arith) way)
 
-  -- behind a round in which somebody calls
+  -- after a scheduling round in which an actor calls
   pub parts_behind : (n j m : ℕ) (world : World) → IsSome (get_or (calls_in world) j None) → Comes (round_to n at answers world).world.core → Comes (parts_from (suc m) at answers world).world.core
   unfolding parts_from
   parts_behind n j m world some way =
@@ -124,7 +124,7 @@ module _ (at : Scene) (answers : Answering) (start : Core) where
       let is : first ≡ round at answers world = ap (λ (b : Bool). cond b (round at answers world) pass) (ready_at world.core.actors j caller) in
       let here : Comes first.world.core = subst (λ (p : Progress). Comes p.world.core) (sym is) (round_ends n world way) in
       let behind = by_end Comes first.ended first (parts_from m at answers) here (parts_come at answers start m first.world here) in
-      subst (λ (b : Bool). Comes (cond b (at_world (Some ended.Completed) world) (and_then first (parts_from m at answers))).world.core) (sym (going_at world.core.actors j caller)) behind
+      subst (λ (b : Bool). Comes (cond b (at_world (Some ended.Completed) world) (then_unless_ended first (parts_from m at answers))).world.core) (sym (going_at world.core.actors j caller)) behind
 
 -- ---- one part after another
 over_by : (b : Bool) (world : World) (y z : Progress) (h : World → Progress) → (cond b (at_world (Some ended.Completed) world) z).ended ≡ None → (z.ended ≡ None → y.world ≡ (h z.world).world) →
@@ -137,7 +137,7 @@ then_by : (how : Option Ended) (first : Progress) (f g h : World → Progress) �
 then_by None first f g h e on is = is on
 then_by (Some how) first f g h e on is = absurd (cc (e, on))
 
--- where so many parts don't end the run, it goes on with the others
+-- if so many parts don't end the run, it continues with the others
 pub parts_add : (at : Scene) (answers : Answering) (n m k : ℕ) (world : World) → k ≡ n + m → (parts_from n at answers world).ended ≡ None →
     (parts_from k at answers world).world ≡ (parts_from m at answers (parts_from n at answers world).world).world
 unfolding parts_from
@@ -146,7 +146,7 @@ parts_add at answers (suc n) m k world is on =
     let e : k ≡ suc (n + m) = omega (arith, is) in
     let first = round_or_pass at answers world in
     ap (λ (j : ℕ). (parts_from j at answers world).world) e
-    ∙ over_by (are_completed world.core) world (and_then first (parts_from (n + m) at answers)) (and_then first (parts_from n at answers)) (parts_from m at answers) on
+    ∙ over_by (are_completed world.core) world (then_unless_ended first (parts_from (n + m) at answers)) (then_unless_ended first (parts_from n at answers)) (parts_from m at answers) on
     (λ more. then_by first.ended first (parts_from (n + m) at answers) (parts_from n at answers) (parts_from m at answers) refl more (parts_add at answers n m (n + m) first.world refl))
 
 -- and the whole run is as many parts as it may have
@@ -163,5 +163,5 @@ unfolding run_from parts_from
 same_world at answers zero world = refl
 same_world at answers (suc n) world =
     let first = round_or_pass at answers world in
-    world_by (are_completed world.core) (at_world (Some ended.Completed) world) (and_then first (run_from n at answers)) (and_then first (parts_from n at answers))
+    world_by (are_completed world.core) (at_world (Some ended.Completed) world) (then_unless_ended first (run_from n at answers)) (then_unless_ended first (parts_from n at answers))
     (world_then first.ended first (run_from n at answers) (parts_from n at answers) (same_world at answers n first.world))

@@ -8,7 +8,7 @@ use Rattle.sg_base.specs.declared.call.Answer.TheVariants as answer
 use Rattle.sg_base.specs.declared.call.Call.TheVariants as call
 use Rattle.sg_base.specs.declared.ids.ActorId.{ActorId}
 use Rattle.sg_activity.specs.Task.{Task, is_cut}
-use Rattle.sg_activity.specs.Underway.{begun, drawn}
+use Rattle.sg_activity.specs.Underway.{begun, with_next_serial}
 use Rattle.sg_mailbox.specs.declared.sides.Post.{Post}
 use Rattle.sg_mailbox.specs.declared.sides.Side.{Side}
 use Rattle.sg_mailbox.specs.Posts.{is_other, partner}
@@ -38,7 +38,7 @@ pub awaited_cond : (b : Bool) (one other : Step) → AreAwaited Nobody [] one.co
 awaited_cond true one other p q = p
 awaited_cond false one other p q = q
 
--- ---- a side takes part in an activity that it misses
+-- ---- an endpoint takes part in an activity that it misses
 awaited_part : (waits : Bool) (comer : Comer) (serial : ℕ) (core : Core) → joined_by comer.what ≡ None → IsCaller comer.side.actor.0 core → AreAwaited (Lacks comer.side.actor.0 serial) [] core → AreAwaited Nobody [] (takes_part waits comer serial core).core
 awaited_part true comer serial core none caller a = awaited_blocked comer.side.actor.0 comer.what (await serial comer.sends) core none caller a
 awaited_part false comer serial core none caller a =
@@ -75,7 +75,7 @@ both_failed comer serial other core none gone caller a =
     (after_both (AreAwaited Nobody []) own (other_fails comer serial other) (part_failed comer.waits comer serial bytes core none caller a) (other_failed comer serial other own.core (part_gone comer.waits comer serial bytes core gone)))
     (after_both (AreAwaited Nobody []) theirs (comer_fails comer serial other) (other_failed comer serial other core gone a) (part_failed comer.waits comer serial bytes theirs.core none (other_calls comer serial other core caller)))
 
--- ---- a side comes to a mailbox
+-- ---- an endpoint arrives at a mailbox
 sides_are : (comer : Comer) (other : Side) (target : ActorId) → ((sender_of comer other).actor.0 ≡ target.0) ⊎ ((receiver_of comer other).actor.0 ≡ target.0) → (target.0 ≡ comer.side.actor.0) ⊎ (other.actor.0 ≡ target.0)
 sides_are comer other target = by comer.sends
   where
@@ -116,7 +116,7 @@ awaited_comes roads setup comer core none caller a = by (partner comer.sends (po
     by : (found : Option Post) → partner comer.sends (posts_at comer.mailbox core) ≡ found → AreAwaited Nobody [] (comes_by found roads setup comer core).core
     by None e =
         awaited_part comer.waits comer (length core.under.tasks + 1) (posted comer (counted core)) none caller
-        (awaited_pushed comer.side.actor.0 (drawn core.under) (Posted comer.mailbox comer.sends comer.side) (counted core) (omega (arith, length-append core.under.tasks (None ∷ []))) only a)
+        (awaited_pushed comer.side.actor.0 (with_next_serial core.under) (Posted comer.mailbox comer.sends comer.side) (counted core) (omega (arith, length-append core.under.tasks (None ∷ []))) only a)
     by (Some post) e =
         let found = found_post (is_other comer.sends) comer.mailbox 1 core.whose post e in
         awaited_route (route_between roads setup (sender_of comer post.side) (receiver_of comer post.side)) setup comer post core (omega (arith, found.from)) (omega (arith, found.from, found.to)) found.is none caller a

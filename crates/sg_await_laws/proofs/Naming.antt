@@ -40,7 +40,7 @@ awaited_less Misses Less going core so a = record {
     by target serial is (inl h) = inl h
     by target serial is (inr missed) = inr (so target serial is missed)
 
--- who is named now was so before, or is missed now
+-- an actor that is named now was so before, or is missed now
 record Was (Misses Less : ActorId → ℕ → Type 0) (before : List Whose) (target : ActorId) (serial : ℕ) : Type 0 where
   named : IsTrue (names target (get_or before (serial - 1) (Over how.Done)))
   less : Misses target serial → Less target serial
@@ -63,7 +63,7 @@ awaited_renamed Misses Less going core under whose long so a = record {
     by target serial from (inl was) = before target serial was.less (a.named target serial from was.named)
     by target serial from (inr less) = inr less
 
--- an activity is over
+-- an activity ends
 pub awaited_over : (Misses Less : ActorId → ℕ → Type 0) (going : List ActorId) (over : How) (serial : ℕ) (core : Core) → ((target : ActorId) (other : ℕ) → Misses target other → (other ≡ serial) ⊎ Less target other) → AreAwaited Misses going core → AreAwaited Less going (with_over over serial core)
 awaited_over Misses Less going over serial core so a =
     awaited_renamed Misses Less going core (with_over over serial core).under (set core.whose (serial - 1) (Over over))
@@ -105,7 +105,7 @@ awaited_pushed actor under new core long only a =
       ]
     ]
 
--- one side that was posted meets that of the actor, which misses the activity
+-- a posted endpoint matches that of the actor, which misses the activity
 named_either : (target : ActorId) (a b : Side) → IsTrue (names target (Pair a b)) → (a.actor.0 ≡ target.0) ⊎ (b.actor.0 ≡ target.0)
 named_either target a b is = by (a.actor.0 == target.0) refl is
   where

@@ -12,10 +12,9 @@ use Rattle.sg_sync.specs.declared.outcome.Outcome.{Outcome}
 use Rattle.sg_sync.specs.declared.outcome.Outcome.TheVariants.{GoesOn, Waits, Refused}
 use Rattle.sg_sync.specs.Laws.{comers}
 use Rattle.sg_sync.specs.Objects.{Objects, Done, acquired, arrived, count_of, locked, locked_by, owner_of, passed_on, refused, released, released_to, unlocked, unlocked_by, waiting}
-use Rattle.sg_sync.specs.Queues.{behind, front, queue_at, times, waits}
+use Rattle.sg_sync.specs.Queues.{waiters_behind, first_waiter, waiters_at, times, waits}
 use Rattle.sg_sync.proofs.Counts.{one, one_other, times_cons}
 use Rattle.sg_sync.proofs.Losses.{acquired_keeps, arrived_keeps, locked_keeps, released_keeps, unlocked_keeps}
-use Rattle.sg_calls.specs.Calls.{actor_of}
 use Rattle.sg_calls.specs.Locks.{all_wake, caller_first, caller_gets, caller_last, with_objects}
 use Rattle.sg_calls.specs.Steps.{each}
 use Rattle.sg_calls.specs.World.{Core, state_of, with_state}
@@ -23,8 +22,9 @@ use Rattle.sg_actor_laws.proofs.Kept.{all_kept}
 use Rattle.sg_await_laws.proofs.Answered.{after_both, awaited_woken, caller_replying, woken_after}
 use Rattle.sg_await_laws.proofs.Awaiting.{AreAwaited, IsCaller, JoinsAlone, MayStand, Nobody, awaited_put, awaited_ready, fewer_stand, places_for, put_at, put_long, put_there}
 use Rattle.sg_await_laws.proofs.Over.{anything}
+use Rattle.sg_base.specs.Turn.{actor_of}
 
--- ---- who waits and who goes on waited before, or is the caller
+-- ---- an actor that waits or is unblocked waited before, or is the caller
 abbrev pub AtMost : ActorId → Objects → Done → Type 0
 AtMost caller o done = (actor : ActorId) → waiting done.after actor + times actor done.after.others ≤ waiting o actor + times actor (comers caller done.outcome)
 
@@ -36,7 +36,7 @@ locked_most o caller mutex = elim (cases_lt mutex (length o.locking)) [
   where
     by : (owner : Option ActorId) → length o.locking ≤ mutex → AtMost caller o (locked_by owner caller mutex o)
     by None past actor = omega arith
-    by (Some owner) past actor = omega (arith, ap (waits actor) (set_past o.locking mutex (queue_at o.locking mutex ++ caller ∷ []) past))
+    by (Some owner) past actor = omega (arith, ap (waits actor) (set_past o.locking mutex (waiters_at o.locking mutex ++ caller ∷ []) past))
 
 pub unlocked_most : (o : Objects) (caller : ActorId) (mutex : ℕ) → AtMost caller o (unlocked caller mutex o)
 unlocked_most o caller mutex = elim (cases_lt mutex (length o.locking)) [
@@ -46,7 +46,7 @@ unlocked_most o caller mutex = elim (cases_lt mutex (length o.locking)) [
   where
     cases : (b : Bool) → length o.locking ≤ mutex → AtMost caller o (cond b (passed_on mutex o) (refused o))
     cases true past actor =
-        omega (arith, ap (waits actor) (set_past o.locking mutex (behind (queue_at o.locking mutex)) past), ap (λ q. times actor (option_to_list (front q))) (get_or_past o.locking mutex [] past))
+        omega (arith, ap (waits actor) (set_past o.locking mutex (waiters_behind (waiters_at o.locking mutex)) past), ap (λ q. times actor (option_to_list (first_waiter q))) (get_or_past o.locking mutex [] past))
     cases false past actor = omega arith
 
     by : (owner : Option ActorId) → length o.locking ≤ mutex → AtMost caller o (unlocked_by owner caller mutex o)
@@ -58,14 +58,14 @@ acquired_most o caller semaphore = elim (cases_lt semaphore (length o.acquiring)
   | inl below ↦ λ actor. omega (arith, acquired_keeps o caller semaphore below actor)
   | inr past ↦ λ actor. elim (cases_Bool (nat_lt 0 (count_of o semaphore))) [
     | inl some ↦ rw some (omega arith)
-    | inr none ↦ rw none (omega (arith, ap (waits actor) (set_past o.acquiring semaphore (queue_at o.acquiring semaphore ++ caller ∷ []) past)))
+    | inr none ↦ rw none (omega (arith, ap (waits actor) (set_past o.acquiring semaphore (waiters_at o.acquiring semaphore ++ caller ∷ []) past)))
   ]
 ]
 
 pub released_most : (o : Objects) (caller : ActorId) (semaphore : ℕ) → AtMost caller o (released semaphore o)
 released_most o caller semaphore = elim (cases_lt semaphore (length o.acquiring)) [
   | inl below ↦ λ actor. omega (arith, released_keeps o caller semaphore below actor)
-  | inr past ↦ subst (λ q. AtMost caller o (released_to (front q) semaphore o)) (sym (get_or_past o.acquiring semaphore [] past)) (λ actor. omega arith)
+  | inr past ↦ subst (λ q. AtMost caller o (released_to (first_waiter q) semaphore o)) (sym (get_or_past o.acquiring semaphore [] past)) (λ actor. omega arith)
 ]
 
 one_few : (a b : ActorId) → one a b ≤ 1
@@ -119,7 +119,7 @@ awaited_first done actor what core none most caller a =
     let first = caller_gets done.outcome actor what (with_objects done core) in
     woken_after first done.after.others (awaited_gets done.outcome done actor what core refl none most caller a) (awaited_woken done.after.others first.core)
 
--- ---- the barrier, where the caller is answered last
+-- ---- the barrier, which answers the caller last
 pub awaited_barrier : (actor : ℕ) (what : Call) (core : Core) → joined_by what ≡ None → IsCaller actor core → AreAwaited Nobody [] core → AreAwaited Nobody [] (caller_last (arrived (actor_of actor) core.objects) actor what core).core
 unfolding each
 awaited_barrier actor what core none caller a = by (nat_lt (length core.objects.arrived + 1) core.objects.members) (λ other. omega (arith, arrived_keeps core.objects (actor_of actor) other))

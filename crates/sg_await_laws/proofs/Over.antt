@@ -1,4 +1,4 @@
--- What is over names nobody; and a kill goes on to its end.
+-- What has ended names no actor; and a kill continues to its end.
 use Rattle.std.proofs.Common.{◌≡◌, ℕ, ◌==◌, Bool, true, false, true≢false, cond, inl, inr, None, List, [], length, set, get_or, refl, sym, ap, arith}
 use Rattle.std.proofs.lemmas.Bool.{cases_lt}
 use Rattle.std.proofs.lemmas.List.{get_or-set_same, get_or_past, length-set}
@@ -44,7 +44,7 @@ IsGone serial core = is_over (whose_at core serial) ≡ true
 pub gone_replying : (serial : ℕ) → Replying (IsGone serial) anything
 gone_replying serial = record { replies = λ actor blocking bytes given core is gone. one_made (IsGone serial) anything _ _ gone tt }
 
--- ---- a kill goes on
+-- ---- a kill continues
 pub gives_up_goes : (serial : ℕ) (core : Core) → (gives_up serial core).stop ≡ None
 gives_up_goes serial core = by (whose_at core serial)
   where

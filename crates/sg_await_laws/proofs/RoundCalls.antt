@@ -1,4 +1,5 @@
--- A call of a round: the run reaches where it leads, and each other actor that has an answer has it still, or was killed.
+-- A call of a scheduling round: the run reaches where it leads, and each other actor that has an answer still has it,
+-- or was killed.
 use Rattle.std.proofs.Common.{◌≡◌, ◌≢◌, ◌<◌, ◌-◌, ◌==◌, ◌&&◌, ◌∙◌, ℕ, zero, suc, Bool, true, false, true≢false, cond, IsTrue, inl, inr, sym, ap, refl, List, [], ◌∷◌, length, get_or, Option, None, Some, is_some, Result, Ok, Err, arith}
 use Rattle.std.proofs.lemmas.Bool.{and_parts}
 use Rattle.std.specs.Option.{option_map_or}
@@ -28,7 +29,7 @@ pub record Stands (actor : ℕ) (core : Core) : Type 0 where
   pub answer : Answer
   pub keeps : KeepsAnswer actor answer core
 
--- The later core is reached wherever the earlier one is, and all stand in it that stood, but for this actor.
+-- The later core is reached wherever the earlier one is, and all stand in it that stood, except for this actor.
 pub record Leads (at : Scene) (actor : ℕ) (old new : Core) : Type 0 where
   pub reaches : (start : Core) → Reaches at.roads at.setup start old → Reaches at.roads at.setup start new
   pub stand : (other : ℕ) → 0 < other → other ≢ actor → Stands other old → Stands other new

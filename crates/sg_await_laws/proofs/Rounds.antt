@@ -1,4 +1,4 @@
--- Rounds and passes: where a run comes, it reaches.
+-- Scheduling rounds and time advances: where a run comes, it reaches.
 use Rattle.std.proofs.Common.{◌≡◌, ◌<◌, ◌+◌, ◌-◌, ◌∙◌, ℕ, zero, suc, Bool, true, false, cond, inl, sym, ap, refl, List, [], ◌∷◌, map, get_or, take, Option, None, Some, is_some, arith}
 use Rattle.std.specs.Prelude.{IsSome}
 use Rattle.sg_base.specs.declared.call.Answer.{Answer}
@@ -15,13 +15,13 @@ use Rattle.sg_engine.specs.World.{World}
 use Rattle.sg_engine.specs.declared.ended.Ended.{Ended}
 use Rattle.sg_engine.specs.declared.ended.Ended.TheVariants as ended
 use Rattle.sg_engine.specs.Fuel.{parts_from}
-use Rattle.sg_engine.specs.Run.{Scene, Answering, Progress, and_then, and_then_by, anyone_ready, are_completed, at_world, call_after, calls_from, if_call, in_world, inboxes, mind_after, round, round_or_pass, run_from, zip_with}
+use Rattle.sg_engine.specs.Run.{Scene, Answering, Progress, then_unless_ended, and_then_by, anyone_ready, are_completed, at_world, call_after, calls_from, if_call, in_world, inboxes, mind_after, round, round_or_pass, run_from, zip_with}
 use Rattle.sg_await_laws.specs.Reached.{Reaches}
 use Rattle.sg_await_laws.specs.Reached as reached
 use Rattle.sg_await_laws.specs.Runs.{calls_in, round_to}
 use Rattle.sg_await_laws.proofs.RoundCalls.{Leads, Stands, call_leads}
 
--- ---- who calls in a round
+-- ---- who calls in a scheduling round
 -- an actor that takes a turn has an answer, and isn't suspended
 pub record IsCaller (actor : Actor) : Type 0 where
   pub answer : Answer
@@ -45,7 +45,7 @@ who_calls (mind ∷ minds) [] j some = absurd (cc some)
 who_calls (mind ∷ minds) (actor ∷ actors) zero some = called_by actor mind (inbox_of actor) refl some
 who_calls (mind ∷ minds) (actor ∷ actors) (suc j) some = who_calls minds actors j some
 
--- all that call stand, where the first of these calls is this actor's
+-- all that call stand, if the first of these calls is this actor's
 abbrev pub AllStand : ℕ → List (Option Call) → Core → Type 0
 AllStand actor calls core = (j id : ℕ) → id ≡ actor + j → IsSome (get_or calls j None) → Stands id core
 
@@ -64,7 +64,7 @@ some_taken (suc n) (what ∷ calls) (suc j) some = some_taken n calls j some
 pub taken_stand : (n actor : ℕ) (calls : List (Option Call)) (core : Core) → AllStand actor calls core → AllStand actor (take n calls) core
 taken_stand n actor calls core all j id is some = all j id is (some_taken n calls j some)
 
--- behind the first call the others still stand
+-- after the first call the others still stand
 pub rest_stand : (at : Scene) (actor : ℕ) (what : Option Call) (rest : List (Option Call)) (old new : Core) → Leads at actor old new → AllStand actor (what ∷ rest) old → AllStand (actor + 1) rest new
 rest_stand at actor what rest old new leads all j id is some =
     leads.stand id (omega (arith, is)) (λ same. omega (arith, is, same)) (all (suc j) id (omega (arith, is)) some)
@@ -111,7 +111,7 @@ module _ (at : Scene) (answers : Answering) (start : Core) where
   parts_come zero world way = way
   parts_come (suc n) world way =
       let first = round_or_pass at answers world in
-      by_test Comes (are_completed world.core) (at_world (Some ended.Completed) world) (and_then first (parts_from n at answers)) way
+      by_test Comes (are_completed world.core) (at_world (Some ended.Completed) world) (then_unless_ended first (parts_from n at answers)) way
       (by_end Comes first.ended first (parts_from n at answers) (part_comes world way) (parts_come n first.world (part_comes world way)))
 
   pub run_comes : (n : ℕ) (world : World) → Comes world.core → Comes (run_from n at answers world).world.core
@@ -119,5 +119,5 @@ module _ (at : Scene) (answers : Answering) (start : Core) where
   run_comes zero world way = way
   run_comes (suc n) world way =
       let first = round_or_pass at answers world in
-      by_test Comes (are_completed world.core) (at_world (Some ended.Completed) world) (and_then first (run_from n at answers)) way
+      by_test Comes (are_completed world.core) (at_world (Some ended.Completed) world) (then_unless_ended first (run_from n at answers)) way
       (by_end Comes first.ended first (run_from n at answers) (part_comes world way) (run_comes n first.world (part_comes world way)))

@@ -4,7 +4,7 @@ use Rattle.sg_route.specs.Roads.{roads_of}
 use Rattle.sg_kernel.specs.Start.{capacities_in, first_core}
 use Rattle.sg_setup.specs.Setup.{setup_of}
 use Rattle.sg_calls.specs.World.{Core}
-use Rattle.sg_engine.specs.Run.{and_then}
+use Rattle.sg_engine.specs.Run.{then_unless_ended}
 use Rattle.sg_await_laws.specs.Reached.{Reached, Reaches, here}
 use Rattle.sg_await_laws.proofs.Reached.{ended_are_unnamed, named_are_awaited, starts_are_reached}
 use Rattle.sg_await_laws.specs.InRuns.{EndedInRunsAreUnnamed, NamedInRunsAreAwaited, RunsAreReached}
@@ -21,7 +21,7 @@ module _ (run : Run) where
   pub parts_in_come : (parts : ℕ) → IsIn (parts_in parts run).world.core
   parts_in_come parts = parts_come (scene_in run) run.answers (first_in run).core parts (first_in run) here
 
-  run_to_comes : (parts actors : ℕ) → IsIn (and_then (parts_in parts run) (round_to actors (scene_in run) run.answers)).world.core
+  run_to_comes : (parts actors : ℕ) → IsIn (then_unless_ended (parts_in parts run) (round_to actors (scene_in run) run.answers)).world.core
   run_to_comes parts actors =
       by_end IsIn (parts_in parts run).ended (parts_in parts run) (round_to actors (scene_in run) run.answers) (parts_in_come parts)
       (round_to_comes (scene_in run) run.answers (first_in run).core actors (parts_in parts run).world (parts_in_come parts))

@@ -26,7 +26,7 @@ names target (Pair sender receiver) = (sender.actor.0 == target.0) || (receiver.
 abbrev pub AwaitsAll : ActorId → Core → Type 0
 AwaitsAll target core = (serial : ℕ) → 0 < serial → IsTrue (names target (whose_at core serial)) → Contains (awaited target core) serial
 
--- no activity, under way or in a mailbox, names the actor
+-- no activity, running or in a mailbox, names the actor
 abbrev pub IsUnnamed : ActorId → Core → Type 0
 IsUnnamed target core = (serial : ℕ) → 0 < serial → names target (whose_at core serial) ≡ false
 

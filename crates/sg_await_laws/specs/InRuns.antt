@@ -10,7 +10,8 @@ use Rattle.sg_await_laws.specs.Awaits.{AwaitsAll, IsUnnamed}
 use Rattle.sg_await_laws.specs.Reached.{Reached}
 use Rattle.sg_await_laws.specs.Runs.{IsLaterCore, IsCoreOf, KillsAt, Run}
 
--- each core of a run is reached by calls, creates, Asks and passes, with the premises that the kernel's functions have
+-- each core of a run is reached by calls, creates, fetched lines and time advances, with the premises that the kernel's
+-- functions have
 abbrev pub RunsAreReached : Type 0
 RunsAreReached = (run : Run) (core : Core) → IsCoreOf run core → Reached (roads_of run.platform) (setup_of run.platform run.deployed run.budget) core
 
@@ -22,6 +23,6 @@ NamedInRunsAreAwaited = (run : Run) (core : Core) → IsCoreOf run core → (tar
 abbrev pub EndedInRunsAreUnnamed : Type 0
 EndedInRunsAreUnnamed = (run : Run) (core : Core) → IsCoreOf run core → (target : ActorId) → HasEnded target.0 core → queue_at core.requests target.0 ≡ [] → IsUnnamed target core
 
--- where a run kills an actor nothing names it from behind that call on
+-- if a run kills an actor, nothing names it after that call
 abbrev pub KilledInRunsAreUnnamed : Type 0
 KilledInRunsAreUnnamed = (run : Run) (parts actors : ℕ) (target : ActorId) → KillsAt run parts actors target → (core : Core) → IsLaterCore run parts (actors + 1) core → IsUnnamed target core

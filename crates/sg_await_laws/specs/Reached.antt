@@ -15,7 +15,8 @@ use Rattle.sg_kernel.specs.Start.{capacities_in, first_core}
 use Rattle.sg_setup.specs.Setup.{setup_of, Setup}
 use Rattle.sg_calls.specs.World.{Core, MayCall, state_of}
 
--- A run reaches a core from another: by calls of actors that may call, actors that are created, Asks that are answered, and passes, with the premises that the kernel's functions have.
+-- A run reaches a core from another: by calls of actors that may call, actors that are created, fetched lines that are
+-- answered, and time advances, with the premises that the kernel's functions have.
 pub data Reaches (roads : Roads) (setup : Setup) (start : Core) : Core → Type 0 where
   here : Reaches roads setup start start
   calls : {core : Core} → Reaches roads setup start core → (actor : ℕ) (what : Call) → MayCall core actor → Reaches roads setup start (answered roads setup core actor what).core
@@ -23,7 +24,7 @@ pub data Reaches (roads : Roads) (setup : Setup) (start : Core) : Core → Type 
   asks : {core : Core} → Reaches roads setup start core → (actor : ℕ) (action : Option Action) → MayCall core actor → Reaches roads setup start (told setup core actor action).core
   passes : {core : Core} → Reaches roads setup start core → Reaches roads setup start (pass_of setup core).core
 
--- a run reaches the core from its start; its setup tells of each actor the host, and whether it starts
+-- a run reaches the core from its start; its setup says of each actor the host, and whether it starts
 pub record Reached (roads : Roads) (setup : Setup) (core : Core) : Type 0 where
   pub capacities : Capacities
   pub actors : length setup.starts ≡ length setup.homes

@@ -8,8 +8,8 @@ pub fn starts_are_reached()
     ensures { StartsAreReached }
 {}
 
-/// In each core that a run reaches an actor awaits all that names it: each activity under way that is its own, each of
-/// its sides in a mailbox and each of its communications is the one on which it is blocked, or among its requests.
+/// In each core that a run reaches an actor awaits all that names it: each running activity of its own, each of its
+/// endpoints in a mailbox and each of its communications is the one on which it is blocked, or among its requests.
 pub fn named_are_awaited()
     ensures { NamedAreAwaited }
 {}
@@ -19,14 +19,14 @@ pub fn ended_are_unnamed()
     ensures { EndedAreUnnamed }
 {}
 
-/// A kill of an actor that is alive leaves nothing that names it, neither an activity under way nor a side that waits
-/// in a mailbox, and nothing ever names it again.
+/// The kill of a living actor leaves nothing that names it, neither a running activity nor an endpoint in a mailbox,
+/// and nothing ever names it again.
 pub fn killed_leave_nothing()
     ensures { KilledLeaveNothing }
 {}
 
-/// Each core of a run is reached, so that all laws of what a run reaches hold in it: who calls in a round has an answer
-/// until its call is due, or was killed and is passed over.
+/// Each core of a run is reached, so that all laws of what a run reaches hold in it: an actor that calls in a
+/// scheduling round has an answer until its call's turn, or was killed and is skipped.
 pub fn runs_are_reached()
     ensures { RunsAreReached }
 {}
@@ -41,7 +41,7 @@ pub fn ended_in_runs_are_unnamed()
     ensures { EndedInRunsAreUnnamed }
 {}
 
-/// From where a run kills an actor that is alive nothing names that actor, to the end of the run.
+/// From the kill of a living actor on, nothing in the run names that actor.
 pub fn killed_in_runs_are_unnamed()
     ensures { KilledInRunsAreUnnamed }
 {}

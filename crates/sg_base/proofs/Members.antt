@@ -39,7 +39,7 @@ module _ (order place : List ℕ) (count : ℕ) (s : IsSparse order place count)
         omega (arith, at, m, k')) ∙ sym (le-ltb (get_or place number 0) count m)
   ]
 
-  -- one more comes behind the members
+  -- one more comes after the members
   module _ (number at other : ℕ) (h : number < length place) (at_is : at ≡ get_or place number 0) (other_is : other ≡ get_or order count 0) (new : count ≤ at) where
     its : number ≡ get_or order at 0
     its = sym (ap (λ k. get_or order k 0) at_is ∙ s.placed.back number h)
@@ -124,7 +124,7 @@ module _ (order place : List ℕ) (count : ℕ) (s : IsSparse order place count)
       ∙ ap (λ k. ltb k last) (get_or-set_same (set place other at) number last 0 (omega (arith, h, length-set place other at)))
       ∙ le-ltb last last (omega arith)
 
-  -- of another number below the room its place tells
+  -- for another number below the room its place decides
   tells : (x : ℕ) → x < length place → x ≢ number → is_in x (take last order') ≡ is_in x (take count order)
   tells x in' ne =
       is_in-place order' place' last sparse_less x (omega (arith, in', len'))

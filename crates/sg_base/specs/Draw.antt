@@ -1,7 +1,7 @@
 -- The generator of the numbers of a churn: a linear congruence modulo 2^64, of which the high bits are drawn.
 use Rattle.std.specs.Prelude.{ℕ, ◌+◌, ◌*◌, ◌/◌, ◌%◌, ◌^◌}
 
--- the state behind a draw
+-- the state after a draw
 abbrev pub next_state : ℕ → ℕ
 next_state state = (6364136223846793005 * state + 1442695040888963407) % 2 ^ 64
 

@@ -7,6 +7,7 @@ pub record MarkSet : Type 0 where
   pub members : List ℕ
   pub room : ℕ
 
+-- whether a number is among the members of a set of marks
 abbrev pub is_in : ℕ → List ℕ → Bool
 is_in number members = list_any (λ member. member == number) members
 

@@ -10,10 +10,12 @@ pub data Kind : Type 0 where
   churn : Kind
   ended : Kind
 
+-- the whole state of an actor between its turns: its kind, and numbers whose sense the kind gives
 pub record Mind : Type 0 where
   pub kind : Kind
   pub numbers : List ℕ
 
+-- the state of an actor of this kind, with these numbers
 abbrev pub mind : Kind → List ℕ → Mind
 mind kind numbers = record { kind = kind; numbers = numbers }
 

@@ -13,10 +13,12 @@ use Rattle.sg_base.specs.declared.call.Call.TheVariants as call
 use Rattle.sg_base.specs.Draw.{drawn, next_state}
 use Rattle.sg_base.specs.Mind.{Kind, Mind, mind, replay, worker, master, churn, ended}
 
+-- what an actor's turn gives: its state afterwards, and the call that it makes
 pub record Turn : Type 0 where
   pub mind : Mind
   pub call : Call
 
+-- the turn after which an actor has this kind and these numbers, and makes this call
 abbrev pub turned : Kind → List ℕ → Call → Turn
 turned kind numbers call = record { mind = mind kind numbers; call = call }
 
@@ -24,6 +26,7 @@ turned kind numbers call = record { mind = mind kind numbers; call = call }
 abbrev pub leaves : List ℕ → Turn
 leaves numbers = turned ended numbers call.Exit
 
+-- the identifier of the actor with this number, from 1 on
 abbrev pub actor_of : ℕ → ActorId
 actor_of number = record { 0 = number }
 
@@ -58,12 +61,13 @@ replay_turn numbers other = turned replay numbers call.Ask
 abbrev pub receives : List ℕ → Turn
 receives numbers = turned worker numbers (call.Recv (box.Named (actor_of (slice_index numbers 0))))
 
+-- a worker computes a task that it received, ends at a stop, and receives again after an empty message
 abbrev pub worker_got : List ℕ → Msg → Turn
 worker_got numbers (msg.Task flops) = turned worker numbers (call.Compute flops 1)
 worker_got numbers msg.Stop = leaves numbers
 worker_got numbers msg.Empty = receives numbers
 
--- it does the task that it got, at priority 1, ends when it is told to, and else receives
+-- it does the task that it received, at priority 1, ends when it receives a stop, and else receives
 abbrev pub worker_turn : List ℕ → Answer → Turn
 worker_turn numbers (answer.Got message) = worker_got numbers message
 worker_turn numbers other = receives numbers
@@ -73,7 +77,7 @@ abbrev pub sends : List ℕ → ℕ → ℕ → Msg → Turn
 sends numbers place bytes message =
     turned master (slice_set numbers 3 (slice_index numbers 3 + 1)) (call.Send (box.Named (actor_of (slice_index numbers (4 + place)))) bytes message 0)
 
--- a master hands its tasks to its workers in turn, then tells each of them to stop, and ends
+-- a master hands its tasks to its workers in turn, then sends each of them a stop, and ends
 abbrev pub master_turn : List ℕ → Turn
 master_turn numbers =
     let tasks = slice_index numbers 0 in
@@ -110,5 +114,6 @@ turn_of master numbers answer = master_turn numbers
 turn_of churn numbers answer = churn_turn numbers
 turn_of ended numbers answer = leaves numbers
 
+-- one turn of an actor: its mind and an answer give its next mind and its call
 abbrev pub turn : Mind → Answer → Turn
 turn m answer = turn_of m.kind m.numbers answer

@@ -20,7 +20,7 @@ impl Model for Ids {
 }
 
 impl Ids {
-    /// These actors. It takes no memory.
+    /// Makes these actors. It takes no memory.
     pub fn from_vec(actors: Vec<ActorId>) -> Ids
         ensures { result ≡ actors.items }
     {
@@ -34,7 +34,7 @@ impl Ids {
         self.actors
     }
 
-    /// The actors.
+    /// Returns the actors.
     pub fn as_slice(&self) -> &[ActorId]
         ensures { result.now ≡ self.now }
     {

@@ -10,7 +10,7 @@ pub enum Party {
     Receiver,
 }
 
-/// What an actor waits for, or may wait for: that its side of the activity of this serial is done.
+/// What an actor waits for, or may wait for: the completion of its endpoint of the activity with this id.
 #[derive(Clone, Copy)]
 pub struct Await {
     pub serial: Serial,

@@ -7,14 +7,14 @@ use crate::ids::{ActorId, BoxId};
 pub enum Call {
     /// For its next script line.
     Ask,
-    /// To compute so many flops at a priority, and go on when it is done.
+    /// To compute this many flops at a priority, and continue after completion.
     Compute(u64, u32),
     /// To sleep for so many nanoseconds.
     Sleep(u64),
-    /// To send so many bytes and a message into a mailbox at no more than a rate in bytes a second (0: at any), and go on
-    /// when they have arrived.
+    /// To send this many bytes and a message into a mailbox at no more than a rate in bytes a second (0: unlimited), and
+    /// continue after they have arrived.
     Send(BoxId, u64, Msg, u64),
-    /// To receive from a mailbox, and go on when the bytes have arrived.
+    /// To receive from a mailbox, and continue after the bytes have arrived.
     Recv(BoxId),
     /// To send without waiting: the communication becomes its newest request.
     ISend(BoxId, u64, Msg, u64),
@@ -22,13 +22,13 @@ pub enum Call {
     IRecv(BoxId),
     /// To wait until the communication of its oldest request is done.
     Wait,
-    /// To own a mutex, and go on when it does. Mutexes are numbered from 0 on in declared order.
+    /// To own a mutex, and continue once it does. Mutexes are numbered from 0 on in declared order.
     Lock(u32),
     /// To give a mutex up.
     Unlock(u32),
-    /// To take one from the count of a semaphore, and go on when it did. They are numbered from 0 on.
+    /// To take one from the count of a semaphore, and continue once it did. They are numbered from 0 on.
     Acquire(u32),
-    /// To let the first that waits for a semaphore go on, or to add one to its count.
+    /// To wake the first actor that waits for a semaphore, or to add one to its count.
     Release(u32),
     /// To wait at the barrier until all members have arrived.
     Barrier,
@@ -89,9 +89,9 @@ pub enum Action {
 pub enum Answer {
     /// Before its first turn.
     Start,
-    /// To an Ask: its next line.
+    /// To `Ask`: the actor's next line.
     Act(Action),
-    /// To an Ask: there is no further line.
+    /// To `Ask`: there is no further line.
     NoMore,
     /// What it asked for is done.
     Done,
@@ -99,6 +99,6 @@ pub enum Answer {
     Got(Msg),
     /// What it asked for isn't possible.
     Refused,
-    /// What it asked for failed: something that it uses is off, or went off.
+    /// What it asked for failed: something that it uses is off, or was turned off.
     Failed,
 }

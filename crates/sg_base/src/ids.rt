@@ -6,7 +6,7 @@ ghost use Rattle.std.specs.Prelude.{◌≡◌, ◌-◌, ◌<◌};
 pub struct ActorId(pub u32);
 
 impl ActorId {
-    /// The row of the actor among those of the deployment, from 0 on.
+    /// Returns the row of the actor among those of the deployment, from 0 on.
     pub fn index(self) -> usize
         requires { 0 < self.0 }
         ensures { result ≡ self.0 - 1 }
@@ -35,7 +35,7 @@ pub enum Child {
     Zone(ZoneId),
 }
 
-/// The serial of an activity, counted up from 1 over the whole run.
+/// The id of an activity, counted up from 1 over the whole run.
 #[derive(Clone, Copy)]
 pub struct Serial(pub u64);
 

@@ -6,7 +6,7 @@ ghost use Rattle.sg_base.specs.Limits.{Extent, IsAnswer, IsCall};
 ghost use Rattle.sg_base.specs.Mind.{Mind, IsMind};
 ghost use Rattle.sg_base.specs.Turn.{turn};
 
-/// A mind keeps its shape. Where the amounts of an answer keep to their limits and what it names exists, the same
+/// A mind keeps its shape. If the amounts of an answer keep to their limits and what it names exists, the same
 /// holds of the call that follows it.
 pub fn turns_keep_limits()
     ensures mind { (extent : Extent) (mind : Mind) (answer : Answer) → IsMind extent mind

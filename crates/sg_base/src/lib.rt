@@ -1,6 +1,6 @@
-//! The words that every layer of the simulator speaks: identifiers, calls, actions, answers, records, how a program
-//! ends, texts, lists, sets of small numbers, and the counter of looks.
-//! One enters by its types: a turn ends in a `Call`, which is answered by an `Answer`; `Steps` counts looks.
+//! The types that every layer of the simulator uses: identifiers, calls, actions, answers, records, exit statuses,
+//! texts, lists, sets of small numbers, and the counter of visits.
+//! An actor's turn ends in a `Call`, which is answered by an `Answer`; `Steps` counts visits.
 //! It stands on std alone.
 #![tactic(auto)]
 

@@ -20,7 +20,7 @@ impl Model for Links {
 }
 
 impl Links {
-    /// These links. It takes no memory.
+    /// Makes these links. It takes no memory.
     pub fn from_vec(links: Vec<LinkId>) -> Links
         ensures { result ≡ links.items }
     {
@@ -34,7 +34,7 @@ impl Links {
         self.links
     }
 
-    /// The links.
+    /// Returns the links.
     pub fn as_slice(&self) -> &[LinkId]
         ensures { result.now ≡ self.now }
     {

@@ -35,7 +35,7 @@ impl Model for Marks {
 }
 
 impl Marks {
-    /// No members, and no room.
+    /// Makes an empty set, without room.
     pub fn new(alloc: Global) -> Marks
         ensures members { result.members ≡ [] }
         ensures room { result.room ≡ 0 }
@@ -47,7 +47,7 @@ impl Marks {
         }
     }
 
-    /// Whether the number is a member.
+    /// Returns whether the number is a member.
     pub fn contains(&self, number: usize) -> bool
         requires { number < self.now.room }
         ensures { result ≡ is_in number self.now.members }
@@ -55,7 +55,7 @@ impl Marks {
         (self.place[number] as usize) < self.count
     }
 
-    /// The members, in the order in which they came.
+    /// Returns the members, in the order in which they came.
     pub fn members(&self) -> &[usize]
         ensures members { result.now ≡ self.now.members }
         ensures once { AllPairs (λ a b. a ≢ b) result.now }
@@ -102,14 +102,14 @@ impl Marks {
         }
     }
 
-    /// No number is a member any more.
+    /// Removes all members.
     pub fn clear(&mut self)
         ensures { self.new ≡ record self.old { members = [] } }
     {
         self.count = 0;
     }
 
-    // Room for one more.
+    // Makes room for one more.
     fn grow(&mut self) -> Result<(), Memory>
         ensures grown { OnOk result (self.new ≡ record self.old { room = self.old.room + 1 }) }
         ensures failed { OnErr result (self.new ≡ self.old) }
@@ -131,7 +131,7 @@ impl Marks {
         }
     }
 
-    /// Makes room for the numbers below this one. Nothing but the room changes, also where there is no memory.
+    /// Makes room for the numbers below this one. Only the room changes, even if memory runs out.
     pub fn reserve(&mut self, room: usize) -> Result<(), Memory>
         ensures room { OnOk result (self.new.room ≡ max self.old.room room) }
         ensures kept { self.new ≡ record self.old { room = self.new.room } }

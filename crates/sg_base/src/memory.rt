@@ -1,9 +1,9 @@
-//! Want of memory.
+//! Out of memory.
 ghost use Rattle.std.specs.Prelude.{◌≡◌};
 
 use std::alloc::{AllocError, AllocFailed};
 
-/// There was no memory left. No contract says when that is.
+/// The error of a call that ran out of memory. No contract says when that happens.
 #[derive(Clone, Copy, Debug)]
 pub struct Memory;
 

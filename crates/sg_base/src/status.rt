@@ -13,9 +13,9 @@ pub enum Status {
     Deployment,
     /// A bad script line was met.
     Script,
-    /// Nobody was ready, and nothing was under way.
+    /// No actor was ready, and no activity was running.
     Deadlock,
-    /// Nobody was ready, and nothing that was under way would ever be over.
+    /// No actor was ready, and no running activity would ever complete.
     Starved,
     /// An event was next, and the budget of events was used up.
     Budget,
@@ -25,7 +25,7 @@ pub enum Status {
     ReadFault,
     /// A write failed.
     WriteFault,
-    /// There was no memory left.
+    /// Memory ran out.
     Memory,
 }
 
@@ -33,7 +33,7 @@ impl Status {
     ghost use Rattle.std.specs.Prelude.{◌≡◌};
     ghost use Rattle.sg_base.specs.Status.{status_code};
 
-    /// The exit status of the program.
+    /// Returns the exit status of the program.
     pub fn code(self) -> u8
         ensures { result ≡ status_code self }
     {

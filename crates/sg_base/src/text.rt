@@ -18,7 +18,7 @@ impl Model for Text {
 }
 
 impl Text {
-    /// A copy of a text.
+    /// Makes a copy of a text.
     pub fn new(alloc: Global, text: &str) -> Result<Text, Memory>
         ensures { IfOk result (λ t. t ≡ text.now) }
     {
@@ -26,7 +26,7 @@ impl Text {
         Ok(Text { text })
     }
 
-    /// The text.
+    /// Returns the text.
     pub fn as_str(&self) -> &str
         ensures { result.now ≡ self.now }
     {

@@ -9,11 +9,11 @@ pub enum End {
     Done(u128),
     /// It isn't possible.
     Refused,
-    /// Something that it uses is off, or went off.
+    /// Something that it uses is off, or was turned off.
     Failed,
 }
 
-/// An action that was answered: what a trace line tells.
+/// An action that was answered: the content of a trace line.
 #[derive(Clone, Copy)]
 pub struct Record {
     pub actor: ActorId,

@@ -1,4 +1,4 @@
--- Calls by which sides of communications come, and others.
+-- Calls by which endpoints of communications arrive, and others.
 use Rattle.std.proofs.Common.{◌≡◌, ◌≢◌, ℕ, ◌==◌, Bool, true, false, cond, Ok, Result, Option, None, Some, List, [], ◌∷◌, refl, sym, ap, subst, arith}
 use Rattle.sg_base.specs.declared.call.Answer.{Answer}
 use Rattle.sg_base.specs.declared.call.Call.{Call}
@@ -15,11 +15,12 @@ use Rattle.sg_route.specs.Roads.{Roads}
 use Rattle.sg_sync.specs.Objects.{Done, locked, unlocked, acquired, released, arrived}
 use Rattle.sg_calls.specs.declared.meetings.Comer.{Comer}
 use Rattle.sg_activity.specs.Links.{is_off}
+use Rattle.sg_base.specs.Turn.{actor_of}
 use Rattle.sg_states.specs.Actors.{is_alive, is_ended, joiners}
 use Rattle.sg_owners.specs.declared.owners.How.TheVariants as how
 use Rattle.sg_owners.specs.declared.owners.Whose.{Whose}
 use Rattle.sg_owners.specs.declared.owners.Whose.TheVariants.{Over, Alone, Posted, Pair}
-use Rattle.sg_calls.specs.declared.fields.Fields.{Fields}
+use Rattle.sg_calls.specs.declared.simulation_state.Fields.{Fields}
 use Rattle.sg_calls.specs.declared.stop.Stop.{Stop}
 use Rattle.sg_calls.specs.declared.stop.Stop.TheVariants.{Budget}
 use Rattle.sg_setup.specs.Setup.{Setup}
@@ -29,9 +30,9 @@ use Rattle.sg_calls.specs.Steps.{Step, all_of, counted, each, result_of, stops}
 use Rattle.sg_calls.specs.Answers.{side_of}
 use Rattle.sg_calls.specs.Meetings.{comer_of, sends_by, receives_by, answer_of_over, waits_by, waits_until}
 use Rattle.sg_calls.specs.Locks.{caller_gets, all_wake, caller_first, caller_last, joiners_wake, with_objects}
-use Rattle.sg_calls.specs.Lives.{joins_by, leaves}
+use Rattle.sg_calls.specs.Lives.{joins_by, with_actor_ended}
 use Rattle.sg_calls.specs.Kills.{awaited, gives_up, gives_up_by, kill_done, kill_stretches, kills, withdrawn}
-use Rattle.sg_calls.specs.Calls.{answered, answered_call, actor_of, computes}
+use Rattle.sg_calls.specs.Calls.{answered, answered_call, computes}
 use Rattle.sg_calls.specs.kept.Acts.{CanCome, CanMake, CanName, Replies}
 use Rattle.sg_calls.specs.kept.Asks.{CanAnswer}
 use Rattle.sg_calls.specs.kept.Sound.{comes_in, core_of, known_of, setup_in}
@@ -42,11 +43,11 @@ use Rattle.sg_calls.proofs.Limits.{homes_counted}
 use Rattle.sg_calls.proofs.Moves.{can_step}
 use Rattle.sg_calls.proofs.Woken.{all_on, caller_goes}
 
--- who is named by a call exists
+-- an actor that is named by a call exists
 pub can_name : (fields : Fields) (actor : ℕ) (target : ActorId) → CanStep fields actor → IsActorIn (extent (setup_in fields)) target → CanName fields actor target.0
 can_name fields actor target able is = record { able = able; target = record { from = is.0; to = omega (arith, is.1, homes_counted fields able.whole.sound) } }
 
--- ---- a side comes by a call of its actor
+-- ---- an endpoint arrives by a call of its actor
 side_comes : (fields : Fields) (one : Comer) → CanMake fields one.side.actor.0 one.what → HasLine one.what → IsAmount one.side.bytes → IsMsg one.side.msg → IsRate one.side.rate → CanCome fields one
 side_comes fields one makes told bytes message rate =
     let caller = makes.able.call.caller in
@@ -69,7 +70,7 @@ sender_comes fields actor what waits mailbox bytes message rate side is makes to
 pub receiver_comes : (fields : Fields) (actor : ℕ) (what : Call) (waits : Bool) (mailbox : BoxId) → CanMake fields actor what → HasLine what → CanCome fields (receives_by actor what waits mailbox)
 receiver_comes fields actor what waits mailbox makes told = side_comes fields (receives_by actor what waits mailbox) makes told (omega arith) tt (omega arith)
 
--- ---- any other call goes on
+-- ---- any other call continues
 first_goes : (done : Done) (actor : ℕ) (what : Call) (core : Core) → (caller_first done actor what core).stop ≡ None
 first_goes done actor what core = both_on (caller_gets done.outcome actor what (with_objects done core)) (all_wake done.after.others) (caller_goes done.outcome actor what (with_objects done core)) (all_on done.after.others)
 
@@ -154,7 +155,7 @@ alone_goes roads setup core actor (call.Kill n) e = kills_goes actor n (counted 
 alone_goes roads setup core actor (call.Suspend n) e = refl
 alone_goes roads setup core actor (call.Resume n) e = refl
 alone_goes roads setup core actor call.Yield e = refl
-alone_goes roads setup core actor call.Exit e = all_on (joiners actor 1 (leaves actor core).actors) (leaves actor (counted core))
+alone_goes roads setup core actor call.Exit e = all_on (joiners actor 1 (with_actor_ended actor core).actors) (with_actor_ended actor (counted core))
 
 -- ---- in the budget
 pub can_make : (fields : Fields) (actor : ℕ) (one what : Call) → one ≡ what → CanAnswer fields actor one → fields.events ≢ fields.budget → CanMake fields actor what
@@ -175,7 +176,7 @@ alone_replies roads old new actor one what is left alone known whole =
     subst (λ (w : Call). Replies (answered roads (setup_in old) (core_of old) actor w) old new (Ok tt)) (sym is)
     (in_budget roads old new actor what (Ok tt) left (record { known = known; result = sym (ap result_of goes); whole = whole }))
 
--- one that is, by the side that comes
+-- one that is, by the arriving endpoint
 pub side_replies : (roads : Roads) (old new : Fields) (actor : ℕ) (one what : Call) (comer : Comer) (reply : Result Unit Stop) → one ≡ what → old.events ≢ old.budget → comes_in roads comer old ≡ answered_call roads (setup_in old) (core_of old) actor what →
     Replies (comes_in roads comer old) old new reply → Replies (answered roads (setup_in old) (core_of old) actor one) old new reply
 side_replies roads old new actor one what comer reply is left row does =

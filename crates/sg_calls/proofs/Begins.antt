@@ -1,4 +1,4 @@
--- What is kept, as an activity begins: all but the room of the call that is answered so.
+-- What is kept, as an activity begins: all except the room of the call that is answered so.
 use Rattle.std.proofs.Common.{◌≡◌, ℕ, ◌-◌, ◌<◌, ◌≤◌, ◌++◌, ◌∷◌, [], Some, length, sym, ap, subst, ◌∙◌, arith, ◌≢◌, ◌+◌}
 use Rattle.std.specs.List.{All}
 use Rattle.std.proofs.lemmas.List.{length-append}
@@ -10,7 +10,7 @@ use Rattle.sg_activity.specs.Doing.{Doing, started_in}
 use Rattle.sg_activity.specs.Links.{Capacities}
 use Rattle.sg_activity.specs.Task.{Task}
 use Rattle.sg_mailbox.specs.Posts.{Posts}
-use Rattle.sg_calls.specs.declared.fields.Fields.{Fields}
+use Rattle.sg_calls.specs.declared.simulation_state.Fields.{Fields}
 use Rattle.sg_owners.specs.declared.owners.Whose.TheVariants.{Alone}
 use Rattle.sg_calls.specs.World.{extent}
 use Rattle.sg_owners.specs.Owners.{Owned}
@@ -19,7 +19,7 @@ use Rattle.sg_calls.specs.kept.Whole.{IsWholeFor}
 use Rattle.sg_calls.proofs.PostsKept.{meeting_more}
 use Rattle.sg_calls.proofs.Timely.{IsTimelyAt}
 
--- with other activities, owners and mailboxes
+-- with other activities, waiters and mailboxes
 pub sound_with : (fields : Fields) (doing : Doing) (whose : Owned) (boxes : Posts) → length whose.whose ≡ length doing.under.tasks → length doing.under.tasks ≤ fields.events → doing.under.capacities ≡ fields.doing.under.capacities → IsSound fields → IsSound (record fields { doing = doing; whose = whose; boxes = boxes })
 sound_with fields doing whose boxes numbered few same was = record {
   numbered = numbered;

@@ -14,7 +14,7 @@ eq_no a b h = grind (arith, h)
 pub eq_yes : (a b : ℕ) → a ≡ b → (a == b) ≡ true
 eq_yes a b h = grind (arith, h)
 
--- ---- where the first of two steps goes on, the second one follows
+-- ---- if the first of two steps continues, the second one follows
 pub then_after : (first : Step) (next : Core → Step) (known : Known) → first.stop ≡ None → after (next first.core) (after first known) ≡ after (and_then first next) known
 then_after first next known on =
     ap (λ r. record known { core = (next first.core).core; records = r }) (append_assoc known.records first.made (next first.core).made)
@@ -26,11 +26,11 @@ then_stops first next on = ap (λ o. (follows o first (next first.core)).stop) o
 pub both_on : (first : Step) (next : Core → Step) → first.stop ≡ None → ((core : Core) → (next core).stop ≡ None) → (and_then first next).stop ≡ None
 both_on first next one two = then_stops first next one ∙ two first.core
 
--- where the first one stops, nothing follows
+-- if the first one stops, nothing follows
 pub then_none : (first : Step) (next : Core → Step) (why : Stop) → first.stop ≡ Some why → and_then first next ≡ first
 then_none first next why e = ap (λ o. follows o first (next first.core)) e
 
--- what a result tells of the step
+-- what a result says of the step
 pub on_ok : (o : Option Stop) → result_of o ≡ Ok tt → o ≡ None
 on_ok None e = refl
 on_ok (Some why) e = absurd (cc e)
@@ -39,7 +39,7 @@ pub on_err : (o : Option Stop) (why : Stop) → result_of o ≡ Err why → o �
 on_err None why e = absurd (cc e)
 on_err (Some other) why e = cc e
 
--- what holds anyway holds where it went well
+-- what holds anyway holds if it went well
 pub ok_anyway : {P : Type 0} (result : Result Unit Stop) → P → OnOk result P
 ok_anyway (Ok u) p = p
 ok_anyway (Err why) p = tt
@@ -76,12 +76,12 @@ pub stops_one : {X : Type 0} (does : X → Core → Step) (x : X) (left : List X
 unfolding each
 stops_one does x left known on = sym (then_stops (does x known.core) (each does left) on)
 
--- where one stops, nothing follows
+-- if one stops, nothing follows
 pub each_stops : {X : Type 0} (does : X → Core → Step) (x : X) (left : List X) (core : Core) (why : Stop) → (does x core).stop ≡ Some why → each does (x ∷ left) core ≡ does x core
 unfolding each
 each_stops does x left core why e = ap (λ o. follows o (does x core) (each does left (does x core).core)) e
 
--- one that goes on, and then the others
+-- one that continues, and then the others
 pub still_next : {X : Type 0} (does : X → Core → Step) (x : X) (left : List X) (known next : Known) → next ≡ after (does x known.core) known → (does x known.core).stop ≡ None →
     (still does left next ≡ still does (x ∷ left) known) × (still_stops does left next ≡ still_stops does (x ∷ left) known)
 still_next does x left known next is on = (

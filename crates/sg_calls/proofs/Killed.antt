@@ -30,7 +30,7 @@ use Rattle.sg_sync.specs.Objects.{Objects}
 use Rattle.sg_sync.specs.Queues.{without}
 use Rattle.sg_sync.proofs.Counts.{id_same}
 use Rattle.sg_sync.proofs.Leaving.{times_stays, waits_nowhere, waits_stays}
-use Rattle.sg_calls.specs.declared.fields.Fields.{Fields}
+use Rattle.sg_calls.specs.declared.simulation_state.Fields.{Fields}
 use Rattle.sg_owners.specs.declared.owners.How.TheVariants as how
 use Rattle.sg_owners.specs.declared.owners.Whose.{Whose}
 use Rattle.sg_owners.specs.declared.owners.Whose.TheVariants.{Over, Alone, Posted, Pair}
@@ -56,7 +56,7 @@ use Rattle.sg_calls.proofs.Timely.{IsTimelyAt}
 use Rattle.sg_calls.proofs.Unmet.{untouched}
 use Rattle.sg_calls.proofs.Waiting.{still_held}
 
--- ---- a side leaves its mailbox
+-- ---- an endpoint leaves its mailbox
 abbrev stays : Serial → Post → Bool
 stays serial post = not (post.serial.0 == serial.0)
 
@@ -89,7 +89,7 @@ one_leaves mailbox n (Posted there sends side) serial same = by (box_eq mailbox 
     by true = ap (λ b. cond (not b) (p ∷ []) []) (eq_yes n serial.0 same)
     by false = refl
 
--- all of later serials stay
+-- all with later ids stay
 later_stay : (mailbox : BoxId) (n : ℕ) (whose : List Whose) (serial : Serial) → serial.0 < n → filter (stays serial) (posts_from mailbox n whose) ≡ posts_from mailbox n whose
 unfolding posts_from
 later_stay mailbox n [] serial below = refl
@@ -137,7 +137,7 @@ posted_idle (Alone actor) e = e
 posted_idle (Posted mailbox sends side) e = refl
 posted_idle (Pair sender receiver) e = e
 
--- nothing is under way of what is posted
+-- nothing that is posted is running
 pub posted_none : (fields : Fields) (serial : ℕ) → IsTrue (is_posted (whose_at (core_of fields) serial)) → IsWhole fields → task_at fields.doing.under.tasks serial ≡ None
 posted_none fields serial posted whole = whole.meeting.idle (serial - 1) (posted_idle (whose_at (core_of fields) serial) posted)
 
@@ -173,7 +173,7 @@ answers_none serial (Alone actor) core e = absurd (true≢false (sym e))
 answers_none serial (Posted mailbox sends side) core e = refl
 answers_none serial (Pair sender receiver) core e = absurd (true≢false (sym e))
 
--- where nothing is made
+-- if nothing is made
 pub nothing_made : (known : Known) (core : Core) → record known { core = core } ≡ after (goes_on core []) known
 nothing_made known core = ap (λ r. record known { core = core; records = r }) (sym (append-nil known.records))
 
@@ -272,24 +272,24 @@ gives_up_more serials now i serial known next same within at is =
     ∙ ap (λ l. after (each gives_up l known.core) known) (sym here)
 
 -- ---- the target ends
-others_wait : (o : Objects) (target other : ActorId) → other.0 ≢ target.0 → sync.waiting (sync.withdrawn target o) other ≡ sync.waiting o other
+others_wait : (o : Objects) (target other : ActorId) → other.0 ≢ target.0 → sync.waiting (sync.after_withdrawal target o) other ≡ sync.waiting o other
 others_wait o target other apart =
     omega (arith, waits_stays target other o.locking apart, waits_stays target other o.acquiring apart, times_stays target other o.arrived apart)
 
-waits_no_more : (o : Objects) (target other : ActorId) → 0 < sync.waiting (sync.withdrawn target o) other → other.0 ≢ target.0
+waits_no_more : (o : Objects) (target other : ActorId) → 0 < sync.waiting (sync.after_withdrawal target o) other → other.0 ≢ target.0
 waits_no_more o target other some same =
-    let none : sync.waiting (sync.withdrawn target o) other ≡ 0 = ap (sync.waiting (sync.withdrawn target o)) (id_same other target same) ∙ waits_nowhere o target in
+    let none : sync.waiting (sync.after_withdrawal target o) other ≡ 0 = ap (sync.waiting (sync.after_withdrawal target o)) (id_same other target same) ∙ waits_nowhere o target in
     omega (arith, some, none)
 
 -- it waits nowhere any more, and has no requests
 pub whole_withdrawn : (fields : Fields) (states : ActorStates) (target : ActorId) (requests : Requested) (objects : Objects) → 0 < target.0 → Moves fields.states states target.0 Ended → states.room ≤ fields.states.room
-    → requests ≡ record fields.requests { queues = without_requests fields.requests.queues target.0; awaited = requests.awaited } → objects ≡ sync.withdrawn target fields.objects → IsWhole fields → IsWhole (record fields { states = states; requests = requests; objects = objects })
+    → requests ≡ record fields.requests { queues = without_requests fields.requests.queues target.0; awaited = requests.awaited } → objects ≡ sync.after_withdrawal target fields.objects → IsWhole fields → IsWhole (record fields { states = states; requests = requests; objects = objects })
 whole_withdrawn fields states target requests objects from moves le asked left was =
     let sound = sound_moved fields states target.0 Ended moves was.sound in
     let queues = ap (λ (r : Requested). r.queues) asked in
     let n = length fields.whose.whose in
     let held = was.held in
-    let waits : (other : ActorId) → sync.waiting objects other ≡ sync.waiting (sync.withdrawn target fields.objects) other = λ other. ap (λ o. sync.waiting o other) left in
+    let waits : (other : ActorId) → sync.waiting objects other ≡ sync.waiting (sync.after_withdrawal target fields.objects) other = λ other. ap (λ o. sync.waiting o other) left in
     record {
       sound = record {
         numbered = sound.numbered;
@@ -327,7 +327,7 @@ whole_withdrawn fields states target requests objects from moves le asked left w
         actors = ap (λ (o : Objects). o.actors) left ∙ held.actors ∙ sym (moves_long fields.states states target.0 Ended moves);
         few = subst (All (λ count. count ≤ 10 ^ 9 + fields.events)) (sym (ap (λ (o : Objects). o.counts) left)) held.few;
         once = λ other. elim (cases_eq other.0 target.0) [
-          | inl same ↦ omega (arith, waits other, ap (sync.waiting (sync.withdrawn target fields.objects)) (id_same other target same), waits_nowhere fields.objects target)
+          | inl same ↦ omega (arith, waits other, ap (sync.waiting (sync.after_withdrawal target fields.objects)) (id_same other target same), waits_nowhere fields.objects target)
           | inr apart ↦ omega (arith, waits other, others_wait fields.objects target other apart, held.once other)
         ];
         held = λ other some.
@@ -340,7 +340,7 @@ whole_withdrawn fields states target requests objects from moves le asked left w
       round = moves.passing ∙ was.round;
     }
 
--- a record may tell the kill
+-- a record may name the kill
 pub kill_told : (fields : Fields) (target : ActorId) → IsSound fields → IsActor (core_of fields) target.0 → IsTellable (extent (setup_in fields)) (call.Kill target)
 kill_told fields target sound is = record { told = tt; call = (is.from, omega (arith, is.to, homes_counted fields sound)) }
 
@@ -373,7 +373,7 @@ killed_room old new actor target date is = ap (λ (s : ActorStates). s.room) is 
 
 -- all that holds before holds after
 pub whole_killed : (fields : Fields) (states : ActorStates) (actor : ℕ) (target : ActorId) (date : ℕ) (requests : Requested) (objects : Objects) → CanStep fields actor → IsActor (core_of fields) target.0 → states ≡ killed_by actor target date fields.states
-    → requests ≡ record fields.requests { queues = without_requests fields.requests.queues target.0; awaited = requests.awaited } → objects ≡ sync.withdrawn target fields.objects → IsWhole (record fields { states = states; requests = requests; objects = objects; events = fields.events + 1 })
+    → requests ≡ record fields.requests { queues = without_requests fields.requests.queues target.0; awaited = requests.awaited } → objects ≡ sync.after_withdrawal target fields.objects → IsWhole (record fields { states = states; requests = requests; objects = objects; events = fields.events + 1 })
 whole_killed fields states actor target date requests objects able there is asked left = by (actor == target.0) refl is
   where
     old : ActorStates

@@ -7,7 +7,7 @@ use Rattle.sg_base.specs.declared.call.Call.{Call}
 use Rattle.sg_base.specs.declared.ids.ActorId.{ActorId}
 use Rattle.sg_base.specs.Limits.{IsActorIn, IsAnswer}
 use Rattle.sg_states.specs.Records.{IsTellable}
-use Rattle.sg_calls.specs.declared.fields.Fields.{Fields}
+use Rattle.sg_calls.specs.declared.simulation_state.Fields.{Fields}
 use Rattle.sg_calls.specs.World.{extent, host_of}
 use Rattle.sg_calls.specs.kept.Sound.{setup_in, point_number, IsSound, IsDated}
 

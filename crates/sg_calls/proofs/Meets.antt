@@ -1,4 +1,4 @@
--- What holds of mailboxes, activities and requests, as sides come and actors wait.
+-- What holds of mailboxes, activities and requests, as endpoints arrive and actors wait.
 use Rattle.std.proofs.Common.{◌≡◌, ◌≢◌, ℕ, zero, suc, ◌+◌, ◌-◌, ◌<◌, ◌≤◌, ◌⊎◌, inl, inr, Bool, true, false, true≢false, IsTrue, Option, None, Some, List, [], ◌∷◌, ◌++◌, length, set, get_or, refl, sym, ap, ap₂, subst, ◌∙◌, arith}
 use Rattle.std.specs.Prelude.{option_to_list, is_some, IsSome}
 use Rattle.std.specs.List.{find, All}
@@ -54,7 +54,7 @@ made_oldest n queues actor on e are = first (queue_at queues actor) e (made_at n
     first [] e is = absurd (cc e)
     first (a ∷ queue) e is = (let same : a ≡ on = cc e in subst (IsMade n) same (All-head (IsMade n) a queue is))
 
--- ---- nothing is under way of what is over or of a communication of which one side is there
+-- ---- neither ended activities nor communications with one endpoint are running
 abbrev pub AreIdle : List Whose → List (Option Task) → Type 0
 AreIdle whose tasks = (place : ℕ) → IsTrue (is_idle (get_or whose place (Over how.Done))) → get_or tasks place None ≡ None
 
@@ -70,7 +70,7 @@ at_end [] y d (suc i) e = absurd (omega (arith, e))
 at_end (x ∷ xs) y d zero e = absurd (omega (arith, e))
 at_end (x ∷ xs) y d (suc i) e = at_end xs y d i (omega (arith, e))
 
--- one more activity is made; nothing of it is under way where it is idle
+-- one more activity is made; it isn't running if it is idle
 pub idle_more : (whose : List Whose) (tasks : List (Option Task)) (w : Whose) (t : Option Task) → length whose ≡ length tasks → (IsTrue (is_idle w) → t ≡ None) → AreIdle whose tasks → AreIdle (whose ++ w ∷ []) (tasks ++ t ∷ [])
 idle_more whose tasks w t same new old = λ place e. elim (pushed_at whose w (Over how.Done) place) [
   | inl k ↦ kept place k e (pushed_at tasks t None place)
@@ -89,7 +89,7 @@ idle_put whose tasks i w t within isnt old = λ place e. cases place (cases_eq p
     cases place (inl is) e = absurd (true≢false (sym e ∙ ap is_idle (ap (λ k. get_or (set whose i w) k (Over how.Done)) is ∙ get_or-set_same whose i w (Over how.Done) within) ∙ isnt))
     cases place (inr away) e = get_or-set_other tasks i place t None away ∙ old place (sym (ap is_idle (get_or-set_other whose i place w (Over how.Done) away)) ∙ e)
 
--- one of which nothing is under way is over
+-- one that isn't running ends
 pub idle_over : (whose : List Whose) (tasks : List (Option Task)) (i : ℕ) (w : Whose) → get_or tasks i None ≡ None → AreIdle whose tasks → AreIdle (set whose i w) tasks
 idle_over whose tasks i w none old = λ place e. cases place (cases_eq place i) e
   where
@@ -97,7 +97,7 @@ idle_over whose tasks i w none old = λ place e. cases place (cases_eq place i) 
     cases place (inl is) e = ap (λ k. get_or tasks k None) is ∙ none
     cases place (inr away) e = old place (sym (ap is_idle (get_or-set_other whose i place w (Over how.Done) away)) ∙ e)
 
--- ---- of all else something is under way
+-- ---- all others are running
 abbrev pub AreBusy : List Whose → List (Option Task) → Type 0
 AreBusy whose tasks = (place : ℕ) → is_idle (get_or whose place (Over how.Done)) ≡ false → IsSome (get_or tasks place None)
 
@@ -126,7 +126,7 @@ busy_set whose tasks i t within old = λ place e. cases place (cases_eq place i)
     cases place (inl is) e = ap is_some (ap (λ k. get_or (set tasks i (Some t)) k None) is ∙ get_or-set_same tasks i (Some t) None within)
     cases place (inr away) e = ap is_some (get_or-set_other tasks i place (Some t) None away) ∙ old place e
 
--- one is over
+-- one ends
 pub over_idle : (whose : List Whose) (i : ℕ) (over : How) → is_idle (get_or (set whose i (Over over)) i (Over how.Done)) ≡ true
 over_idle whose i over = elim (cases_lt i (length whose)) [
   | inl within ↦ ap is_idle (get_or-set_same whose i (Over over) (Over how.Done) within)
@@ -147,11 +147,11 @@ busy_gone whose tasks i over old = λ place e. cases place (cases_eq place i) e
     cases place (inl is) e = absurd (true≢false (sym (ap (λ k. is_idle (get_or (set whose i (Over over)) k (Over how.Done))) is ∙ over_idle whose i over) ∙ e))
     cases place (inr away) e = ap is_some (get_or-set_other tasks i place None None away) ∙ old place (sym (ap is_idle (get_or-set_other whose i place (Over over) (Over how.Done) away)) ∙ e)
 
--- ---- the mailboxes tell who is posted
+-- ---- the mailboxes list who is posted
 abbrev pub AreTold : Posts → List Whose → Type 0
 AreTold boxes whose = (mailbox : BoxId) → waiters boxes mailbox ≡ posts_from mailbox 1 whose
 
--- a side waits under the next serial
+-- an endpoint waits under the next id
 pub told_posted : (old new : Posts) (mailbox : BoxId) (sends : Bool) (side : Side) (serial : Serial) (whose : List Whose) → serial.0 ≡ 1 + length whose → partner sends (waiters old mailbox) ≡ None
     → waiters new mailbox ≡ posts_after sends side serial (waiters old mailbox) → ((other : BoxId) → other ≢ mailbox → waiters new other ≡ waiters old other)
     → AreTold old whose → AreTold new (whose ++ Posted mailbox sends side ∷ [])
@@ -173,7 +173,7 @@ told_posted old new mailbox sends side serial whose next alone there elsewhere a
         elsewhere other away ∙ are other
         ∙ sym (posts-push other 1 whose (Posted mailbox sends side) ∙ ap (λ o. posts_from other 1 whose ++ option_to_list o) (posted_elsewhere other mailbox (1 + length whose) sends side away) ∙ append-nil (posts_from other 1 whose))
 
--- a side takes away whom it meets
+-- an endpoint takes its match away
 pub told_met : (old new : Posts) (mailbox : BoxId) (sends : Bool) (side : Side) (serial : Serial) (whose : List Whose) (p : Post) (w : Whose) → partner sends (waiters old mailbox) ≡ Some p → is_posted w ≡ false
     → waiters new mailbox ≡ posts_after sends side serial (waiters old mailbox) → ((other : BoxId) → other ≢ mailbox → waiters new other ≡ waiters old other)
     → AreTold old whose → AreTold new (set whose (p.serial.0 - 1) w)

@@ -1,4 +1,4 @@
--- Whom a side meets, and what is limited of both sides.
+-- Which endpoint matches another, and the limits of both.
 use Rattle.std.proofs.Common.{◌≡◌, ℕ, ◌+◌, ◌-◌, ◌<◌, ◌≤◌, Bool, true, false, cond, Option, None, Some, Result, Ok, Err, List, length, get_or, refl, sym, ap, ap₂, subst, ◌∙◌, arith}
 use Rattle.std.specs.List.{find, All}
 use Rattle.std.proofs.lemmas.List.Elements.{All-same}
@@ -15,7 +15,7 @@ use Rattle.sg_route.specs.Roads.{Roads}
 use Rattle.sg_route.specs.Route.{Route, route_of}
 use Rattle.sg_route.specs.Route.{LeavesRoute}
 use Rattle.sg_calls.specs.declared.meetings.Comer.{Comer}
-use Rattle.sg_calls.specs.declared.fields.Fields.{Fields}
+use Rattle.sg_calls.specs.declared.simulation_state.Fields.{Fields}
 use Rattle.sg_owners.specs.declared.owners.How.TheVariants as how
 use Rattle.sg_owners.specs.declared.owners.Whose.TheVariants.{Over, Posted}
 use Rattle.sg_calls.specs.Meetings.{posts_from, sender_of, receiver_of, point_of, joins_over, comes, comes_by, takes_part}
@@ -23,7 +23,7 @@ use Rattle.sg_calls.specs.World.{Core, extent}
 use Rattle.sg_calls.specs.kept.Sound.{core_of, setup_in, is_idle, IsSide, IsOwner, IsSound, AreLimited, AreMeeting}
 use Rattle.sg_calls.proofs.Postings.{FoundAt, found_post, posts_below}
 
--- all that wait have lower serials than the next one
+-- all that wait have lower ids than the next one
 pub waiting_below : (fields : Fields) (mailbox : BoxId) (next : ℕ) → next ≡ length fields.doing.under.tasks + 1 → IsSound fields → AreMeeting fields → All (λ (p : Post). p.serial.0 < next) (waiters fields.boxes mailbox)
 waiting_below fields mailbox next is sound meeting =
     All-same (λ (p : Post). p.serial.0 < next) (waiters fields.boxes mailbox) (posts_from mailbox 1 fields.whose.whose) (meeting.posts mailbox) (λ k d lt. below k d (posts_below mailbox 1 fields.whose.whose k d lt))
@@ -31,7 +31,7 @@ waiting_below fields mailbox next is sound meeting =
     below : (k : ℕ) (d : Post) → (get_or (posts_from mailbox 1 fields.whose.whose) k d).serial.0 < 1 + length fields.whose.whose → (get_or (posts_from mailbox 1 fields.whose.whose) k d).serial.0 < next
     below k d h = omega (arith, h, is, sound.numbered)
 
--- the one that a side meets: nothing of its communication is under way
+-- the match of an endpoint: its communication isn't running
 pub record IsMet (fields : Fields) (comer : Comer) (serial : Serial) (other : Side) : Type 0 where
   pub post : Post
   pub found : partner comer.sends (waiters fields.boxes comer.mailbox) ≡ Some post
@@ -71,7 +71,7 @@ is_met fields comer serial other is limited meeting = go (partner comer.sends (w
           limited = subst (IsSide (extent (setup_in fields))) sides (subst (IsOwner (extent (setup_in fields))) at.is (limited (p.serial.0 - 1) (Over how.Done) place));
         }
 
--- both sides keep to their limits, whichever came
+-- both endpoints keep to their limits, whichever arrived
 pub sides_limited : (e : Extent) (comer : Comer) (other : Side) → IsSide e comer.side → IsSide e other → IsSide e (sender_of comer other) × IsSide e (receiver_of comer other)
 sides_limited e comer other mine theirs = go comer.sends
   where
@@ -79,7 +79,7 @@ sides_limited e comer other mine theirs = go comer.sends
     go true = (mine, theirs)
     go false = (theirs, mine)
 
--- ---- how both sides join
+-- ---- how both endpoints join
 pub routed_ok : (r : Result Route RouteFault) (latency : ℕ) (links : List LinkId) → LeavesRoute r (Ok latency) links → r ≡ Ok (record { links = links; latency = latency })
 routed_ok (Ok route) latency links is = (let same : route.latency ≡ latency = cc is.0 in ap₂ (λ l n. Ok (record { links = l; latency = n })) (sym is.1) same)
 routed_ok (Err fault) latency links is = absurd (cc is.0)
@@ -93,7 +93,7 @@ pub takes_part_on : (waits : Bool) (comer : Comer) (serial : ℕ) (core : Core) 
 takes_part_on true comer serial core = refl
 takes_part_on false comer serial core = refl
 
--- with the one that a side meets, the hosts of both and the route between them, it is told what follows
+-- with an endpoint's match, the hosts of both and the route between them, what follows is known
 pub comes_met : (fields : Fields) (roads : Roads) (comer : Comer) (serial : Serial) (other sender receiver : Side) (start end : PointId) (r : Result Route RouteFault)
     → IsMet fields comer serial other → AreMeeting fields → sender ≡ sender_of comer other → receiver ≡ receiver_of comer other
     → start ≡ point_of (setup_in fields) sender → end ≡ point_of (setup_in fields) receiver → route_of roads start end ≡ r

@@ -14,7 +14,7 @@ use Rattle.sg_states.specs.States.{ActorStates, CanCall, by_call, with_reply}
 use Rattle.sg_sync.specs.Objects.{Objects, waiting}
 use Rattle.sg_sync.specs.Queues.{times}
 use Rattle.sg_sync.proofs.Counts.{one_other, one_same, times_cons}
-use Rattle.sg_calls.specs.declared.fields.Fields.{Fields}
+use Rattle.sg_calls.specs.declared.simulation_state.Fields.{Fields}
 use Rattle.sg_calls.specs.World.{extent}
 use Rattle.sg_calls.specs.kept.Sound.{is_queued, setup_in, AreHeld, AreMeeting, AwaitsMade, HasRoom, IsSound}
 use Rattle.sg_calls.specs.kept.Waking.{AreWaking, LeavesCallers}
@@ -23,7 +23,7 @@ use Rattle.sg_calls.proofs.Limits.{homes_counted}
 use Rattle.sg_calls.proofs.Stated.{awaiting_state, state_other, state_same, AreAwaiting}
 use Rattle.sg_calls.proofs.Waiting.{others_held, still_held}
 
--- the state of one actor changes, and nothing else but records and room
+-- the state of one actor changes, and nothing else except records and room
 pub record Moves (old new : ActorStates) (actor : ℕ) (state : State) : Type 0 where
   pub extent : new.extent ≡ old.extent
   pub actors : new.actors ≡ put_state old.actors actor state
@@ -193,7 +193,7 @@ steady_called fields objects actor able =
       round = was.round;
     }
 
--- in a pass
+-- in a time advance
 pub passing_moved : (fields : Fields) (states : ActorStates) (actor : ActorId) (state : State) → 0 < actor.0 → is_queued (state_at fields.states.actors actor.0) ≡ false → IsFree fields state → Moves fields.states states actor.0 state → states.room ≤ fields.states.room → IsPassing fields → IsPassing (record fields { states = states })
 passing_moved fields states actor state from isnt free moves le was = record {
   sound = sound_moved fields states actor.0 state moves was.sound;
@@ -222,7 +222,7 @@ waking_with fields states actor state comers others moves was next left once hel
   acquiring = was.acquiring;
 }
 
--- the caller goes on
+-- the caller continues
 pub waking_on : (fields : Fields) (states : ActorStates) (actor : ActorId) (state : State) (others : List ActorId) → MayCall fields.states.actors actor.0 → Moves fields.states states actor.0 state → AreWaking fields [] others → AreWaking (record fields { states = states }) [] others
 waking_on fields states actor state others may moves was =
     let isnt = ready_unheld (state_at fields.states.actors actor.0) may.ready in
@@ -240,7 +240,7 @@ waking_waits fields states actor state others sound may held moves was =
           (old.0, still_held fields.states.actors actor b state may.from old.0.0 apart old.1)
     ])
 
--- one that waited goes on
+-- one that waited is unblocked
 pub waking_woken : (fields : Fields) (states : ActorStates) (actor : ActorId) (state : State) (comers others : List ActorId) → 0 < actor.0 → Moves fields.states states actor.0 state → AreWaking fields comers (actor ∷ others) → AreWaking (record fields { states = states }) comers others
 waking_woken fields states actor state comers others from moves was =
     waking_with fields states actor state comers (actor ∷ others) moves was comers others (λ b. omega (arith, was.once b, times_cons b actor others)) (λ b some. elim (cases_eq b.0 actor.0) [
@@ -250,7 +250,7 @@ waking_woken fields states actor state comers others from moves was =
           (old.0, still_held fields.states.actors actor b state from old.0.0 apart old.1)
     ])
 
--- who may make a call still may, as another gets ready
+-- an actor that may make a call still may, as another gets ready
 pub callers_left : (old new : ActorStates) (actor : ℕ) (state : State) → IsActor old.actors actor → is_answered state ≡ true → Moves old new actor state → new.room ≡ old.room → LeavesCallers old new
 callers_left old new actor state is ready moves same =
     let long = moves_long old new actor state moves in
@@ -270,11 +270,11 @@ callers_left old new actor state is ready moves same =
       };
     }
 
--- what contracts see tells that a call can be answered
+-- what contracts see shows that a call can be answered
 pub can_step : (fields : Fields) (actor : ℕ) → IsWhole fields → MayCall fields.states.actors actor → 0 < fields.states.room → fields.events ≢ fields.budget → CanStep fields actor
 can_step fields actor whole caller room budget = record { whole = whole; call = record { caller = caller; room = room; round = whole.round }; budget = budget }
 
--- ---- one that waited is answered, in a pass or not
+-- ---- one that waited is answered, in a time advance or not
 pub whole_answered : (fields : Fields) (states : ActorStates) (actor : ActorId) (state : State) → IsActor fields.states.actors actor.0 → is_answered state ≡ true → is_queued (state_at fields.states.actors actor.0) ≡ false → IsFree fields state → Moves fields.states states actor.0 state →
     states.room ≡ fields.states.room → IsSound fields → KeepsWhole fields (record fields { states = states })
 whole_answered fields states actor state is ready isnt free moves room sound = record {

@@ -39,7 +39,7 @@ posted_elsewhere mailbox m n s d apart = ap (λ b. cond b (Some (record { serial
 pub posted_here : (mailbox : BoxId) (n : ℕ) (s : Bool) (d : Side) → post_in mailbox n (Posted mailbox s d) ≡ Some (record { serial = record { 0 = n }; sends = s; side = d })
 posted_here mailbox n s d = ap (λ b. cond b (Some (record { serial = record { 0 = n }; sends = s; side = d })) None) (box_same mailbox)
 
--- what a post tells of its activity
+-- what a post says of its activity
 post_told : (mailbox : BoxId) (n : ℕ) (w : Whose) (q : Post) → post_in mailbox n w ≡ Some q → (q.serial.0 ≡ n) × (w ≡ Posted mailbox q.sends q.side)
 post_told mailbox n (Over over) q e = absurd (cc e)
 post_told mailbox n (Alone a) q e = absurd (cc e)

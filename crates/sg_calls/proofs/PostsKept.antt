@@ -9,7 +9,7 @@ use Rattle.sg_activity.specs.Task.{Task, next_phase}
 use Rattle.sg_lives.specs.declared.kinds.PhaseKind.{PhaseKind}
 use Rattle.sg_lives.specs.declared.kinds.PhaseKind.TheVariants as phase
 use Rattle.sg_base.specs.declared.awaits.Await.{Await}
-use Rattle.sg_calls.specs.declared.fields.Fields.{Fields}
+use Rattle.sg_calls.specs.declared.simulation_state.Fields.{Fields}
 use Rattle.sg_owners.specs.declared.owners.How.{How}
 use Rattle.sg_owners.specs.declared.owners.How.TheVariants as how
 use Rattle.sg_owners.specs.declared.owners.Whose.{Whose}
@@ -27,7 +27,7 @@ posted_idle (Alone actor) e = e
 posted_idle (Posted mailbox sends side) e = refl
 posted_idle (Pair sender receiver) e = e
 
--- what is under way is neither posted nor over
+-- what is running is neither posted nor ended
 pub under_way : (whose : List Whose) (tasks : List (Option Task)) (place : ℕ) (task : Task) → AreIdle whose tasks → get_or tasks place None ≡ Some task → is_idle (get_or whose place (Over how.Done)) ≡ false
 under_way whose tasks place task idle at = cases (is_idle (get_or whose place (Over how.Done))) (idle place)
   where
@@ -55,7 +55,7 @@ idle_gone whose tasks place over idle other posted = elim (cases_eq other place)
   | inr apart ↦ get_or-set_other tasks place other None None apart ∙ idle other (subst (λ w. IsTrue (is_idle w)) (get_or-set_other whose place other (Over over) (Over how.Done) apart) posted)
 ]
 
--- nothing follows a phase but a latency
+-- nothing follows a phase except a latency
 pub last_phase : (task : Task) → task.kind ≢ phase.Latency → next_phase task.kind task ≡ None
 last_phase task last = cases task.kind last
   where
@@ -66,7 +66,7 @@ last_phase task last = cases task.kind last
     cases phase.Timer isnt = refl
     cases phase.Kept isnt = refl
 
--- what was under way is nobody's
+-- what was running has no waiter
 pub meeting_gone : (fields : Fields) (whose : Owned) (doing : Doing) (over : How) (place : ℕ) (task : Task) → get_or fields.doing.under.tasks place None ≡ Some task → whose.whose ≡ set fields.whose.whose place (Over over) → doing.under.tasks ≡ set fields.doing.under.tasks place None → AreMeeting fields → AreMeeting (record fields { whose = whose; doing = doing })
 meeting_gone fields whose doing over place task at owned gone old =
     let isnt = unposted _ (under_way fields.whose.whose fields.doing.under.tasks place task old.idle at) in
@@ -79,7 +79,7 @@ meeting_gone fields whose doing over place task at owned gone old =
     }
 
 -- ---- an activity begins
--- one more is under way, an actor's alone
+-- one more is running, with one actor
 pub meeting_more : (fields : Fields) (whose : Owned) (doing : Doing) (actor : ActorId) (task : Task) → length fields.whose.whose ≡ length fields.doing.under.tasks → whose.whose ≡ fields.whose.whose ++ Alone actor ∷ [] → doing.under.tasks ≡ fields.doing.under.tasks ++ Some task ∷ [] → AreMeeting fields → AreMeeting (record fields { whose = whose; doing = doing })
 meeting_more fields whose doing actor task numbered owned begun old =
     let more = ap length owned ∙ length-append fields.whose.whose (Alone actor ∷ []) in

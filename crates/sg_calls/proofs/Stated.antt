@@ -66,7 +66,7 @@ blocking_is (Blocked what since on) blocking e =
     ap (λ (b : Blocking). Blocked b.what b.since b.on) same
 blocking_is Ended blocking e = absurd (cc e)
 
--- who waits for the end of another waits at no object
+-- an actor that waits for the end of another waits at no object
 pub joiner_free : (target : ℕ) (state : State) → IsTrue (joins target state) → is_queued state ≡ false
 joiner_free target state e = by (joined_in state) e (is_held state)
   where

@@ -1,4 +1,4 @@
--- What is kept, as actors are suspended and resumed, and as executions are held and go on.
+-- What stays the same as actors and executions are suspended and resumed.
 use Rattle.std.proofs.Common.{◌≡◌, ◌≢◌, ℕ, zero, suc, ◌+◌, ◌-◌, ◌≤◌, Bool, true, false, cond, Option, None, Some, List, [], ◌∷◌, length, set, get_or, refl, sym, ap, subst, ◌∙◌, arith}
 use Rattle.std.specs.Prelude.{is_some, option_map}
 use Rattle.std.proofs.lemmas.List.{length-set}
@@ -7,13 +7,13 @@ use Rattle.sg_base.specs.declared.ids.ActorId.{ActorId}
 use Rattle.sg_lives.specs.declared.kinds.PhaseKind.{PhaseKind}
 use Rattle.sg_activity.specs.Doing.{Doing}
 use Rattle.sg_activity.specs.Task.{Task, rekinded}
-use Rattle.sg_activity.specs.Underway.{Underway, gone_on, held, is_computing, is_kept, turned}
+use Rattle.sg_activity.specs.Underway.{Underway, gone_on, held, is_computing, is_kept, with_phase_kind}
 use Rattle.sg_states.specs.declared.state.Actor.{Actor}
 use Rattle.sg_states.specs.declared.state.Blocking.{Blocking}
 use Rattle.sg_states.specs.declared.state.State.TheVariants.{Ended}
 use Rattle.sg_states.specs.Actors.{blocking_in, is_answered, is_alive, not_suspended, put_suspended, state_at}
 use Rattle.sg_states.specs.States.{ActorStates, with_suspended}
-use Rattle.sg_calls.specs.declared.fields.Fields.{Fields}
+use Rattle.sg_calls.specs.declared.simulation_state.Fields.{Fields}
 use Rattle.sg_calls.specs.Steps.{counted}
 use Rattle.sg_calls.specs.Suspensions.{held_by, held_on, held_to, suspended_to}
 use Rattle.sg_calls.specs.World.{Core, state_of, with_suspended as core_suspended}
@@ -24,7 +24,7 @@ use Rattle.sg_calls.proofs.Begins.{held_with, sound_with, held_counted, sound_co
 use Rattle.sg_calls.proofs.Timely.{IsTimelyAt}
 
 -- ---- executions
--- as much is under way
+-- as much is running
 pub record IsLike (old new : Underway) : Type 0 where
   pub date : new.date ≡ old.date
   pub capacities : new.capacities ≡ old.capacities
@@ -45,7 +45,7 @@ turned_there f (t ∷ tasks) zero (suc place) = refl
 turned_there f (t ∷ tasks) (suc i) zero = refl
 turned_there f (t ∷ tasks) (suc i) (suc place) = turned_there f tasks i place
 
-pub like_turned : (kind : PhaseKind) (serial : ℕ) (under : Underway) → IsLike under (turned kind serial under)
+pub like_turned : (kind : PhaseKind) (serial : ℕ) (under : Underway) → IsLike under (with_phase_kind kind serial under)
 like_turned kind serial under = record {
   date = refl;
   capacities = refl;
@@ -103,7 +103,7 @@ suspended_state on actors target actor = suspended_there on actors (target - 1) 
 suspended_long : (on : Bool) (actors : List Actor) (target : ℕ) → length (put_suspended actors target on) ≡ length actors
 suspended_long on actors target = length-set actors (target - 1) _
 
--- who may make a call may make it still
+-- an actor that may make a call may make it still
 pub callers_suspended : (states : ActorStates) (target : ℕ) (on : Bool) → LeavesCallers states (with_suspended target on states)
 callers_suspended states target on = record {
   actors = suspended_long on states.actors target;

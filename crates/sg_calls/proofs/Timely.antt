@@ -1,6 +1,6 @@
 -- Profiles, as the date moves.
 use Rattle.std.proofs.Common.{ℕ}
-use Rattle.sg_calls.specs.declared.fields.Fields.{Fields}
+use Rattle.sg_calls.specs.declared.simulation_state.Fields.{Fields}
 use Rattle.sg_calls.specs.kept.Sound.{IsTimetable}
 
 -- at another date

@@ -11,7 +11,7 @@ use Rattle.sg_activity.specs.Underway.{Underway, marked, with_task}
 use Rattle.sg_mailbox.specs.declared.sides.Side.{Side}
 use Rattle.sg_mailbox.specs.Posts.{Posts, posts_after, waiters}
 use Rattle.sg_route.specs.Route.{Route}
-use Rattle.sg_calls.specs.declared.fields.Fields.{Fields}
+use Rattle.sg_calls.specs.declared.simulation_state.Fields.{Fields}
 use Rattle.sg_calls.specs.declared.meetings.Comer.{Comer}
 use Rattle.sg_owners.specs.declared.owners.How.TheVariants as how
 use Rattle.sg_owners.specs.declared.owners.Whose.TheVariants.{Over}
@@ -59,7 +59,7 @@ joins_goes route setup comer serial other core =
     cond_goes (is_cut core.under.on (way_with route setup comer other)) (fails_with comer serial other core) (joins_with route setup comer serial other core) (fails_goes comer serial other core)
     (takes_part_on comer.waits comer serial.0 (joined setup serial.0 route (sender_of comer other) (receiver_of comer other) core))
 
--- ---- nothing of it is under way
+-- ---- it isn't running
 set_none : (tasks : List (Option Task)) (place : ℕ) → get_or tasks place None ≡ None → set tasks place None ≡ tasks
 set_none [] place e = refl
 set_none (task ∷ tasks) zero e = ap (λ t. t ∷ tasks) (sym e)

@@ -11,9 +11,9 @@ use Rattle.sg_sync.specs.declared.outcome.Outcome.{Outcome}
 use Rattle.sg_sync.specs.declared.outcome.Outcome.TheVariants.{GoesOn, Waits, Refused}
 use Rattle.sg_sync.specs.Laws.{KeepsAll, comers}
 use Rattle.sg_sync.specs.Objects.{Objects, Done, waiting, owner_of, count_of, locked, locked_by, unlocked, unlocked_by, acquired, released, released_to, arrived}
-use Rattle.sg_sync.specs.Queues.{front, queue_at, times}
+use Rattle.sg_sync.specs.Queues.{first_waiter, waiters_at, times}
 use Rattle.sg_sync.proofs.Counts.{one, one_same, one_other, times_cons}
-use Rattle.sg_calls.specs.declared.fields.Fields.{Fields}
+use Rattle.sg_calls.specs.declared.simulation_state.Fields.{Fields}
 use Rattle.sg_states.specs.declared.state.State.{State}
 use Rattle.sg_states.specs.declared.state.State.TheVariants.{Unstarted, Ready, Blocked, Ended}
 use Rattle.sg_calls.specs.World.{IsActor, MayCall, extent, state_of}
@@ -23,7 +23,7 @@ use Rattle.sg_calls.specs.kept.Sound.{core_of, is_queued, setup_in, point_number
 use Rattle.sg_calls.specs.kept.Waking.{AreWaking}
 use Rattle.sg_calls.proofs.Stated.{state_other}
 
--- ---- who is blocked, and who is to go on
+-- ---- who is blocked, and who is to be unblocked
 pub still_held : (actors : List Actor) (a b : ActorId) (s : State) → 0 < a.0 → 0 < b.0 → b.0 ≢ a.0 → IsTrue (is_queued (state_at actors b.0)) → IsTrue (is_queued (state_at (put_state actors a.0 s) b.0))
 still_held actors a b s some one apart held =
     ap is_queued (state_other actors a.0 b.0 s some one apart) ∙ held
@@ -143,7 +143,7 @@ release_like None semaphore o within = record {
 release_like (Some first) semaphore o within = record { owners = refl; counts = refl; actors = refl; few = λ bound few. few_more bound o.counts few; locking = refl; acquiring = length-set o.acquiring semaphore _ }
 
 pub released_like : (semaphore : ℕ) (o : Objects) → semaphore < length o.counts → IsLike o (released semaphore o).after
-released_like semaphore o within = release_like (front (queue_at o.acquiring semaphore)) semaphore o within
+released_like semaphore o within = release_like (first_waiter (waiters_at o.acquiring semaphore)) semaphore o within
 
 pub arrived_like : (actor : ActorId) (o : Objects) → IsLike o (arrived actor o).after
 arrived_like actor o = elim (cases_Bool (nat_lt (length o.arrived + 1) o.members)) [
@@ -170,7 +170,7 @@ once_with o caller actor outcome free once = elim (cases_eq actor.0 caller.0) [
   | inr apart ↦ omega (arith, comes_alone caller actor outcome apart, once)
 ]
 
--- the call leaves some that are to go on, and perhaps one that comes to wait
+-- the call leaves some that are to be unblocked, and perhaps one that comes to wait
 pub waking_after : (old fields : Fields) (actor : ActorId) (done : Done) → MayCall (core_of old) actor.0 → AreHeld old → KeepsAll actor old.objects done → IsLike old.objects done.after → fields.objects ≡ done.after →
     fields.mutexes ≡ old.mutexes → fields.semaphores.items ≡ old.semaphores.items → fields.states.actors ≡ old.states.actors → map point_number fields.homes.items ≡ map point_number old.homes.items → fields.events ≡ old.events + 1 →
     AreWaking fields (comers actor done.outcome) done.after.others

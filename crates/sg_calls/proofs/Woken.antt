@@ -1,4 +1,4 @@
--- Those that go on are answered one after another.
+-- Those that are unblocked are answered one after another.
 use Rattle.std.proofs.Common.{◌≡◌, ℕ, suc, ◌+◌, ◌-◌, ◌<◌, true, Option, None, Some, List, [], ◌∷◌, length, drop, get_or, refl, sym, ap, ◌∙◌, drop-cons, add-one, arith}
 use Rattle.sg_base.specs.declared.ids.ActorId.{ActorId}
 use Rattle.sg_base.specs.declared.call.Call.{Call}
@@ -22,7 +22,7 @@ wakes_goes actor core = wakes_on (blocking_in (state_of core actor.0)) actor cor
 pub wake_none : (known : Known) → after (all_wake [] known.core) known ≡ known
 wake_none known = still_none wakes known
 
--- the next one, and those behind it
+-- the next one, and those after it
 pub drop_at : (others now : List ActorId) (i : ℕ) (d : ActorId) → now ≡ others → i < length others → drop i others ≡ get_or now i d ∷ drop (i + 1) others
 drop_at others now i d same within =
     ap (λ (q : List ActorId). drop i q) (sym same) ∙ drop-cons now i d (omega (arith, within, ap length same)) ∙ ap (λ (q : List ActorId). get_or now i d ∷ drop (suc i) q) same ∙ ap (λ k. get_or now i d ∷ drop k others) (sym (add-one i))

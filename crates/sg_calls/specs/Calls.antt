@@ -5,10 +5,10 @@ use Rattle.sg_base.specs.declared.call.Call.TheVariants as call
 use Rattle.sg_base.specs.declared.call.Answer.{Answer}
 use Rattle.sg_base.specs.declared.call.Answer.TheVariants as answer
 use Rattle.sg_base.specs.declared.call.Action.{Action}
-use Rattle.sg_base.specs.declared.ids.ActorId.{ActorId}
 use Rattle.sg_activity.specs.Links.{is_off}
 use Rattle.sg_activity.specs.Task.{Task, exec_of, timer_of}
 use Rattle.sg_activity.specs.Underway.{started}
+use Rattle.sg_base.specs.Turn.{actor_of}
 use Rattle.sg_base.specs.declared.awaits.Await.{Await}
 use Rattle.sg_base.specs.declared.awaits.Party.TheVariants as party
 use Rattle.sg_route.specs.Roads.{Roads}
@@ -24,16 +24,14 @@ use Rattle.sg_calls.specs.Lives.{created, exits, joins_one}
 use Rattle.sg_calls.specs.Kills.{kills}
 use Rattle.sg_calls.specs.Suspensions.{held_if, resumes, suspends}
 
-abbrev pub actor_of : ℕ → ActorId
-actor_of number = record { 0 = number }
-
-abbrev pub alone : ℕ → Await
-alone serial = record { serial = record { 0 = serial }; party = party.Alone }
+-- the wait for an execution or a sleep, which has one actor only
+abbrev pub await_alone : ℕ → Await
+await_alone serial = record { serial = record { 0 = serial }; party = party.Alone }
 
 -- a new activity, on which the actor is blocked by this call
 abbrev pub blocks_on : Task → ℕ → Call → Core → Core
 blocks_on task actor what core =
-    blocked_by actor what (Some (alone (length core.under.tasks + 1)))
+    blocked_by actor what (Some (await_alone (length core.under.tasks + 1)))
     (record core { under = started task core.under; whose = core.whose ++ Alone (actor_of actor) ∷ [] })
 
 -- ---- what calls lead to, once they are counted
@@ -42,11 +40,12 @@ abbrev pub with_execution : Setup → ℕ → ℕ → ℕ → Core → Core
 with_execution setup actor flops priority core =
     blocks_on (exec_of (host_of setup actor) flops priority) actor (call.Compute flops priority) core
 
--- that of a suspended actor is held as soon as it begins
+-- an execution begins; that of a suspended actor is suspended as soon as it begins
 abbrev pub executed : Setup → ℕ → ℕ → ℕ → Core → Core
 executed setup actor flops priority core =
     held_if (is_suspended core actor) (length core.under.tasks + 1) (with_execution setup actor flops priority core)
 
+-- a Compute call on a host that is on: its execution begins, and the actor is blocked
 abbrev pub executes : Setup → ℕ → ℕ → ℕ → Core → Step
 executes setup actor flops priority core = goes_on (executed setup actor flops priority core) []
 
@@ -57,10 +56,12 @@ computes setup actor flops priority core =
     then at_once actor (call.Compute flops priority) 0 answer.Failed core
     else executes setup actor flops priority core
 
+-- a sleep begins, and the actor is blocked for this many nanoseconds
 abbrev pub with_sleep : ℕ → ℕ → Core → Core
 with_sleep actor ns core = blocks_on (timer_of ns) actor (call.Sleep ns) core
 
--- The answer to a call. An Ask is refused where nobody tells the actor its next line, and a Create where nobody gives the named actor a context.
+-- The answer to a call. A call that fetches the next line is refused if nobody gives the actor that line, and a Create
+-- if nobody gives the named actor a context.
 abbrev pub answered_call : Roads → Setup → Core → ℕ → Call → Step
 answered_call roads setup core actor call.Ask = goes_on (readied actor answer.Refused (counted core)) []
 answered_call roads setup core actor (call.Compute flops priority) = computes setup actor flops priority (counted core)
@@ -85,13 +86,15 @@ answered_call roads setup core actor (call.Resume target) = resumes actor target
 answered_call roads setup core actor call.Yield = at_once actor call.Yield 0 answer.Done (counted core)
 answered_call roads setup core actor call.Exit = exits actor (counted core)
 
+-- a call is answered as one event; with the budget used up the run stops before it
 abbrev pub answered : Roads → Setup → Core → ℕ → Call → Step
 answered roads setup core actor what = unless_used setup.budget core (answered_call roads setup core actor what)
 
+-- the answer to a fetch: the next action, or that there is none
 abbrev pub answer_of_ask : Option Action → Answer
 answer_of_ask None = answer.NoMore
 answer_of_ask (Some action) = answer.Act action
 
--- the answer to an Ask, where the actor's next line is known, or that there is none
+-- the answer to a call that fetches the next line, if that line is known, or that there is none
 abbrev pub told : Setup → Core → ℕ → Option Action → Step
 told setup core actor action = unless_used setup.budget core (goes_on (readied actor (answer_of_ask action) (counted core)) [])

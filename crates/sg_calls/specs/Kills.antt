@@ -22,7 +22,8 @@ abbrev pub blocked_on : Option Blocking → Option Await
 blocked_on None = None
 blocked_on (Some blocking) = blocking.on
 
--- the serials of what an actor is blocked on and of its requests, by rising serial, each once
+-- the ids of the activity on which an actor is blocked and of its requests, in rising order, each
+-- once
 abbrev pub awaited : ActorId → Core → List ℕ
 awaited target core =
     awaited_with (blocked_on (blocking_in (state_of core target.0))) (queue_at core.requests target.0)
@@ -32,20 +33,21 @@ abbrev pub withdrawn : ActorId → Core → Core
 withdrawn target core = record core {
   actors = put_state core.actors target.0 Ended;
   requests = without_requests core.requests target.0;
-  objects = sync.withdrawn target core.objects;
+  objects = sync.after_withdrawal target core.objects;
 }
 
--- what isn't over fails, which the other side is answered
+-- an activity that hasn't ended fails, and the other endpoint is answered
 abbrev pub gives_up_by : Whose → ℕ → Core → Step
 gives_up_by (Over before) serial core = goes_on core []
 gives_up_by (Alone actor) serial core = finishes how.Failed serial core
 gives_up_by (Posted mailbox sends side) serial core = finishes how.Failed serial core
 gives_up_by (Pair sender receiver) serial core = finishes how.Failed serial core
 
+-- an activity that a killed actor awaited fails, unless it had ended already
 abbrev pub gives_up : ℕ → Core → Step
 gives_up serial core = gives_up_by (whose_at core serial) serial core
 
--- the record of the kill of another; who kills itself gets no answer
+-- the record of the kill of another; an actor that kills itself gets no answer
 abbrev pub kill_done : ℕ → ActorId → Core → Step
 kill_done actor target core =
     if actor == target.0 then goes_on core []
@@ -59,7 +61,7 @@ kill_stretches actor target serials =
     joiners_wake target.0 ∷
     []
 
--- what it awaits is told by the world before
+-- a living actor is killed; the world before gives what it awaits
 abbrev pub kills_alive : ℕ → ActorId → Core → Step
 kills_alive actor target core =
     all_of (kill_stretches actor target (awaited target core)) (withdrawn target core)

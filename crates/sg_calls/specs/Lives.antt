@@ -14,26 +14,27 @@ abbrev pub begins : ActorId → Core → Core
 begins target core = with_state target.0 (Ready answer.Start) core
 
 -- whether the named actor was given a context
-abbrev pub creates : Bool → ℕ → ActorId → Core → Step
-creates true actor target core = at_once actor (call.Create target) 0 answer.Done (begins target core)
-creates false actor target core = at_once actor (call.Create target) 0 answer.Refused core
+abbrev pub answers_create : Bool → ℕ → ActorId → Core → Step
+answers_create true actor target core = at_once actor (call.Create target) 0 answer.Done (begins target core)
+answers_create false actor target core = at_once actor (call.Create target) 0 answer.Refused core
 
 -- a create, which is counted
 abbrev pub created : Bool → ℕ → ActorId → Core → Step
-created given actor target core = creates given actor target (counted core)
+created given actor target core = answers_create given actor target (counted core)
 
 -- whether the named actor has ended: the caller waits until it has
 abbrev pub joins_by : Bool → ℕ → ActorId → Core → Step
 joins_by true actor target core = at_once actor (call.Join target) 0 answer.Done core
 joins_by false actor target core = goes_on (blocked_by actor (call.Join target) None core) []
 
+-- a join: the caller is answered at once if the actor has ended, else it waits for that
 abbrev pub joins_one : ℕ → ActorId → Core → Step
 joins_one actor target core = joins_by (is_ended (state_of core target.0)) actor target core
 
--- it has made its last call
-abbrev pub leaves : ℕ → Core → Core
-leaves actor core = with_state actor Ended core
+-- the actor has made its last call
+abbrev pub with_actor_ended : ℕ → Core → Core
+with_actor_ended actor core = with_state actor Ended core
 
--- and those that joined it go on
+-- the actor ends, and those that joined it are unblocked
 abbrev pub exits : ℕ → Core → Step
-exits actor core = joiners_wake actor (leaves actor core)
+exits actor core = joiners_wake actor (with_actor_ended actor core)

@@ -1,4 +1,5 @@
--- How the sides of a communication meet in a mailbox, and how an actor waits for its requests.
+-- How the endpoints of a communication match in a mailbox, and how an actor waits for its
+-- requests.
 use Rattle.std.specs.Prelude.{ℕ, ◌+◌, ◌-◌, Bool, true, false, Option, None, Some, Result, Ok, Err, if◌then◌else◌, List, [], ◌∷◌, ◌++◌, length, slice_set}
 use Rattle.std.specs.Option.{option_to_list}
 use Rattle.sg_base.specs.declared.call.Answer.{Answer}
@@ -9,7 +10,7 @@ use Rattle.sg_base.specs.declared.ids.BoxId.{BoxId}
 use Rattle.sg_base.specs.declared.ids.PointId.{PointId}
 use Rattle.sg_base.specs.declared.ids.Serial.{Serial}
 use Rattle.sg_activity.specs.Task.{Task, Way, comm_of, is_cut}
-use Rattle.sg_activity.specs.Underway.{begun, drawn}
+use Rattle.sg_activity.specs.Underway.{begun, with_next_serial}
 use Rattle.sg_mailbox.specs.declared.sides.Side.{Side}
 use Rattle.sg_mailbox.specs.declared.sides.Post.{Post}
 use Rattle.sg_mailbox.specs.Posts.{box_eq, partner}
@@ -28,31 +29,35 @@ use Rattle.sg_calls.specs.declared.stop.Stop.TheVariants as stop
 use Rattle.sg_owners.specs.declared.owners.Whose.{Whose}
 use Rattle.sg_owners.specs.declared.owners.Whose.TheVariants.{Over, Alone, Posted, Pair}
 use Rattle.sg_calls.specs.Answers.{answers_side, bare_side, for_receiver, side_of, with_over}
-use Rattle.sg_calls.specs.Network.{latency_over, own_bound}
+use Rattle.sg_calls.specs.Network.{route_latency, own_bound}
 use Rattle.sg_setup.specs.Setup.{Setup}
 use Rattle.sg_calls.specs.World.{Core, host_of, whose_at}
 use Rattle.sg_calls.specs.Steps.{Step, goes_on, stops, counted, and_then, blocked_by, at_once}
 
 -- ---- who waits in a mailbox
+-- the endpoint that an activity has waiting in this mailbox, if it is posted there
 abbrev pub post_in : BoxId → ℕ → Whose → Option Post
 post_in mailbox serial (Over before) = None
 post_in mailbox serial (Alone actor) = None
 post_in mailbox serial (Posted there sends side) = if box_eq mailbox there then Some (record { serial = record { 0 = serial }; sends = sends; side = side }) else None
 post_in mailbox serial (Pair sender receiver) = None
 
--- by rising serial, where the first activity of the list has this one
+-- the posts of a mailbox in order of activity id, if the first activity of the list has this one
 unfoldable pub posts_from : BoxId → ℕ → List Whose → List Post
 posts_from mailbox serial [] = []
 posts_from mailbox serial (whose ∷ rest) = option_to_list (post_in mailbox serial whose) ++ posts_from mailbox (serial + 1) rest
 
+-- the endpoints that wait in a mailbox, in order of activity id
 abbrev pub posts_at : BoxId → Core → List Post
 posts_at mailbox core = posts_from mailbox 1 core.whose
 
 -- ---- an actor takes part in a communication
+-- which endpoint an actor is: the sender if it sends, else the receiver
 abbrev pub party_of : Bool → Party
 party_of true = Sender
 party_of false = Receiver
 
+-- what an actor waits for: the activity of this id, as its sender or its receiver
 abbrev pub await : ℕ → Bool → Await
 await serial sends = record { serial = record { 0 = serial }; party = party_of sends }
 
@@ -66,16 +71,18 @@ takes_part true comer serial core = goes_on (blocked_by comer.side.actor.0 comer
 takes_part false comer serial core =
     at_once comer.side.actor.0 comer.what comer.side.bytes answer.Done (asks_for comer.side.actor.0 (await serial comer.sends) core)
 
--- ---- a side comes to a mailbox
+-- ---- an endpoint arrives at a mailbox
+-- an arriving sender, with the message and bytes, and whether its call waits
 abbrev pub sends_by : Side → Call → Bool → BoxId → Comer
 sends_by side what waits mailbox =
     record { what = what; mailbox = mailbox; sends = true; waits = waits; side = side }
 
+-- an arriving receiver, which brings no bytes and no message, and whether its call waits
 abbrev pub receives_by : ℕ → Call → Bool → BoxId → Comer
 receives_by actor what waits mailbox =
     record { what = what; mailbox = mailbox; sends = false; waits = waits; side = bare_side actor }
 
--- the side that comes by a call, where it is one of a communication
+-- the endpoint that arrives by a call, if it is one of a communication
 abbrev pub comer_of : ℕ → Call → Option Comer
 comer_of actor (call.Send mailbox bytes message rate) =
     Some (sends_by (side_of actor bytes message rate) (call.Send mailbox bytes message rate) true mailbox)
@@ -85,15 +92,17 @@ comer_of actor (call.Recv mailbox) = Some (receives_by actor (call.Recv mailbox)
 comer_of actor (call.IRecv mailbox) = Some (receives_by actor (call.IRecv mailbox) false mailbox)
 comer_of actor other = None
 
+-- the sending endpoint of a match: the arriving one or the other, whichever sends
 abbrev pub sender_of : Comer → Side → Side
 sender_of comer other = if comer.sends then comer.side else other
 
+-- the receiving endpoint of a match: the arriving one or the other, whichever receives
 abbrev pub receiver_of : Comer → Side → Side
 receiver_of comer other = if comer.sends then other else comer.side
 
--- nobody is there that it lacks: it is posted, as a communication with the next serial
+-- no match waits for it: it is posted, as a communication with the next id
 abbrev pub posted : Comer → Core → Core
-posted comer core = record core { under = drawn core.under; whose = core.whose ++ Posted comer.mailbox comer.sends comer.side ∷ [] }
+posted comer core = record core { under = with_next_serial core.under; whose = core.whose ++ Posted comer.mailbox comer.sends comer.side ∷ [] }
 
 -- from the host of the sender over a route to that of the receiver
 abbrev pub way_over : Setup → Route → Side → Side → Way
@@ -106,16 +115,17 @@ way_over setup route sender receiver = record {
 -- what a sender sends over a route: the rate is the sender's alone
 abbrev pub comm_over : Setup → Route → Side → Side → Task
 comm_over setup route sender receiver =
-    comm_of (way_over setup route sender receiver) (latency_over setup route) sender.bytes
+    comm_of (way_over setup route sender receiver) (route_latency setup route) sender.bytes
     (own_bound setup route sender.rate)
 
--- both sides are there: the communication begins over its route
+-- both endpoints are there: the communication begins over its route
 abbrev pub joined : Setup → ℕ → Route → Side → Side → Core → Core
 joined setup serial route sender receiver core = record core {
   under = begun serial (comm_over setup route sender receiver) core.under;
   whose = slice_set core.whose (serial - 1) (Pair sender receiver);
 }
 
+-- the host of an endpoint's actor, as a point of the network
 abbrev pub point_of : Setup → Side → PointId
 point_of setup side = record { 0 = host_of setup side.actor.0 }
 
@@ -123,44 +133,50 @@ point_of setup side = record { 0 = host_of setup side.actor.0 }
 abbrev pub route_between : Roads → Setup → Side → Side → Result Route RouteFault
 route_between roads setup sender receiver = route_of roads (point_of setup sender) (point_of setup receiver)
 
+-- why a run stops if two hosts have no route between them, or one that is too long
 abbrev pub stop_of : PointId → PointId → RouteFault → Stop
 stop_of from to (fault.NoRoute zone a b) = stop.NoRoute from to zone a b
 stop_of from to fault.TooLong = stop.TooLong from to
 
+-- the communication of a match begins over this route, and the arriving call waits for it or is done
 abbrev pub joins_with : Route → Setup → Comer → Serial → Side → Core → Step
 joins_with route setup comer serial other core =
     takes_part comer.waits comer serial.0
     (joined setup serial.0 route (sender_of comer other) (receiver_of comer other) core)
 
--- ---- or it fails in the call, where something that it would use is off
--- the side that comes: a call that waits fails, and any other is done at once, as ever
+-- ---- or it fails in the call, if something that it would use is off
+-- the arriving endpoint: a call that waits fails, and any other is done at once, as always
 abbrev pub takes_part_failed : Bool → Comer → ℕ → ℕ → Core → Step
 takes_part_failed true comer serial bytes core = at_once comer.side.actor.0 comer.what bytes answer.Failed core
 takes_part_failed false comer serial bytes core = takes_part false comer serial core
 
+-- the arriving endpoint of a communication that fails at once is answered, with the sender's bytes
 abbrev pub comer_fails : Comer → ℕ → Side → Core → Step
 comer_fails comer serial other core = takes_part_failed comer.waits comer serial (sender_of comer other).bytes core
 
+-- the waiting endpoint of a communication that fails at once: its actor is answered if it is blocked
 abbrev pub other_fails : Comer → ℕ → Side → Core → Step
 other_fails comer serial other core =
     if comer.sends then answers_side how.Failed serial Receiver (for_receiver comer.side other) core
     else answers_side how.Failed serial Sender other core
 
--- the sending side is answered first
+-- the sending endpoint is answered first
 abbrev pub both_fail : Comer → ℕ → Side → Core → Step
 both_fail comer serial other core =
     if comer.sends then and_then (comer_fails comer serial other core) (other_fails comer serial other)
     else and_then (other_fails comer serial other core) (comer_fails comer serial other)
 
+-- a communication fails in the call that would begin it, and both endpoints are answered
 abbrev pub fails_with : Comer → Serial → Side → Core → Step
 fails_with comer serial other core =
     both_fail comer serial.0 other (with_over how.Failed serial.0 core)
 
--- the way of a communication over a route with this other side
+-- the route of a communication with this other endpoint
 abbrev pub way_with : Route → Setup → Comer → Side → Way
 way_with route setup comer other =
     way_over setup route (sender_of comer other) (receiver_of comer other)
 
+-- a match was found: the communication begins, or fails if its route or a host is off
 abbrev pub joins_on : Route → Setup → Comer → Serial → Side → Core → Step
 joins_on route setup comer serial other core =
     if is_cut core.under.on (way_with route setup comer other)
@@ -173,15 +189,17 @@ joins_over (Err why) setup comer post core =
     stops core [] (stop_of (point_of setup (sender_of comer post.side)) (point_of setup (receiver_of comer post.side)) why)
 joins_over (Ok route) setup comer post core = joins_on route setup comer post.serial post.side (counted core)
 
+-- an endpoint without a match is posted: it waits in its mailbox
 abbrev pub posts : Comer → Core → Step
 posts comer core = takes_part comer.waits comer (length core.under.tasks + 1) (posted comer core)
 
+-- an endpoint arrives: it is posted, or begins a communication with the match that it finds
 abbrev pub comes_by : Option Post → Roads → Setup → Comer → Core → Step
 comes_by None roads setup comer core = posts comer (counted core)
 comes_by (Some post) roads setup comer core =
     joins_over (route_between roads setup (sender_of comer post.side) (receiver_of comer post.side)) setup comer post core
 
--- a side meets, of those that wait in its mailbox and lack it, the one of least serial
+-- an endpoint matches the one with the least activity id of those that wait for it in its mailbox
 abbrev pub comes : Roads → Setup → Comer → Core → Step
 comes roads setup comer core = comes_by (partner comer.sends (posts_at comer.mailbox core)) roads setup comer core
 
@@ -194,7 +212,7 @@ answer_of_over (Alone actor) = None
 answer_of_over (Posted mailbox sends side) = None
 answer_of_over (Pair sender receiver) = None
 
--- at once where the communication is over, else once it is
+-- the actor is answered at once if the communication has ended, else once it ends
 abbrev pub waits_until : Option Answer → ℕ → Await → Core → Step
 waits_until (Some over) actor on core = at_once actor call.Wait 0 over core
 waits_until None actor on core = goes_on (blocked_by actor call.Wait (Some on) core) []
@@ -204,5 +222,6 @@ abbrev pub waits_by : Option Await → ℕ → Core → Step
 waits_by None actor core = at_once actor call.Wait 0 answer.Refused core
 waits_by (Some on) actor core = waits_until (answer_of_over (whose_at core on.serial.0)) actor on (record core { requests = queues_without_oldest core.requests actor })
 
+-- a wait for the oldest request of the actor
 abbrev pub waits : ℕ → Core → Step
 waits actor core = waits_by (oldest (queue_at core.requests actor)) actor core

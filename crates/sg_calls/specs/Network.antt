@@ -14,12 +14,12 @@ is_loopback links (link ∷ []) = link.0 + 1 == links
 is_loopback links (link ∷ other ∷ more) = false
 
 -- how long the latency of a route lasts; that of the loopback has no factor
-abbrev pub latency_over : Setup → Route → ℕ
-latency_over setup route =
+abbrev pub route_latency : Setup → Route → ℕ
+route_latency setup route =
     if is_loopback setup.links route.links then route.latency
     else network.latency_over setup.network route.latency
 
--- the most that a rate lets through; 0 stands for no rate
+-- the most that a rate allows; 0 stands for no rate
 abbrev pub rate_bound : ℕ → Option ℕ
 rate_bound rate = if rate == 0 then None else Some rate
 

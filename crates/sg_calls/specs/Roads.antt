@@ -12,6 +12,6 @@ pub record IsOver (links : ℕ) (route : Route) : Type 0 where
   pub exist : All (λ (link : LinkId). link.0 < links) route.links
   pub latency : route.latency ≤ 64000000000000000
 
--- all routes are over so many links
+-- all routes use so many links
 abbrev pub AreOver : ℕ → Roads → Type 0
 AreOver links roads = (a b : PointId) (route : Route) → route_of roads a b ≡ Ok route → IsOver links route

@@ -16,9 +16,11 @@ pub record Step : Type 0 where
   pub made : List Record
   pub stop : Option Stop
 
+-- a step after which the run continues, with the records that it made
 abbrev pub goes_on : Core → List Record → Step
 goes_on core made = record { core = core; made = made; stop = None }
 
+-- a step after which the run stops for this reason, with the records that it made
 abbrev pub stops : Core → List Record → Stop → Step
 stops core made stop = record { core = core; made = made; stop = Some stop }
 
@@ -26,6 +28,7 @@ abbrev pub result_of : Option Stop → Result Unit Stop
 result_of None = Ok tt
 result_of (Some stop) = Err stop
 
+-- the core, whose count of events is one higher
 abbrev pub counted : Core → Core
 counted core = record core { events = core.events + 1 }
 
@@ -33,11 +36,12 @@ counted core = record core { events = core.events + 1 }
 abbrev pub unless_used : ℕ → Core → Step → Step
 unless_used budget core step = if core.events == budget then stops core [] Budget else step
 
--- one step, and where it didn't stop, the next one after it
+-- one step, and if it didn't stop, the next one after it
 abbrev pub follows : Option Stop → Step → Step → Step
 follows None first second = record second { made = first.made ++ second.made }
 follows (Some stop) first second = first
 
+-- two steps in turn: the next one begins after the first, unless that stopped the run
 abbrev pub and_then : Step → (Core → Step) → Step
 and_then first next = follows first.stop first (next first.core)
 
@@ -56,7 +60,8 @@ all_of (first ∷ rest) core = and_then (first core) (all_of rest)
 abbrev pub readied : ℕ → Answer → Core → Core
 readied actor answer core = with_state actor (Ready answer) core
 
--- the actor is blocked by this call until its side of an activity is done, or, with none, until another's call lets it go on
+-- the actor is blocked by this call until its endpoint of an activity is done or, with none, until another's call
+-- releases it
 abbrev pub blocked_by : ℕ → Call → Option Await → Core → Core
 blocked_by actor what on core = with_state actor (Blocked what core.under.date on) core
 

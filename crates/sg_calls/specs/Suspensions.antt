@@ -10,21 +10,22 @@ use Rattle.sg_states.specs.Actors.{blocking_in, is_alive}
 use Rattle.sg_calls.specs.World.{Core, state_of, with_suspended}
 use Rattle.sg_calls.specs.Steps.{Step, at_once}
 
--- the execution of this serial is held where its actor is suspended
+-- the execution with this id is suspended if its actor is
 abbrev pub held_if : Bool → ℕ → Core → Core
 held_if true serial core = record core { under = held serial core.under }
 held_if false serial core = core
 
--- an execution that goes on is held, or one that is held goes on; anything else stays as it is
+-- a running execution is suspended, or a suspended one resumes; anything else stays as it is
 abbrev pub held_to : Bool → ℕ → Underway → Underway
 held_to true serial under = if is_computing under serial then held serial under else under
 held_to false serial under = if is_kept under serial then gone_on serial under else under
 
--- so it is with the activity on which an actor is blocked
+-- the activity on which an actor is blocked is suspended, or resumes
 abbrev pub held_on : Bool → Option Await → Core → Core
 held_on on None core = core
 held_on on (Some await) core = record core { under = held_to on await.serial.0 core.under }
 
+-- the activity of a blocked call is suspended, or resumes, if it is an execution
 abbrev pub held_by : Bool → Option Blocking → Core → Core
 held_by on None core = core
 held_by on (Some blocking) core = held_on on blocking.on core
@@ -36,10 +37,12 @@ suspended_to on target core =
     then held_by on (blocking_in (state_of core target.0)) (with_suspended target.0 on core)
     else core
 
+-- a call that suspends an actor: it takes no turn, and its execution keeps its remaining work
 abbrev pub suspends : ℕ → ActorId → Core → Step
 suspends actor target core =
     at_once actor (call.Suspend target) 0 answer.Done (suspended_to true target core)
 
+-- a call that resumes an actor: it may take turns again, and its execution continues
 abbrev pub resumes : ℕ → ActorId → Core → Step
 resumes actor target core =
     at_once actor (call.Resume target) 0 answer.Done (suspended_to false target core)

@@ -1,4 +1,4 @@
-//! Who is answered when an activity is over.
+//! Who is answered when an activity ends.
 
 ghost use Rattle.std.specs.Prelude.{◌≡◌, ◌<◌, ◌^◌, if◌then◌else◌};
 ghost use Rattle.sg_calls.specs.Answers.{answer_of_done as answer_of_done_spec, answer_to as answer_to_spec, answers, answers_side, for_receiver, tells_bytes as tells_bytes_spec};
@@ -6,8 +6,8 @@ ghost use Rattle.sg_calls.specs.World.{extent};
 ghost use Rattle.sg_calls.specs.kept.Sound.{setup_in, IsOwner, IsSide, IsSound, StepsBy};
 ghost use Rattle.sg_calls.specs.kept.Whole.{KeepsWhole};
 
-use crate::fields::Fields;
 use crate::meetings::bare_side;
+use crate::simulation_state::Fields;
 use sg_base::{Answer, Call, Msg, Party, Serial};
 use sg_mailbox::Side;
 use sg_owners::{How, Whose};
@@ -22,7 +22,7 @@ fn tells_bytes(what: Call) -> bool
     }
 }
 
-// How many bytes the record of a call tells, of those that came.
+// Returns how many of the bytes that came the record of a call reports.
 fn bytes_told(what: Call, bytes: u64) -> u64
     ensures { result ≡ (if tells_bytes_spec what then bytes else 0) }
 {
@@ -38,7 +38,7 @@ fn answer_of_done(what: Call, msg: Msg) -> Answer
     }
 }
 
-// The answer to a call by how its activity is over.
+// Returns the answer to a call, by how its activity ended.
 fn answer_to(over: How, what: Call, msg: Msg) -> Answer
     ensures { result ≡ answer_to_spec over what msg }
 {
@@ -48,8 +48,8 @@ fn answer_to(over: How, what: Call, msg: Msg) -> Answer
     }
 }
 
-/// Answers the actor of a side, where it is blocked on this side of this activity: with what the side gives, by how the
-/// activity is over.
+/// Answers the actor of an endpoint if it is blocked on this endpoint of this activity. The answer depends on how the
+/// activity ended and on what the endpoint gives.
 pub(crate) fn answer_side(fields: &mut Fields, over: How, serial: Serial, party: Party, given: Side)
     requires given { IsSide (extent (setup_in fields.old)) given }
     requires sound { IsSound fields.old }
@@ -72,7 +72,7 @@ pub(crate) fn answer_side(fields: &mut Fields, over: How, serial: Serial, party:
     }
 }
 
-/// What a sender sent, for the receiver.
+/// Returns what a sender sent, for the receiver.
 pub(crate) fn for_receiver(sender: Side, receiver: Side) -> Side
     ensures { result ≡ for_receiver sender receiver }
 {
@@ -82,7 +82,7 @@ pub(crate) fn for_receiver(sender: Side, receiver: Side) -> Side
     }
 }
 
-/// Answers those whose activity is over: of a communication the sender, and then the receiver.
+/// Answers the waiters of an activity that ended: of a communication the sender first, then the receiver.
 pub fn answer_owners(fields: &mut Fields, over: How, serial: Serial, whose: Whose)
     requires whose { IsOwner (extent (setup_in fields.old)) whose }
     requires sound { IsSound fields.old }

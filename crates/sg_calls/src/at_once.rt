@@ -1,4 +1,4 @@
-//! Calls that begin nothing: the actor goes on.
+//! Calls that begin nothing: the actor continues.
 ghost use Rattle.sg_base.specs.Limits.{IsAmount, IsAnswer};
 ghost use Rattle.sg_states.specs.Records.{IsTellable};
 ghost use Rattle.sg_calls.specs.World.{extent};
@@ -7,10 +7,10 @@ ghost use Rattle.sg_calls.specs.kept.Acts.{Answers, Counts};
 ghost use Rattle.sg_calls.specs.kept.Sound.{setup_in};
 ghost use Rattle.sg_calls.specs.kept.Whole.{CanStep};
 
-use crate::fields::Fields;
+use crate::simulation_state::Fields;
 use sg_base::{ActorId, Answer, Call};
 
-/// The actor goes on with this answer.
+/// Answers the actor, which continues.
 pub fn go_on(fields: &mut Fields, actor: ActorId, answer: Answer)
     requires able { CanStep fields.old actor.0 }
     requires answer { IsAnswer (extent (setup_in fields.old)) answer }
@@ -20,7 +20,7 @@ pub fn go_on(fields: &mut Fields, actor: ActorId, answer: Answer)
     fields.events += 1;
 }
 
-/// The actor's call is answered as it is made, with a record.
+/// Answers the actor's call as it is made, with a record.
 pub(crate) fn answer_now(
     fields: &mut Fields,
     actor: ActorId,

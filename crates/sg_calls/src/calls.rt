@@ -10,19 +10,19 @@ ghost use Rattle.sg_calls.specs.kept.Asks.{CanAnswer};
 use crate::at_once::{answer_now, go_on};
 use crate::creating::create;
 use crate::executions::{compute, sleep};
-use crate::fields::Fields;
 use crate::holding::{resume, suspend};
 use crate::joining::{exit, join};
 use crate::killing::kill;
 use crate::locks::{acquire, arrive, lock, release, unlock};
 use crate::meetings::{come, receives_by, sends_by, side_of, wait};
+use crate::simulation_state::Fields;
 use crate::stop::Stop;
 use arrayvec::ArrayVec;
 use sg_base::{ActorId, Answer, Call, LinkId};
 use sg_route::Router;
 
 /// Answers a call, unless the budget is used up: the arms are the rows of `answered_call`. A missing or too long route
-/// stops the run. `links` is where a route is written.
+/// stops the run. The route is written to `links`.
 pub fn answer_call(
     fields: &mut Fields,
     actor: ActorId,

@@ -2,19 +2,19 @@
 ghost use Rattle.std.specs.Prelude.{◌≡◌, ◌+◌, ◌<◌, IsTrue, length};
 ghost use Rattle.sg_activity.specs.Underway.{is_computing};
 ghost use Rattle.sg_calls.specs.World.{host_of};
-ghost use Rattle.sg_calls.specs.Calls.{alone, computes, executed, with_execution, with_sleep};
+ghost use Rattle.sg_calls.specs.Calls.{await_alone, computes, executed, with_execution, with_sleep};
 ghost use Rattle.sg_calls.specs.kept.Acts.{Answers, CanMake, Counts};
 ghost use Rattle.sg_calls.specs.kept.Sound.{setup_in, IsHome};
 ghost use Rattle.sg_calls.specs.kept.Whole.{CanStep};
 
 use crate::at_once::answer_now;
-use crate::fields::Fields;
 use crate::holding::hold_if;
+use crate::simulation_state::Fields;
 use sg_base::{ActorId, Answer, Await, Call, Party, PointId, Serial};
 use sg_owners::Whose;
 
 fn alone(serial: Serial) -> Await
-    ensures { result ≡ alone serial.0 }
+    ensures { result ≡ await_alone serial.0 }
 {
     Await {
         serial,
@@ -22,7 +22,7 @@ fn alone(serial: Serial) -> Await
     }
 }
 
-// The host of an actor.
+// Returns the host of an actor.
 fn home_of(fields: &Fields, actor: ActorId) -> PointId
     requires { CanStep fields.now actor.0 }
     ensures is { result.0 ≡ host_of (setup_in fields.now) actor.0 }
@@ -31,7 +31,7 @@ fn home_of(fields: &Fields, actor: ActorId) -> PointId
     fields.homes[actor.index()]
 }
 
-// An execution of the actor begins on its host.
+// Begins an execution of the actor on its host.
 fn start(fields: &mut Fields, actor: ActorId, host: PointId, flops: u64, priority: u32) -> Serial
     requires computes { CanMake fields.old actor.0 (Call.Compute flops priority) }
     requires home { IsHome fields.old actor.0 host }
@@ -53,7 +53,7 @@ fn start(fields: &mut Fields, actor: ActorId, host: PointId, flops: u64, priorit
     serial
 }
 
-// The actor computes on its host. That is held as soon as it begins, where the actor is suspended.
+// Makes the actor compute on its host. The execution is suspended as soon as it begins, if the actor is.
 fn execute(fields: &mut Fields, actor: ActorId, host: PointId, flops: u64, priority: u32)
     requires computes { CanMake fields.old actor.0 (Call.Compute flops priority) }
     requires home { IsHome fields.old actor.0 host }
@@ -64,7 +64,7 @@ fn execute(fields: &mut Fields, actor: ActorId, host: PointId, flops: u64, prior
     hold_if(fields, actor, serial);
 }
 
-/// The actor computes at a priority, unless its host is off.
+/// Makes the actor compute at a priority, unless its host is off.
 pub(crate) fn compute(fields: &mut Fields, actor: ActorId, flops: u64, priority: u32)
     requires { CanMake fields.old actor.0 (Call.Compute flops priority) }
     ensures { Answers (computes (setup_in fields.old) actor.0 flops priority)
@@ -84,7 +84,7 @@ pub(crate) fn compute(fields: &mut Fields, actor: ActorId, flops: u64, priority:
     }
 }
 
-/// The actor sleeps.
+/// Makes the actor sleep.
 pub(crate) fn sleep(fields: &mut Fields, actor: ActorId, ns: u64)
     requires { CanMake fields.old actor.0 (Call.Sleep ns) }
     ensures { Counts (with_sleep actor.0 ns) fields.old fields.new }

@@ -12,12 +12,12 @@ ghost use Rattle.sg_calls.specs.kept.Sound.{core_of, known_of, setup_in, AwaitsM
 ghost use Rattle.sg_calls.specs.kept.Waking.{LeavesCallers};
 ghost use Rattle.sg_calls.specs.kept.Whole.{IsWhole, IsWholeFor};
 
-use crate::fields::Fields;
+use crate::simulation_state::Fields;
 use sg_activity::Activities;
 use sg_base::{ActorId, Answer, Call, Serial};
 use sg_states::{Blocking, States};
 
-/// The execution that begins is held at once, where its actor is suspended.
+/// Suspends the execution that begins at once, if its actor is suspended.
 pub(crate) fn hold_if(fields: &mut Fields, actor: ActorId, serial: Serial)
     requires { CanHold fields.old actor.0 serial.0 }
     ensures known { let core = core_of fields.old in
@@ -30,7 +30,7 @@ pub(crate) fn hold_if(fields: &mut Fields, actor: ActorId, serial: Serial)
     }
 }
 
-// An execution that goes on is held, or one that is held goes on. That takes the room of a start.
+// Suspends a running execution, or resumes a suspended one. That uses the room of a start.
 fn turn(doing: &mut Activities, on: bool, serial: Serial)
     requires from { 0 < serial.0 }
     requires room { 0 < doing.old.room }
@@ -46,7 +46,7 @@ fn turn(doing: &mut Activities, on: bool, serial: Serial)
     }
 }
 
-// The same with the activity on which an actor is blocked, if there is one. That may take the room of a call.
+// Does the same with the activity on which an actor is blocked, if there is one. That may take the room of a call.
 fn turn_awaited(fields: &mut Fields, on: bool, blocking: Option<Blocking>)
     requires made { AwaitsMade (length fields.old.whose.whose) blocking }
     requires room { 0 < fields.old.states.room }
@@ -63,7 +63,7 @@ fn turn_awaited(fields: &mut Fields, on: bool, blocking: Option<Blocking>)
     }
 }
 
-// The actor, which is alive, is suspended from now on, or isn't any more.
+// Marks the actor, which is alive, as suspended or not.
 fn mark(states: &mut States, target: ActorId, on: bool)
     requires { IsAlive states.old target.0 }
     ensures { states.new ≡ with_suspended target.0 on states.old }
@@ -75,7 +75,7 @@ fn mark(states: &mut States, target: ActorId, on: bool)
     }
 }
 
-// The named actor is suspended, or resumed, if it is alive. That may take the room of a call.
+// Suspends or resumes the named actor, if it is alive. That may take the room of a call.
 fn set(fields: &mut Fields, target: ActorId, on: bool)
     requires target { IsActor (core_of fields.old) target.0 }
     requires room { 0 < fields.old.states.room }
@@ -92,7 +92,7 @@ fn set(fields: &mut Fields, target: ActorId, on: bool)
     }
 }
 
-// The call is answered as it is made, with a record. What went on by it may have taken its room.
+// Answers the call at once, with a record. The executions that it resumed may have used its room.
 fn answer_done(fields: &mut Fields, actor: ActorId, what: Call)
     requires able { CanCall fields.old.states actor.0 }
     requires budget { fields.old.events ≢ fields.old.budget }
@@ -105,7 +105,7 @@ fn answer_done(fields: &mut Fields, actor: ActorId, what: Call)
     fields.events += 1;
 }
 
-/// The named actor takes no turns, and computes nothing, until it is resumed.
+/// Suspends the named actor: it takes no turns, and computes nothing, until it is resumed.
 pub(crate) fn suspend(fields: &mut Fields, actor: ActorId, target: ActorId)
     requires { CanMake fields.old actor.0 (Call.Suspend target) }
     ensures { Answers (suspends actor.0 target) fields.old fields.new }
@@ -114,7 +114,7 @@ pub(crate) fn suspend(fields: &mut Fields, actor: ActorId, target: ActorId)
     answer_done(fields, actor, Call::Suspend(target));
 }
 
-/// The named actor takes turns again, and what it computes goes on.
+/// Resumes the named actor: it takes turns again, and its suspended execution continues.
 pub(crate) fn resume(fields: &mut Fields, actor: ActorId, target: ActorId)
     requires { CanMake fields.old actor.0 (Call.Resume target) }
     ensures { Answers (resumes actor.0 target) fields.old fields.new }

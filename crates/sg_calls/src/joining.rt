@@ -1,18 +1,18 @@
-//! Actors end, and those that wait for that go on.
+//! How actors end, and how those that joined them are unblocked.
 ghost use Rattle.std.specs.Prelude.{◌≡◌, drop};
 ghost use Rattle.sg_states.specs.Actors.{is_ended, joiners, IsJoiner};
-ghost use Rattle.sg_calls.specs.Lives.{exits, joins_one, leaves};
+ghost use Rattle.sg_calls.specs.Lives.{exits, joins_one, with_actor_ended};
 ghost use Rattle.sg_calls.specs.Locks.{joiners_wake, wakes};
 ghost use Rattle.sg_calls.specs.kept.Acts.{Answers, CanMake, Counts, Wakes};
 ghost use Rattle.sg_calls.specs.kept.Whole.{CanStep, IsWhole};
 
 use crate::at_once::answer_now;
-use crate::fields::Fields;
 use crate::meetings::block;
+use crate::simulation_state::Fields;
 use sg_base::{ActorId, Answer, Call};
 use sg_states::State;
 
-// The first that waits for an actor to end goes on.
+// Unblocks the first actor that waits for another to end.
 fn wake_joiner(fields: &mut Fields, target: ActorId, actor: ActorId)
     requires first { IsJoiner fields.old.states.actors target.0 actor }
     requires whole { IsWhole fields.old }
@@ -26,7 +26,7 @@ fn wake_joiner(fields: &mut Fields, target: ActorId, actor: ActorId)
     }
 }
 
-/// All that wait for an actor to end go on, by rising id.
+/// Unblocks all actors that wait for this one to end, in order of id.
 pub(crate) fn wake_joiners(fields: &mut Fields, target: ActorId)
     requires { IsWhole fields.old }
     ensures { Wakes (joiners_wake target.0) fields.old fields.new }
@@ -36,16 +36,16 @@ pub(crate) fn wake_joiners(fields: &mut Fields, target: ActorId)
     }
 }
 
-// The actor has made its last call.
+// Marks that the actor has made its last call.
 fn leave(fields: &mut Fields, actor: ActorId)
     requires { CanStep fields.old actor.0 }
-    ensures { Counts (leaves actor.0) fields.old fields.new }
+    ensures { Counts (with_actor_ended actor.0) fields.old fields.new }
 {
     fields.states.exit(actor);
     fields.events += 1;
 }
 
-/// The actor has made its last call, and those that wait for its end go on.
+/// Ends an actor after its last call, and unblocks those that wait for its end.
 pub(crate) fn exit(fields: &mut Fields, actor: ActorId)
     requires { CanStep fields.old actor.0 }
     ensures { Answers (exits actor.0) fields.old fields.new }
@@ -63,7 +63,7 @@ fn has_ended(state: State) -> bool
     }
 }
 
-/// The actor waits until the named one has ended.
+/// Makes the actor wait until the named one has ended.
 pub(crate) fn join(fields: &mut Fields, actor: ActorId, target: ActorId)
     requires { CanMake fields.old actor.0 (Call.Join target) }
     ensures { Answers (joins_one actor.0 target) fields.old fields.new }

@@ -17,13 +17,13 @@ ghost use Rattle.sg_calls.specs.kept.Whole.{IsWhole};
 
 use crate::answers::answer_owners;
 use crate::at_once::answer_now;
-use crate::fields::Fields;
 use crate::joining::wake_joiners;
+use crate::simulation_state::Fields;
 use sg_base::{ActorId, Answer, Await, Call, Serial};
 use sg_owners::{How, Whose};
 use sg_states::{State, States};
 
-// The activity on which an actor is blocked that does this.
+// Returns the activity on which an actor is blocked that does this.
 fn blocked_on(state: State) -> Option<Await>
     ensures { result ≡ blocked_on (blocking_in state) }
 {
@@ -33,7 +33,7 @@ fn blocked_on(state: State) -> Option<Await>
     }
 }
 
-// The target ends. That is the last call of one that kills itself, and another's call is answered.
+// Ends the target. That is the last call of one that kills itself; another's call is answered.
 fn end(states: &mut States, actor: ActorId, target: ActorId, date: u128)
     requires able { CanCall states.old actor.0 }
     requires alive { IsAlive states.old target.0 }
@@ -49,7 +49,7 @@ fn end(states: &mut States, actor: ActorId, target: ActorId, date: u128)
     }
 }
 
-// The target ends, waits nowhere any more and has no requests. Those and what it waited for are told by `awaited`.
+// Ends the target, which then waits nowhere and has no requests. `awaited` lists these and what it waited for.
 fn withdraw(fields: &mut Fields, actor: ActorId, target: ActorId)
     requires named { CanName fields.old actor.0 target.0 }
     requires alive { IsTrue (is_alive (state_of (core_of fields.old) target.0)) }
@@ -66,7 +66,7 @@ fn withdraw(fields: &mut Fields, actor: ActorId, target: ActorId)
     end(&mut fields.states, actor, target, date);
 }
 
-// A communication of which one side is there fails: that one leaves its mailbox.
+// Fails a communication with one endpoint, which leaves its mailbox.
 fn fail_posted(fields: &mut Fields, serial: Serial)
     requires made { CanGiveUp fields.old serial.0 }
     requires posted { IsTrue (is_posted (whose_at (core_of fields.old) serial.0)) }
@@ -76,7 +76,7 @@ fn fail_posted(fields: &mut Fields, serial: Serial)
     fields.whose.fail(serial);
 }
 
-// What is under way fails, and whose it was is answered.
+// Fails a running activity and answers its waiters.
 fn fail_under_way(fields: &mut Fields, serial: Serial)
     requires made { CanGiveUp fields.old serial.0 }
     requires busy { is_idle (whose_at (core_of fields.old) serial.0) ≡ false }
@@ -87,7 +87,7 @@ fn fail_under_way(fields: &mut Fields, serial: Serial)
     answer_owners(fields, How::Failed, serial, whose);
 }
 
-// The activity of this serial fails, unless it is over.
+// Fails the activity with this id, unless it has ended.
 fn give_up(fields: &mut Fields, serial: Serial)
     requires { CanGiveUp fields.old serial.0 }
     ensures { GivesUp (gives_up serial.0) fields.old fields.new }
@@ -100,7 +100,7 @@ fn give_up(fields: &mut Fields, serial: Serial)
     }
 }
 
-// All that the target awaited fails, by rising serial.
+// Fails all that the target awaited, in order of activity id.
 fn give_up_all(fields: &mut Fields)
     requires made { AreSerials (length fields.old.whose.whose) fields.old.requests.awaited }
     requires whole { IsWhole fields.old }
@@ -112,7 +112,7 @@ fn give_up_all(fields: &mut Fields)
     }
 }
 
-/// The named actor ends, if it is alive: what it takes part in fails, and those that wait for its end go on.
+/// Kills the named actor if it is alive: what it takes part in fails, and those that wait for its end are unblocked.
 pub(crate) fn kill(fields: &mut Fields, actor: ActorId, target: ActorId)
     requires { CanMake fields.old actor.0 (Call.Kill target) }
     ensures { Answers (kills actor.0 target) fields.old fields.new }

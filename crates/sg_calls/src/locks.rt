@@ -12,11 +12,11 @@ ghost use Rattle.sg_calls.specs.kept.Sound.{core_of, known_of, StepsBy};
 ghost use Rattle.sg_calls.specs.kept.Waking.{AreWaking, LeavesCallers};
 ghost use Rattle.sg_calls.specs.kept.Whole.{CanStep, IsSteady};
 
-use crate::fields::Fields;
+use crate::simulation_state::Fields;
 use sg_base::{ActorId, Answer, Call};
 use sg_sync::Outcome;
 
-// What the one that made the call gets; that takes the room of the call.
+// Answers or blocks the caller, by the outcome of its call. That takes the room of the call.
 fn answer_caller(fields: &mut Fields, outcome: Outcome, actor: ActorId, what: Call)
     requires { CanServe fields.old actor.0 what }
     ensures known { known_of fields.new ≡ after_call true
@@ -34,7 +34,7 @@ fn answer_caller(fields: &mut Fields, outcome: Outcome, actor: ActorId, what: Ca
     }
 }
 
-// One that waited goes on.
+// Unblocks an actor that waited.
 fn wake(fields: &mut Fields, actor: ActorId)
     requires actor { IsActor (core_of fields.old) actor.0 }
     requires steady { IsSteady fields.old }
@@ -51,7 +51,7 @@ fn wake(fields: &mut Fields, actor: ActorId)
     }
 }
 
-// Those that go on by the last call.
+// Unblocks the actors that the last call releases.
 fn wake_others(fields: &mut Fields)
     requires wakers { (actor : ActorId) → Contains fields.old.objects.others actor
         → IsActor (core_of fields.old) actor.0 }
@@ -68,7 +68,7 @@ fn wake_others(fields: &mut Fields)
     }
 }
 
-// The caller is answered before those that go on by its call.
+// Answers the caller, and then those that its call unblocks.
 fn answer_first(fields: &mut Fields, outcome: Outcome, actor: ActorId, what: Call)
     requires serves { CanServe fields.old actor.0 what }
     requires waking { AreWaking fields.old (comers actor outcome) fields.old.objects.others }
@@ -79,7 +79,7 @@ fn answer_first(fields: &mut Fields, outcome: Outcome, actor: ActorId, what: Cal
     wake_others(fields);
 }
 
-// The caller is answered after them: so at the barrier.
+// Answers the caller after the others: so at the barrier.
 fn answer_last(fields: &mut Fields, outcome: Outcome, actor: ActorId, what: Call)
     requires serves { CanServe fields.old actor.0 what }
     requires waking { AreWaking fields.old (comers actor outcome) fields.old.objects.others }
@@ -90,7 +90,7 @@ fn answer_last(fields: &mut Fields, outcome: Outcome, actor: ActorId, what: Call
     answer_caller(fields, outcome, actor, what);
 }
 
-/// The actor locks a mutex.
+/// Makes the actor lock a mutex.
 pub(crate) fn lock(fields: &mut Fields, actor: ActorId, mutex: u32)
     requires { CanMake fields.old actor.0 (Call.Lock mutex) }
     ensures { Answers
@@ -102,7 +102,7 @@ pub(crate) fn lock(fields: &mut Fields, actor: ActorId, mutex: u32)
     answer_first(fields, outcome, actor, Call::Lock(mutex));
 }
 
-/// The actor gives a mutex up.
+/// Makes the actor unlock a mutex.
 pub(crate) fn unlock(fields: &mut Fields, actor: ActorId, mutex: u32)
     requires { CanMake fields.old actor.0 (Call.Unlock mutex) }
     ensures { Answers
@@ -114,7 +114,7 @@ pub(crate) fn unlock(fields: &mut Fields, actor: ActorId, mutex: u32)
     answer_first(fields, outcome, actor, Call::Unlock(mutex));
 }
 
-/// The actor acquires a semaphore.
+/// Makes the actor acquire a semaphore.
 pub(crate) fn acquire(fields: &mut Fields, actor: ActorId, semaphore: u32)
     requires { CanMake fields.old actor.0 (Call.Acquire semaphore) }
     ensures { Answers
@@ -127,7 +127,7 @@ pub(crate) fn acquire(fields: &mut Fields, actor: ActorId, semaphore: u32)
     answer_first(fields, outcome, actor, Call::Acquire(semaphore));
 }
 
-/// The actor releases a semaphore.
+/// Makes the actor release a semaphore.
 pub(crate) fn release(fields: &mut Fields, actor: ActorId, semaphore: u32)
     requires { CanMake fields.old actor.0 (Call.Release semaphore) }
     ensures { Answers
@@ -140,7 +140,7 @@ pub(crate) fn release(fields: &mut Fields, actor: ActorId, semaphore: u32)
     answer_first(fields, outcome, actor, Call::Release(semaphore));
 }
 
-/// The actor arrives at the barrier.
+/// Makes the actor arrive at the barrier.
 pub(crate) fn arrive(fields: &mut Fields, actor: ActorId)
     requires { CanStep fields.old actor.0 }
     ensures { Answers

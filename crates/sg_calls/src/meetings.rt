@@ -1,4 +1,4 @@
-//! Sides of communications come to mailboxes, and actors wait for their requests.
+//! Endpoints of communications arrive at mailboxes, and actors wait for their requests.
 
 ghost use Rattle.std.specs.Prelude.{◌≡◌, ◌≢◌, ◌<◌, ◌^◌, AllPairs, IfSome, None, length};
 ghost use Rattle.sg_base.specs.declared.ids.BoxId.{BoxId};
@@ -16,8 +16,8 @@ ghost use Rattle.sg_calls.specs.kept.Whole.{CanStep, KeepsWhole};
 
 use crate::answers::{answer_side, for_receiver};
 use crate::at_once::answer_now;
-use crate::fields::Fields;
 use crate::network::{latency_over, own_bound};
+use crate::simulation_state::Fields;
 use crate::stop::Stop;
 use arrayvec::ArrayVec;
 use sg_base::{ActorId, Answer, Await, BoxId, Call, LinkId, Msg, Party, PointId, Serial};
@@ -25,7 +25,7 @@ use sg_mailbox::{Found, Side};
 use sg_owners::{How, Whose};
 use sg_route::{RouteFault, Router};
 
-/// A side of a communication that comes to a mailbox.
+/// An endpoint that arrives at a mailbox.
 #[derive(Clone, Copy)]
 pub struct Comer {
     /// The call by which it comes.
@@ -37,7 +37,7 @@ pub struct Comer {
     pub side: Side,
 }
 
-/// The side of an actor, with what it brings.
+/// Returns the endpoint of an actor, with what it brings.
 pub(crate) fn side_of(actor: ActorId, bytes: u64, msg: Msg, rate: u64) -> Side
     ensures { result ≡ side_of actor.0 bytes msg rate }
 {
@@ -49,14 +49,14 @@ pub(crate) fn side_of(actor: ActorId, bytes: u64, msg: Msg, rate: u64) -> Side
     }
 }
 
-/// A side that brings nothing.
+/// Returns an endpoint that brings nothing.
 pub(crate) fn bare_side(actor: ActorId) -> Side
     ensures { result ≡ bare_side actor.0 }
 {
     side_of(actor, 0, Msg::Empty, 0)
 }
 
-/// The side that comes to send.
+/// Returns the arriving endpoint of a send.
 pub(crate) fn sends_by(side: Side, what: Call, waits: bool, mailbox: BoxId) -> Comer
     ensures { result ≡ sends_by side what waits mailbox }
 {
@@ -69,7 +69,7 @@ pub(crate) fn sends_by(side: Side, what: Call, waits: bool, mailbox: BoxId) -> C
     }
 }
 
-/// The side that comes to receive.
+/// Returns the arriving endpoint of a receive.
 pub(crate) fn receives_by(actor: ActorId, what: Call, waits: bool, mailbox: BoxId) -> Comer
     ensures { result ≡ receives_by actor.0 what waits mailbox }
 {
@@ -92,7 +92,7 @@ fn party_of(sends: bool) -> Party
     }
 }
 
-// The actor of a call that is counted takes part in the communication of this serial; that takes the room of the call.
+// Makes the actor of a counted call take part in the communication with this id. That uses the room of the call.
 fn take_part(fields: &mut Fields, comer: &Comer, serial: Serial)
     requires { CanTakePart fields.old comer.now serial.0 }
     ensures { Completes (takes_part comer.now.waits comer.now serial.0) fields.old fields.new }
@@ -113,7 +113,7 @@ fn take_part(fields: &mut Fields, comer: &Comer, serial: Serial)
     }
 }
 
-// The side is posted, as a communication with the next serial.
+// Posts the endpoint, as a communication with the next id.
 fn post(fields: &mut Fields, comer: &Comer, found: Found)
     requires comes { CanCome fields.old comer.now }
     requires found { IsFound fields.old.boxes comer.now.mailbox comer.now.sends found }
@@ -162,7 +162,7 @@ fn receiver_of(comer: &Comer, other: Side) -> Side
     if comer.sends { other } else { comer.side }
 }
 
-// The host of a side.
+// Returns the host of an endpoint.
 fn point_of(fields: &Fields, side: Side) -> PointId
     requires { IsActorIn (extent (setup_in fields.now)) side.actor }
     ensures { result ≡ point_of (setup_in fields.now) side }
@@ -170,7 +170,7 @@ fn point_of(fields: &Fields, side: Side) -> PointId
     fields.homes[side.actor.index()]
 }
 
-// Both sides are there, and the communication begins over these links.
+// Begins the communication of two endpoints over these links.
 fn begin(
     fields: &mut Fields,
     comer: &Comer,
@@ -207,7 +207,7 @@ fn begin(
     take_part(fields, comer, serial);
 }
 
-// The actor of a call that is counted takes part in a communication that fails; that takes the room of the call.
+// Makes the actor of a counted call take part in a communication that fails. That takes the room of the call.
 fn fail_comer(fields: &mut Fields, comer: &Comer, serial: Serial, other: Side)
     requires takes_part { CanTakePart fields.old comer.now serial.0 }
     requires other { IsSide (extent (setup_in fields.old)) other }
@@ -224,7 +224,7 @@ fn fail_comer(fields: &mut Fields, comer: &Comer, serial: Serial, other: Side)
     }
 }
 
-// The side that waited is answered, where its communication fails.
+// Answers the endpoint that waited, since its communication fails.
 fn fail_other(fields: &mut Fields, comer: &Comer, serial: Serial, other: Side)
     requires comer { IsComer (extent (setup_in fields.old)) comer.now }
     requires other { IsSide (extent (setup_in fields.old)) other }
@@ -241,7 +241,7 @@ fn fail_other(fields: &mut Fields, comer: &Comer, serial: Serial, other: Side)
     }
 }
 
-// Both sides are there, but something that they would use is off: the communication fails in the call.
+// Fails a communication within the call: both endpoints are there, and something that they would use is off.
 fn fail_at_once(fields: &mut Fields, comer: &Comer, found: Found, met: (Serial, Side))
     requires { CanMeet fields.old comer.now found met }
     ensures { Answers (fails_with comer.now met.0 met.1) fields.old fields.new }
@@ -262,7 +262,7 @@ fn fail_at_once(fields: &mut Fields, comer: &Comer, found: Found, met: (Serial, 
     }
 }
 
-// Both sides are there: the communication begins over these links, unless something is off that it would use.
+// Begins the communication of two endpoints over these links, unless something that it would use is off.
 fn meet(
     fields: &mut Fields,
     comer: &Comer,
@@ -290,8 +290,8 @@ fn meet(
     }
 }
 
-// Both sides are there: their communication begins over its route, or fails. Its links are written in a place that stands
-// ready, since to make an array takes longer than to write a route.
+// Begins the communication of two endpoints over its route, or fails it. Its links are written to an array that is kept
+// ready, since making one takes longer than writing a route.
 fn join(
     fields: &mut Fields,
     router: &mut Router,
@@ -318,7 +318,7 @@ fn join(
     }
 }
 
-/// A side comes to its mailbox. A missing or too long route stops the run, with all as it was.
+/// Brings an endpoint to its mailbox. A missing or too long route stops the run and changes nothing.
 pub(crate) fn come(
     fields: &mut Fields,
     router: &mut Router,
@@ -341,8 +341,8 @@ pub(crate) fn come(
     }
 }
 
-/// The actor is blocked by its call until its side of an activity is done, or, with none, until another's call lets it go
-/// on.
+/// Blocks the actor by its call until its endpoint of an activity is done or, with none, until another's call releases
+/// it.
 pub(crate) fn block(fields: &mut Fields, actor: ActorId, what: Call, on: Option<Await>)
     requires able { CanStep fields.old actor.0 }
     requires what { IsTellable (extent (setup_in fields.old)) what }
@@ -354,7 +354,7 @@ pub(crate) fn block(fields: &mut Fields, actor: ActorId, what: Call, on: Option<
     fields.events += 1;
 }
 
-// What an actor that waits for an activity is answered at once, where it is over.
+// Returns the answer for an actor that waits for an activity, if the activity has ended.
 fn answer_of_over(whose: Whose) -> Option<Answer>
     ensures { result ≡ answer_of_over_spec whose }
 {
@@ -365,7 +365,7 @@ fn answer_of_over(whose: Whose) -> Option<Answer>
     }
 }
 
-/// The actor waits for its oldest request.
+/// Makes the actor wait for its oldest request.
 pub(crate) fn wait(fields: &mut Fields, actor: ActorId)
     requires { CanStep fields.old actor.0 }
     ensures { Answers (waits_spec actor.0) fields.old fields.new }

@@ -2,10 +2,10 @@
 ghost use Rattle.std.specs.Prelude.{◌≡◌, ◌≤◌, ◌^◌};
 ghost use Rattle.sg_lives.specs.Slots.{sooner};
 ghost use Rattle.sg_rows.specs.Network.{IsNetwork};
-ghost use Rattle.sg_calls.specs.Network.{is_loopback, latency_over, own_bound, rate_bound};
+ghost use Rattle.sg_calls.specs.Network.{is_loopback, route_latency, own_bound, rate_bound};
 ghost use Rattle.sg_calls.specs.kept.Sound.{setup_in};
 
-use crate::fields::Fields;
+use crate::simulation_state::Fields;
 use sg_base::LinkId;
 
 fn is_loopback(count: usize, links: &[LinkId]) -> bool
@@ -33,11 +33,11 @@ fn rate_bound(rate: u64) -> Option<u64>
     if rate == 0 { None } else { Some(rate) }
 }
 
-/// How long the latency of a route over these links lasts.
+/// Returns how long the latency of a route over these links lasts.
 pub(crate) fn latency_over(fields: &Fields, links: &[LinkId], latency: u128) -> u128
     requires network { IsNetwork fields.now.network }
     requires short { latency ≤ 64000000000000000 }
-    ensures value { result ≡ latency_over (setup_in fields.now)
+    ensures value { result ≡ route_latency (setup_in fields.now)
         (record { links = links.now; latency = latency }) }
     ensures limit { result ≤ 10 ^ 20 }
 {
@@ -48,7 +48,7 @@ pub(crate) fn latency_over(fields: &Fields, links: &[LinkId], latency: u128) -> 
     }
 }
 
-/// What bounds a message of a rate over a route, beside its links.
+/// Returns what bounds a message of a rate over a route, beside its links.
 pub(crate) fn own_bound(fields: &Fields, links: &[LinkId], latency: u128, rate: u64) -> Option<u64>
     requires network { IsNetwork fields.now.network }
     requires short { latency ≤ 64000000000000000 }

@@ -20,8 +20,8 @@ pub enum Stop {
         from: PointId,
         to: PointId,
     },
-    /// Nobody is ready, nothing is under way, and no entry of a profile is left.
+    /// No actor is ready, no activity is running, and no profile entry is pending.
     Deadlock,
-    /// Nobody is ready, nothing that is under way will ever be over, and no entry of a profile is left.
+    /// No actor is ready, no running activity will ever end, and no profile entry is pending.
     Starved,
 }

@@ -75,7 +75,7 @@ value_at cells i cell within is =
     get_or-map value_of (entries_of cells) i (entry_of cell) None (omega (arith, within, length-map cells entry_of))
     ∙ ap value_of (get_or-map entry_of cells i cell (entry_of cell) within ∙ ap entry_of is)
 
--- what is read where there is a slot
+-- what is read if there is a slot
 pub record IsRead (cells : List Cell) (i : ℕ) (cell : Cell) : Type 0 where
   pub slot : get_or (map value_of (entries_of cells)) i None ≡ Some (slot_in cell)
   pub taken : (cell.resource == nothing) ≡ false
@@ -108,7 +108,7 @@ is_taken cell = by_code (cell.resource == nothing)
     by_code true = refl
     by_code false = refl
 
--- where there is room, and all cells have slots, there may be one more
+-- if there is room, and all cells have slots, there may be one more
 pub room_left : (cells : List Cell) (len next room : ℕ) → AreCells cells len next → next ≡ length cells → count_by is_some (map value_of (entries_of cells)) + 1 ≤ room → room ≤ nothing → length cells < nothing
 room_left cells len next room are end left few =
     omega (arith, left, few, are.sound.counted, full_at_end (entries_of cells) len next are.sound (end ∙ sym (length-map cells entry_of)), length-map cells entry_of)

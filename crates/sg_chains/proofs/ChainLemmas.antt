@@ -8,7 +8,7 @@ use Rattle.sg_chains.specs.Chained.{times}
 use Rattle.sg_chains.specs.kept.Linked.{SameBut, flow_part, use_of, users_of, AreGained, GainsOne, LosesOne}
 use Rattle.sg_chains.specs.declared.slots.Slot.{Slot}
 
--- ---- what a use is to its flow tells whose it is, over which resource, and what comes next
+-- ---- a use, seen from its flow, gives the flow, the resource and the next use
 res_part : (o : Option Use) → resource_at (option_map flow_part o) ≡ resource_at o
 res_part None = refl
 res_part (Some u) = refl
@@ -43,7 +43,7 @@ of_some : (id : ℕ) (o : Option Use) → IsOf id o → (u : Use) × (o ≡ Some
 of_some id None h = absurd h
 of_some id (Some u) h = (u, refl, h)
 
--- one use more of a chain that stays
+-- one more use of a chain that stays
 same_more : (id n i : ℕ) (old new : List (Option Use)) → AreSame (get_or new i None) (get_or old i None) → IsOf id (get_or old i None) → IsSameChain old new id n (next_at (get_or old i None)) → IsSameChain old new id (suc n) (Some i)
 unfolding IsChain resources
 same_more id n i old new same is rest =
@@ -53,7 +53,7 @@ same_more id n i old new same is rest =
       over = ap₂ (λ r w. r ∷ resources n new w) (same_res (get_or new i None) (get_or old i None) same) next ∙ ap (λ l. resource_at (get_or old i None) ∷ l) rest.over;
     }
 
--- a chain stays where its own uses are to it what they were
+-- a chain stays if its own uses are to it what they were
 pub chain_kept : (id n : ℕ) (old new : List (Option Use)) (at : Option ℕ) →
     ((i : ℕ) (u : Use) → get_or old i None ≡ Some u → u.flow ≡ id → AreSame (get_or new i None) (get_or old i None)) →
     IsChain id n old at → IsSameChain old new id n at
@@ -136,7 +136,7 @@ drop_back xs k pos in' =
     let short : k - 1 < length xs = omega arith in
     drop-cons xs (k - 1) 0 short ∙ ap (λ j. get_or xs (k - 1) 0 ∷ drop j xs) e
 
--- ---- a chain's first use, and what is behind it
+-- ---- a chain's first use, and what follows it
 pub record Front (id n : ℕ) (uses : List (Option Use)) (i : ℕ) : Type 0 where
   pub one : Use
   pub there : get_or uses i None ≡ Some one
@@ -220,7 +220,7 @@ chain_count id (suc n) uses (Some i) c =
 pub chain_few : (id n : ℕ) (uses : List (Option Use)) (at : Option ℕ) → IsChain id n uses at → n ≤ length uses
 chain_few id n uses at c = le_trans (chain_count id n uses at c) (count_by-le-length is_some uses)
 
--- ---- one element more of a list
+-- ---- one more element of a list
 pub times_more : (c r : ℕ) (rest : List ℕ) → times c (r ∷ rest) ≡ times c rest + cond (r == c) 1 0
 times_more c r rest = omega (arith, sum_by-cons (λ d. cond (d == c) 1 0) r rest)
 

@@ -18,7 +18,7 @@ In-append_right : {X : Type 0} (xs ys : List X) (x : X) → In x ys → In x (xs
 In-append_right [] ys x h = h
 In-append_right (z ∷ xs) ys x h = inr (In-append_right xs ys x h)
 
--- where its own slots stay, a list stays linked
+-- if its own slots stay, a list stays linked
 pub linked_kept : (c : ℕ) (old new : List (Option Slot)) (prev : Option ℕ) (list : List ℕ) (at : Option ℕ) → ((j : ℕ) → In j list → get_or new j None ≡ get_or old j None) → Linked c old prev list at → Linked c new prev list at
 linked_kept c old new prev [] at h l = l
 linked_kept c old new prev (i ∷ list) at h l =
@@ -28,7 +28,7 @@ linked_kept c old new prev (i ∷ list) at h l =
       subst (λ o. Linked c new (Some i) list (next_of o)) (sym same) (linked_kept c old new (Some i) list (next_of (get_or old i None)) (λ j k. h j (inr k)) l.2),
     )
 
--- the first is another's: its slot is told a new prev
+-- the first is another's: its slot gets a new prev
 pub linked_behind : (c : ℕ) (old new : List (Option Slot)) (prev prev' : Option ℕ) (list : List ℕ) (at : Option ℕ) → Distinct list → Linked c old prev list at →
     ((i : ℕ) → first_of list ≡ Some i → get_or new i None ≡ option_map (with_prev prev') (get_or old i None)) →
     ((j : ℕ) → In j list → first_of list ≢ Some j → get_or new j None ≡ get_or old j None) → Linked c new prev' list at
@@ -63,7 +63,7 @@ linked_front c i old new list at slot d fresh l is resource prev next head rest 
   subst (λ o. Linked c new (Some i) list o) (sym (ap next_of is ∙ next)) (linked_behind c old new None (Some i) list at d l head rest),
 )
 
--- where the slot i stands, behind the last before it and before the first after it
+-- where the slot i stands, after the last before it and before the first after it
 pub linked_at : (c i : ℕ) (slots : List (Option Slot)) (prev : Option ℕ) (before after : List ℕ) (at : Option ℕ) → Linked c slots prev (before ++ i ∷ after) at →
     IsBehind c (last_of prev before) (get_or slots i None) × (next_of (get_or slots i None) ≡ first_of after)
 linked_at c i slots prev [] [] at l = (l.1, l.2)
@@ -527,7 +527,7 @@ pub link_made : (i : ℕ) (one new : List (Option Slot)) (at p : Option ℕ) (sl
     option_map flow_part (get_or (uses_of new) i None) ≡ Some (flow_part (use_of slot))
 link_made i one new at p slot made to not' = ap (option_map flow_part) (uses_at new i) ∙ prev_same one new at p to not' i ∙ ap shown made
 
--- the slot after one was taken out, one told its next and one its prev
+-- the slots after one was taken out: one neighbour gets its next, the other its prev
 pub record Unlinks (i : ℕ) (old one two new : List (Option Slot)) (slot : Slot) : Type 0 where
   pub gone : get_or one i None ≡ None
   pub removed : (j : ℕ) → j ≢ i → get_or one j None ≡ get_or old j None
@@ -585,7 +585,7 @@ linked_leads c slots prev (i ∷ list) at l =
     there None z h = absurd h
     there (Some s) z h = (s, z)
 
--- and each slot behind it is one of the resource
+-- and each slot after it is one of the resource
 linked_stands : (c : ℕ) (slots : List (Option Slot)) (prev : Option ℕ) (list : List ℕ) (at : Option ℕ) → Linked c slots prev list at → Leads next_on resource_of (uses_of slots) at (replicate (length list) c)
 unfolding Leads
 linked_stands c slots prev [] at l = l
@@ -616,7 +616,7 @@ users_lead slots on c are in' =
       omega (arith, ap length is, length-map mine.list (λ i. flow_in (get_or slots i None)), few_linked c slots mine.list (get_or on c None) mine.linked mine.once, length-map slots (option_map use_of)),
     )
 
--- nothing is linked where there is no slot
+-- nothing is linked if there is no slot
 pub none_linked : (on : List (Option ℕ)) → ((c : ℕ) → get_or on c None ≡ None) → AreLists [] on
 none_linked on none = record {
   lists = λ c in'. record { list = []; linked = none c; once = tt; all = λ i s e same. absurd (cc e) };

@@ -3,7 +3,7 @@ use Rattle.std.specs.Prelude.{◌≡◌, ℕ, ◌+◌, ◌==◌, if◌then◌els
 use Rattle.std.specs.Coded.{Coded, code_by, coded×, coded_ℕ, coded_list, coded_option}
 use Rattle.sg_chains.specs.declared.uses.Use.{Use}
 
--- the use or nothing under each number, the flows on each resource, and room for so many uses more
+-- the use or nothing under each number, the flows on each resource, and room for so many more uses
 pub record Chained : Type 0 where
   pub uses : List (Option Use)
   pub users : List (List ℕ)
@@ -23,6 +23,6 @@ users_on users resource = slice_index_or users resource []
 abbrev pub times : ℕ → List ℕ → ℕ
 times number list = count_by (λ other. other == number) list
 
--- on each resource the flow stands so many times more as the resource stands in the list, and each other flow as often as before
+-- on each resource the flow stands as many more times as the resource stands in the list, and each other flow as often as before
 abbrev pub GainsUses : List (List ℕ) → List (List ℕ) → ℕ → List ℕ → Type 0
 GainsUses fewer more flow uses = (other resource : ℕ) → times other (users_on more resource) ≡ times other (users_on fewer resource) + (if other == flow then times resource uses else 0)

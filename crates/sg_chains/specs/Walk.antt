@@ -1,4 +1,4 @@
--- Where a chain of uses leads.
+-- Walks along chains of uses.
 use Rattle.std.specs.Prelude.{◌≡◌, ℕ, zero, suc, Option, None, Some, List, [], ◌∷◌, slice_index_or}
 use Rattle.sg_chains.specs.declared.uses.Use.{Use}
 

@@ -5,22 +5,22 @@ ghost use Rattle.sg_chains.specs.kept.Cells.{AreSmall, IsSmall, entry_of, link_o
 
 use crate::slots::Slot;
 
-/// Stands where there is no number.
+/// Stands for a missing number.
 const NOTHING: u32 = 4_294_967_295;
 
 /// A slot, or nothing yet.
 #[derive(Clone, Copy)]
 pub(crate) struct Cell {
     pub(crate) flow: usize,
-    /// `NOTHING` where there is no slot.
+    /// `NOTHING` if there is no slot.
     pub(crate) resource: u32,
-    /// Where there is no slot, the number of the next cell without one, or of how many cells there are.
+    /// If there is no slot, the number of the next cell without one, or of how many cells there are.
     pub(crate) next_of_flow: u32,
     pub(crate) next_on: u32,
     pub(crate) prev_on: u32,
 }
 
-// The number for which a code stands.
+// Returns the number for which a code stands.
 fn link_of(code: u32) -> Option<usize>
     ensures is { result ≡ link_of_spec code }
     ensures small { IsSmall result }
@@ -32,7 +32,7 @@ fn link_of(code: u32) -> Option<usize>
     }
 }
 
-/// The code of a number.
+/// Returns the code of a number.
 pub(crate) fn code_of(link: Option<usize>) -> u32
     requires { IsSmall link }
     ensures { link_of_spec result ≡ link }
@@ -43,14 +43,14 @@ pub(crate) fn code_of(link: Option<usize>) -> u32
     }
 }
 
-/// Whether there is no slot.
+/// Returns whether there is no slot.
 pub(crate) fn is_free(cell: Cell) -> bool
     ensures { result ≡ (cell.resource == nothing) }
 {
     cell.resource == NOTHING
 }
 
-/// The slot in a cell.
+/// Returns the slot in a cell.
 pub(crate) fn slot_in(cell: Cell) -> Slot
     ensures is { result ≡ slot_in_spec cell }
     ensures next_of_flow { IsSmall result.next_of_flow }
@@ -66,7 +66,7 @@ pub(crate) fn slot_in(cell: Cell) -> Slot
     }
 }
 
-/// A cell with this slot.
+/// Returns a cell with this slot.
 pub(crate) fn cell_with(slot: Slot) -> Cell
     requires { AreSmall slot }
     ensures { entry_of result ≡ Occupied slot }
@@ -80,7 +80,7 @@ pub(crate) fn cell_with(slot: Slot) -> Cell
     }
 }
 
-/// A cell without a slot, in front of the next one without.
+/// Returns a cell without a slot, in front of the next one without.
 pub(crate) fn free_cell(next: usize) -> Cell
     requires { next ≤ nothing }
     ensures { entry_of result ≡ Vacant next }

@@ -14,7 +14,7 @@ use std::marker::Model;
 use std::sync::ledger::Ledger;
 
 /// Uses of resources by flows. Contracts see the use under each number or nothing, the flows on each resource, and
-/// for how many uses more there is room.
+/// for how many more uses there is room.
 ///
 /// Uses are read by `look` alone, which counts. A use comes and goes in a fixed number of steps.
 #[derive(Drop)]
@@ -93,7 +93,7 @@ fn remove_uses(
     }
 }
 
-// No first use, on so many resources.
+// Returns a list of so many resources without a first use.
 fn nowhere(alloc: Global, resources: usize) -> Result<Vec<Option<usize>>, Memory>
     ensures len { IfOk result (λ on. length on.items ≡ resources) }
     ensures none { IfOk result (λ on. (c : ℕ) → slice_index_or on.items c None ≡ None) }
@@ -106,7 +106,7 @@ fn nowhere(alloc: Global, resources: usize) -> Result<Vec<Option<usize>>, Memory
 }
 
 impl Chains {
-    /// No use yet, and so many resources.
+    /// Makes the chains of so many resources, without uses.
     pub fn new(alloc: Global, resources: usize) -> Result<Chains, Memory>
         ensures uses { IfOk result (λ chains. chains.uses ≡ []) }
         ensures resources { IfOk result (λ chains. length chains.users ≡ resources) }
@@ -123,8 +123,7 @@ impl Chains {
         })
     }
 
-    /// Makes room for so many uses more. Nothing but the room changes, also where there is no memory, and the room
-    /// doesn't shrink.
+    /// Makes room for this many more uses. Only the room changes, even if memory runs out, and the room doesn't shrink.
     pub fn reserve(&mut self, uses: usize) -> Result<(), Memory>
         ensures room { OnOk result (uses ≤ self.new.room) }
         ensures grows { self.old.room ≤ self.new.room }
@@ -160,7 +159,7 @@ impl Chains {
         remove_uses(&mut self.slots, &mut self.on, flow, count, first);
     }
 
-    /// The use under a number. It is one step.
+    /// Returns the use under a number. It is one step.
     pub fn look<L: Ledger>(&self, i: usize, steps: &mut Steps<L>) -> Use
         requires { IsSome (slice_index_or self.now.uses i None) }
         ensures there { slice_index_or self.now.uses i None ≡ Some result }
@@ -176,7 +175,7 @@ impl Chains {
         }
     }
 
-    /// The first use on a resource; None where no flow uses it. Those behind it are uses of the same resource.
+    /// Returns the first use on a resource; None if no flow uses it. Those after it are uses of the same resource.
     pub fn first_on(&self, resource: usize) -> Option<usize>
         requires { resource < length self.now.users }
         ensures leads { Leads next_on user_of self.now.uses result

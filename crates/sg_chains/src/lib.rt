@@ -1,5 +1,5 @@
 //! Uses of resources by flows, in chains both ways: those of each flow, and those on each resource.
-//! One enters by `Chains`: `add` and `remove` write the uses of a flow, and `look` reads one use and counts it.
+//! The type is `Chains`: `add` and `remove` write the uses of a flow, and `look` reads one use and counts it.
 //! It stands on `sg_base`, and keeps its uses as the kit's `slab` does, in less memory.
 #![tactic(auto)]
 

@@ -6,7 +6,7 @@ ghost use Rattle.sg_chains.specs.kept.Linked.{AreLists, CanHold, GainsOne, Holds
 
 use crate::slots::{Slot, Slots};
 
-// What stands before, or the head of the resource where nothing does, leads to the next slot.
+// Links the slot before, or the head of the resource if there is none, to the next slot.
 fn point_next(
     slots: &mut Slots,
     on: &mut [Option<usize>],
@@ -28,7 +28,7 @@ fn point_next(
     }
 }
 
-// The next slot, where there is one, leads back.
+// Links the next slot, if there is one, back.
 fn point_prev(slots: &mut Slots, next: Option<usize>, prev: Option<usize>)
     requires { IsSmall prev }
     ensures changed { (x : ℕ) → next ≡ Some x →

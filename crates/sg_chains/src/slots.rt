@@ -29,7 +29,7 @@ pub(crate) struct Slots {
     cells: Vec<Cell>,
     // how many cells have a slot
     len: usize,
-    // the first cell without a slot, or how many cells there are where each has one
+    // the first cell without a slot, or how many cells there are if each has one
     next: usize,
 }
 
@@ -53,7 +53,7 @@ impl Model for Slots {
 }
 
 impl Slots {
-    /// No slots, and no room.
+    /// Makes an empty list, without room.
     pub(crate) fn new(alloc: Global) -> Slots
         ensures { result.slots ≡ [] }
     {
@@ -80,7 +80,7 @@ impl Slots {
         Ok(())
     }
 
-    /// How many numbers there are, with those that have no slot now.
+    /// Returns how many numbers there are, with those that have no slot now.
     pub(crate) fn numbers(&self) -> usize
         ensures is { result ≡ length self.now.slots }
         ensures small { result ≤ nothing }
@@ -88,7 +88,7 @@ impl Slots {
         self.cells.len()
     }
 
-    /// The slot under a number.
+    /// Returns the slot under a number.
     pub(crate) fn at(&self, i: usize) -> Slot
         requires { IsSome (get self.now i) }
         ensures { get self.now i ≡ Some result }
@@ -96,7 +96,7 @@ impl Slots {
         slot_in(self.cells[i])
     }
 
-    /// Puts a slot under a free number, and answers the number.
+    /// Puts a slot under a free number, and returns the number.
     pub(crate) fn insert(&mut self, slot: Slot) -> usize
         requires room { HasRoomFor self.old 1 }
         requires small { AreSmall slot }
@@ -135,7 +135,7 @@ impl Slots {
         slot
     }
 
-    // Whether there is a slot under a number.
+    // Returns whether there is a slot under a number.
     fn has(&self, i: usize) -> bool
         ensures { result ≡ is_some (get self.now i) }
     {
@@ -152,7 +152,7 @@ impl Slots {
         self.cells[i] = cell;
     }
 
-    /// The slot under a number, if there is one, leads to this next one on its resource.
+    /// Links the slot under a number, if there is one, to this next one on its resource.
     pub(crate) fn set_next(&mut self, i: usize, next: Option<usize>)
         requires { IsSmall next }
         ensures changed { get self.new i ≡ option_map (with_next next) (get self.old i) }
@@ -171,7 +171,7 @@ impl Slots {
         }
     }
 
-    /// The slot under a number, if there is one, leads back to this one on its resource.
+    /// Links the slot under a number, if there is one, back to this one on its resource.
     pub(crate) fn set_prev(&mut self, i: usize, prev: Option<usize>)
         requires { IsSmall prev }
         ensures changed { get self.new i ≡ option_map (with_prev prev) (get self.old i) }

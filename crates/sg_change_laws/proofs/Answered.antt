@@ -1,4 +1,4 @@
--- Who is blocked on what is over by a pass is told so, and has its answer.
+-- An actor that is blocked on what ends in a time advance has its record and its answer.
 use Rattle.std.proofs.Common.{◌≡◌, ◌⊎◌, ℕ, ◌+◌, ◌-◌, ◌<◌, inl, inr, Some, List, ◌∷◌, ◌++◌, length, get_or, sym, ap, subst, ◌∙◌, arith}
 use Rattle.std.specs.List.{All}
 use Rattle.std.proofs.lemmas.List.{get_or-append-add, length-append}

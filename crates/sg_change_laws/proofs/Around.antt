@@ -1,4 +1,5 @@
--- What stays as phases change and as objects are called on stays with each call, and from the date of a pass on.
+-- What stays as phases change and as objects are called on stays with each call, and from the date of a time advance
+-- on.
 use Rattle.std.proofs.Common.{◌≡◌, ℕ, ◌+◌, ◌==◌, Bool, true, false, cond, List, [], ◌∷◌, length, Option, None, Some, Result, Ok, Err, refl, arith}
 use Rattle.sg_base.specs.declared.awaits.Await.{Await}
 use Rattle.sg_base.specs.declared.awaits.Party.TheVariants as party
@@ -36,9 +37,9 @@ use Rattle.sg_owners.specs.declared.owners.How.TheVariants as how
 use Rattle.sg_calls.specs.declared.stop.Stop.{Stop}
 use Rattle.sg_calls.specs.declared.stop.Stop.TheVariants.{Budget}
 use Rattle.sg_calls.specs.Answers.{answers_side, for_receiver, side_of, with_over}
-use Rattle.sg_calls.specs.Calls.{actor_of, answer_of_ask, answered, answered_call, computes, executes, told, with_execution, with_sleep}
+use Rattle.sg_calls.specs.Calls.{answer_of_ask, answered, answered_call, computes, executes, told, with_execution, with_sleep}
 use Rattle.sg_calls.specs.Kills.{awaited, gives_up, kill_done, kills, kills_alive, withdrawn}
-use Rattle.sg_calls.specs.Lives.{created, joins_by, leaves}
+use Rattle.sg_calls.specs.Lives.{created, joins_by, with_actor_ended}
 use Rattle.sg_calls.specs.Locks.{all_wake, caller_first, caller_gets, caller_last, joiners_wake, with_objects}
 use Rattle.sg_calls.specs.Meetings.{answer_of_over, both_fail, comer_fails, comes, comes_by, fails_with, joined, joins_over, joins_with, other_fails, posted, posts_at, receiver_of, receives_by, route_between, sender_of, sends_by, takes_part, takes_part_failed, waits_by, waits_until, way_with}
 use Rattle.sg_kernel.specs.Passes.{all_fail, applied_if, changes, ends, ends_by, ends_in, ends_one, enters_one, entry_stretches, fails}
@@ -49,6 +50,7 @@ use Rattle.sg_calls.specs.World.{Core, host_of, is_suspended, state_of, whose_at
 use Rattle.sg_actor_laws.proofs.Kept.{Closed, Kept, Replying, all_kept, both, each_kept, either, finishes_kept, gives_up_kept, joiners_kept, more_kept, none_kept, one_made, side_kept}
 use Rattle.sg_await_laws.proofs.Objects.{AtMost, acquired_most, locked_most, released_most, unlocked_most}
 use Rattle.sg_await_laws.proofs.Over.{anything}
+use Rattle.sg_base.specs.Turn.{actor_of}
 
 -- what stays as phases change, at one date and with the energies that hosts have used
 abbrev pub Lasting : (Underway → Objects → Type 0) → Type 0
@@ -57,7 +59,7 @@ Lasting R = (under later : Underway) (objects : Objects) → later.date ≡ unde
 -- what stays as this caller calls on objects, and as one leaves their queues
 pub record Served (R : Underway → Objects → Type 0) (caller : ℕ) : Type 0 where
   pub does : (under : Underway) (objects : Objects) (done : Done) → AtMost (actor_of caller) objects done → R under objects → R under done.after
-  pub left : (under : Underway) (objects : Objects) (target : ActorId) → R under objects → R under (sync.withdrawn target objects)
+  pub left : (under : Underway) (objects : Objects) (target : ActorId) → R under objects → R under (sync.after_withdrawal target objects)
 
 module _ (R : Underway → Objects → Type 0) (lasting : Lasting R) (May : ℕ → Type 0) (served : (caller : ℕ) → May caller → Served R caller) where
   abbrev pub P : Core → Type 0
@@ -148,7 +150,7 @@ module _ (R : Underway → Objects → Type 0) (lasting : Lasting R) (May : ℕ 
   created_then true actor target core p = well _ _ None p
   created_then false actor target core p = well _ _ None p
 
-  -- ---- what comes at the date of a pass
+  -- ---- what comes at the date of a time advance
   entry_then : (network : Network) (found : Option Entry) (under : Underway) (objects : Objects) → R under objects → R (applied_if network found under) objects
   entry_then network None under objects p = p
   entry_then network (Some (entry.Speed host speed)) under objects p = lasting under (with_speed host.0 speed under) objects refl refl p
@@ -262,7 +264,7 @@ module _ (R : Underway → Objects → Type 0) (lasting : Lasting R) (May : ℕ 
   call_kept roads setup core actor may (call.Suspend n) p = well _ _ None (suspended_kept true n (counted core) p)
   call_kept roads setup core actor may (call.Resume n) p = well _ _ None (suspended_kept false n (counted core) p)
   call_kept roads setup core actor may call.Yield p = well _ _ None p
-  call_kept roads setup core actor may call.Exit p = joiners_kept P anything replying actor (leaves actor (counted core)) p
+  call_kept roads setup core actor may call.Exit p = joiners_kept P anything replying actor (with_actor_ended actor (counted core)) p
 
   pub answered_then : (roads : Roads) (setup : Setup) (core : Core) (actor : ℕ) → May actor → (what : Call) → P core → Still (answered roads setup core actor what)
   answered_then roads setup core actor may what p = unless_kept setup.budget core (answered_call roads setup core actor what) p (call_kept roads setup core actor may what p)

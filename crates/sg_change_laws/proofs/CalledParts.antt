@@ -1,4 +1,4 @@
--- Who waits for an activity takes part in it, after each call.
+-- An actor that waits for an activity takes part in it, after each call.
 use Rattle.std.proofs.Common.{◌≡◌, ◌⊎◌, ℕ, ◌+◌, ◌-◌, ◌<◌, ◌==◌, not, Bool, true, false, cond, inl, inr, Option, None, Some, option_map, option_to_list, Result, Ok, Err, List, [], ◌∷◌, ◌++◌, length, map, set, get_or, refl, sym, ap, subst, ◌∙◌, arith}
 use Rattle.std.specs.List.{All, find}
 use Rattle.std.proofs.lemmas.Bool.{cases_eq}
@@ -18,7 +18,7 @@ use Rattle.sg_lives.specs.declared.kinds.PhaseKind.{PhaseKind}
 use Rattle.sg_lives.specs.declared.kinds.PhaseKind.TheVariants as phase
 use Rattle.sg_activity.specs.Links.{is_off}
 use Rattle.sg_activity.specs.Task.{Task, exec_of, is_cut, rekinded, task_at, timer_of}
-use Rattle.sg_activity.specs.Underway.{Underway, begun, gone_on, held, is_computing, is_kept, started, turned}
+use Rattle.sg_activity.specs.Underway.{Underway, begun, gone_on, held, is_computing, is_kept, started, with_phase_kind}
 use Rattle.sg_mailbox.specs.declared.sides.Post.{Post}
 use Rattle.sg_mailbox.specs.declared.sides.Side.{Side}
 use Rattle.sg_mailbox.specs.Posts.{is_other, partner}
@@ -41,9 +41,9 @@ use Rattle.sg_owners.specs.declared.owners.Whose.TheVariants.{Over, Alone, Poste
 use Rattle.sg_calls.specs.declared.stop.Stop.TheVariants.{Budget}
 use Rattle.sg_calls.specs.kept.Sound.{is_posted}
 use Rattle.sg_calls.specs.Answers.{answers_side, finishes, for_receiver, side_of, with_over}
-use Rattle.sg_calls.specs.Calls.{actor_of, alone, answer_of_ask, answered, answered_call, blocks_on, computes, executes, told, with_execution}
+use Rattle.sg_calls.specs.Calls.{await_alone, answer_of_ask, answered, answered_call, blocks_on, computes, executes, told, with_execution}
 use Rattle.sg_calls.specs.Kills.{awaited, blocked_on, gives_up, gives_up_by, kill_done, kills, kills_alive, withdrawn}
-use Rattle.sg_calls.specs.Lives.{begins, created, joins_by, leaves}
+use Rattle.sg_calls.specs.Lives.{begins, created, joins_by, with_actor_ended}
 use Rattle.sg_calls.specs.Locks.{all_wake, caller_first, caller_gets, caller_last, joiners_wake, with_objects}
 use Rattle.sg_calls.specs.Meetings.{answer_of_over, asks_for, await, both_fail, comer_fails, comes, comes_by, comm_over, fails_with, joined, joins_over, joins_with, other_fails, party_of, posted, posts_at, receiver_of, receives_by, route_between, sender_of, sends_by, takes_part, takes_part_failed, waits_by, waits_until, way_with}
 use Rattle.sg_calls.specs.Steps.{Step, goes_on, stops, counted, and_then, each, at_once, readied}
@@ -59,6 +59,7 @@ use Rattle.sg_actor_laws.proofs.Kept.{Closed, Replying, all_kept, gives_up_kept,
 use Rattle.sg_actor_laws.proofs.Others.{same_marked}
 use Rattle.sg_await_laws.proofs.Answered.{after_both}
 use Rattle.sg_await_laws.proofs.Over.{anything, core_after, is_over, kill_done_goes, over_there}
+use Rattle.sg_base.specs.Turn.{actor_of}
 use Rattle.sg_change_laws.specs.Theirs.{PartOf}
 use Rattle.sg_change_laws.proofs.Finished.{at_place, one_answered, parts_finished}
 use Rattle.sg_change_laws.proofs.Theirs.{IsAsked, IsPart, LeftOf, Nobody, TakePart, at_end, none_changed, oldest_is, parts_asks, parts_blocked, parts_fewer, parts_over, parts_paired, parts_pushed, parts_put, parts_queued, parts_ready, parts_taken, parts_tasks}
@@ -76,11 +77,11 @@ parts_begin slot actor what core from p =
     let begun : Core = record core { under = started slot core.under; whose = core.whose ++ Alone (actor_of actor) ∷ [] } in
     let place : length core.under.tasks + 1 - 1 ≡ length core.whose = omega (arith, p.numbered) in
     let last = at_end core.whose (Alone (actor_of actor)) (Over how.Done) (length core.under.tasks + 1 - 1) place in
-    parts_blocked Nobody begun actor what (alone (length core.under.tasks + 1)) from
+    parts_blocked Nobody begun actor what (await_alone (length core.under.tasks + 1)) from
     (record { from = omega arith; part = subst (λ w. PartOf actor w party.Alone) (sym last) (refl, refl) })
     (parts_pushed Nobody core.actors core.under.tasks core.whose core.requests (Some slot) (Alone (actor_of actor)) (λ e. absurd (cc e)) p)
 
-parts_turned : (kind : PhaseKind) (serial : ℕ) (core : Core) → TakePart Nobody core → TakePart Nobody (record core { under = turned kind serial core.under })
+parts_turned : (kind : PhaseKind) (serial : ℕ) (core : Core) → TakePart Nobody core → TakePart Nobody (record core { under = with_phase_kind kind serial core.under })
 parts_turned kind serial core p =
     let slot = option_map (rekinded kind) (task_at core.under.tasks serial) in
     parts_tasks Nobody core.actors core.under.tasks (set core.under.tasks (serial - 1) slot) core.whose core.requests (length-set core.under.tasks (serial - 1) slot)
@@ -103,7 +104,7 @@ parts_part false comer serial core from within part p =
     parts_ready Nobody (asks_for comer.side.actor.0 (await serial comer.sends) core) comer.side.actor.0 answer.Done
     (parts_asks Nobody core comer.side.actor.0 (await serial comer.sends) from (record { from = part.from; made = within; part = inr part.part }) p)
 
--- it was made and is over
+-- it was made and has ended
 record IsDone (serial : ℕ) (core : Core) : Type 0 where
   from : 0 < serial
   within : serial - 1 < length core.whose
@@ -163,7 +164,7 @@ parts_fail_both comer serial sends mailbox other core from is done p =
     theirs : Step
     theirs = other_fails comer serial other core
 
--- who was one side that waited is one of both
+-- the one endpoint that waited is one of both
 both_there : (comer : Comer) (sends : Bool) (mailbox : BoxId) (other : Side) → sends ≡ not comer.sends → (actor : ℕ) (on : Await) → PartOf actor (Posted mailbox sends other) on.party → PartOf actor (Pair (sender_of comer other) (receiver_of comer other)) on.party
 both_there comer sends mailbox other is actor on part = by comer.sends is
   where
@@ -313,7 +314,7 @@ parts_suspended on target core p = by (is_alive (state_of core target.0))
     by false = p
 
 -- ---- kills
--- the activity of this serial is over, or one in which the actor takes part
+-- the activity with this id has ended, or is one in which the actor takes part
 abbrev pub Belongs : ℕ → List Whose → ℕ → Type 0
 Belongs actor whose serial = (0 < serial) × ((is_over (get_or whose (serial - 1) (Over how.Done)) ≡ true) ⊎ ((side : Party) × PartOf actor (get_or whose (serial - 1) (Over how.Done)) side))
 
@@ -369,7 +370,7 @@ awaited_belong actor target core from same p =
     let queue = queue_at core.requests actor in
     subst (λ ns. All P ns) (ap (awaited_there core) same) (rising_all P (map serial_of (here ++ queue)) (map_both P here queue (blocked_belongs actor core from p) (queue_belongs actor core.whose queue (p.asked actor from))))
 
--- who was killed isn't blocked, and what it awaited stays its own
+-- an actor that was killed isn't blocked, and what it awaited stays its own
 record Stays (actor : ℕ) (serials : List ℕ) (core : Core) : Type 0 where
   dead : blocking_in (state_of core actor) ≡ None
   belong : All (Belongs actor core.whose) serials
@@ -386,7 +387,7 @@ stays_closed actor serials = record {
     gone : (over : How) (serial : ℕ) (core : Core) (n : ℕ) → Belongs actor core.whose n → Belongs actor (set core.whose (serial - 1) (Over over)) n
     gone over serial core n b = (b.0, set_there (λ (x : Whose). (is_over x ≡ true) ⊎ ((side : Party) × PartOf actor x side)) core.whose (serial - 1) (n - 1) (Over over) (Over how.Done) (λ same. inl refl) b.1)
 
--- of a communication that is posted the one side is the killed one's
+-- of a communication that is posted the one endpoint is the killed one's
 one_side : (actor : ℕ) (w : Whose) (mailbox : BoxId) (sends : Bool) (other : Side) → w ≡ Posted mailbox sends other → (is_over w ≡ true) ⊎ ((side : Party) × PartOf actor w side) → other.actor.0 ≡ actor
 one_side actor w mailbox sends other e (inl over) = absurd (cc (sym over ∙ ap is_over e))
 one_side actor w mailbox sends other e (inr part) = (subst (λ x. PartOf actor x part.0) e part.1).1
@@ -495,7 +496,7 @@ parts_call roads setup core actor (call.Suspend n) from p = parts_ready Nobody (
 parts_call roads setup core actor (call.Resume n) from p = parts_ready Nobody (suspended_to false n (counted core)) actor answer.Done (parts_suspended false n (counted core) p)
 parts_call roads setup core actor call.Yield from p = parts_ready Nobody core actor answer.Done p
 parts_call roads setup core actor call.Exit from p =
-    (joiners_kept (TakePart Nobody) anything parts_replying actor (leaves actor (counted core)) (parts_put Nobody core actor Ended (λ since what on e. absurd (cc e)) p)).holds
+    (joiners_kept (TakePart Nobody) anything parts_replying actor (with_actor_ended actor (counted core)) (parts_put Nobody core actor Ended (λ since what on e. absurd (cc e)) p)).holds
 
 pub parts_answered : (roads : Roads) (setup : Setup) (core : Core) (actor : ℕ) (what : Call) → 0 < actor → TakePart Nobody core → TakePart Nobody (answered roads setup core actor what).core
 parts_answered roads setup core actor what from p = parts_cond (core.events == setup.budget) (stops core [] Budget) (answered_call roads setup core actor what) p (parts_call roads setup core actor what from p)

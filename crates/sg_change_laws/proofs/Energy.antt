@@ -10,7 +10,7 @@ use Rattle.sg_engine.specs.World.{World}
 use Rattle.sg_engine.specs.declared.ended.Ended.{Ended}
 use Rattle.sg_engine.specs.declared.ended.Ended.TheVariants as ended
 use Rattle.sg_engine.specs.Fuel.{parts_from}
-use Rattle.sg_engine.specs.Run.{Scene, Answering, Progress, and_then, anyone_ready, are_completed, at_world, in_world, round, round_or_pass}
+use Rattle.sg_engine.specs.Run.{Scene, Answering, Progress, then_unless_ended, anyone_ready, are_completed, at_world, in_world, round, round_or_pass}
 use Rattle.sg_engine.proofs.Fuel.{more_same}
 use Rattle.sg_await_laws.specs.Runs.{Run, first_in, parts_in, round_to, run_to, scene_in, whole}
 use Rattle.sg_await_laws.proofs.Later.{parts_add, same_world}
@@ -21,15 +21,15 @@ use Rattle.sg_change_laws.proofs.Parts.{Calling, round_kept, round_to_kept}
 use Rattle.sg_change_laws.proofs.Around.{answered_then, created_then, told_then}
 use Rattle.sg_change_laws.proofs.Timing.{IsThen, Passes, anyone, at_rest, lasting_then, pass_passes, served_then}
 
--- ---- rounds
+-- ---- scheduling rounds
 abbrev IsThenIn : ℕ → List ℕ → Core → Type 0
 IsThenIn date energy core = IsThen date energy core.under core.objects
 
 calling_then : (at : Scene) (date : ℕ) (energy : List ℕ) → Calling at (IsThenIn date energy) anything
 calling_then at date energy = (let R = IsThen date energy in record {
-  on_call = λ core actor what p. answered_then R (lasting_then date energy) anyone (served_then date energy) at.roads at.setup core actor tt what p;
-  on_create = λ given actor target core p. created_then R (lasting_then date energy) anyone (served_then date energy) given actor target core p;
-  on_ask = λ core actor action p. told_then R (lasting_then date energy) anyone (served_then date energy) at.setup core actor action p;
+  on_call = λ core actor what lives p. answered_then R (lasting_then date energy) anyone (served_then date energy) at.roads at.setup core actor tt what p;
+  on_create = λ given actor target core lives fresh p. created_then R (lasting_then date energy) anyone (served_then date energy) given actor target core p;
+  on_ask = λ core actor action lives p. told_then R (lasting_then date energy) anyone (served_then date energy) at.setup core actor action p;
 })
 
 module _ (at : Scene) (answers : Answering) where
@@ -46,7 +46,7 @@ module _ (at : Scene) (answers : Answering) where
       let k = (round_kept at answers (IsThenIn date energy) anything (calling_then at date energy) world (refl, refl)).holds in
       at_rest world.core.under (round at answers world).world.core.under k.0 k.1
 
-  -- ---- one round or one pass
+  -- ---- one scheduling round or one time advance
   part_passes : (world : World) → Passes world.core.under (round_or_pass at answers world).world.core.under
   part_passes world =
       by_test (λ (c : Core). Passes world.core.under c.under) (anyone_ready world.core) (round at answers world) (in_world (record world { work = world.work + work_of world.core.under }) (pass_of at.setup world.core))
@@ -57,7 +57,7 @@ module _ (at : Scene) (answers : Answering) where
   one_passes world =
       let first = round_or_pass at answers world in
       let Comes = (λ (c : Core). Passes world.core.under c.under) in
-      by_test Comes (are_completed world.core) (at_world (Some ended.Completed) world) (and_then first (parts_from 0 at answers)) (at_rest world.core.under world.core.under refl refl)
+      by_test Comes (are_completed world.core) (at_world (Some ended.Completed) world) (then_unless_ended first (parts_from 0 at answers)) (at_rest world.core.under world.core.under refl refl)
       (by_end Comes first.ended first (parts_from 0 at answers) (part_passes world) (part_passes world))
 
   -- after so many of them another one

@@ -32,15 +32,15 @@ use Rattle.sg_await_laws.proofs.Runs.{runs_are_reached}
 use Rattle.sg_change_laws.specs.Failures.{NoOtherFailsInRuns, NothingOffIsUsedInRuns}
 use Rattle.sg_change_laws.proofs.Parts.{Calling, KeptOn, on_then, parts_kept, round_kept, round_to_kept, run_kept}
 
--- ---- no other call is told a failure
+-- ---- no other call is answered as failed
 kept_few : (step : Step) → TellsFew step → Kept IsFit MayTell step
 kept_few step few = record { holds = few.fit; made = few.made }
 
 calling_fit : (at : Scene) → Calling at IsFit MayTell
 calling_fit at = record {
-  on_call = λ core actor what fit. kept_few _ (no_other_fails.calls at.roads at.setup core actor what fit);
-  on_create = λ given actor target core fit. kept_few _ (no_other_fails.creates given actor target core fit);
-  on_ask = λ core actor action fit. kept_few _ (no_other_fails.asks at.setup core actor action fit);
+  on_call = λ core actor what lives fit. kept_few _ (no_other_fails.calls at.roads at.setup core actor what fit);
+  on_create = λ given actor target core lives fresh fit. kept_few _ (no_other_fails.creates given actor target core fit);
+  on_ask = λ core actor action lives fit. kept_few _ (no_other_fails.asks at.setup core actor action fit);
 }
 
 passing_fit : (setup : Setup) (core : Core) → IsFit core → Kept IsFit MayTell (pass_of setup core)
@@ -70,7 +70,7 @@ no_other_fails_in_runs = record {
   fit = λ run core of_run. (let r = runs_are_reached run core of_run in fit_reached (roads_of run.platform) (setup_of run.platform run.deployed run.budget) _ (no_other_fails.first r.capacities (setup_of run.platform run.deployed run.budget)) r.way);
 }
 
--- ---- a pass is stopped by the budget alone, once its date has come
+-- ---- only the budget stops a time advance once its date has come
 abbrev OnlyBudget : Step → Type 0
 OnlyBudget step = (why : Stop) → step.stop ≡ Some why → why ≡ Budget
 
@@ -129,7 +129,7 @@ only_pass setup core span =
 nothing_off : NothingOffIsUsed
 nothing_off = record { first = first_clear; calls = calls_clear; creates = creates_clear; asks = asks_clear; passes = passes_clear }
 
--- a stretch that the budget doesn't end leaves nothing under way that uses what is off
+-- after a stretch that the budget doesn't end no running activity uses what is off
 abbrev Clears : Progress → Type 0
 Clears progress = progress.ended ≢ Some ended.Budget → UsesNothingOff progress.world.core
 
@@ -144,12 +144,12 @@ clears_at setup core (Some span) none on spared = by (pass_at setup core (Some s
 module _ (at : Scene) (answers : Answering) where
   calling_clear : Calling at UsesNothingOff anything
   calling_clear = record {
-    on_call = λ core actor what none. record { holds = nothing_off.calls at.roads at.setup core actor what none; made = λ i d within. tt };
-    on_create = λ given actor target core none. record { holds = nothing_off.creates given actor target core none; made = λ i d within. tt };
-    on_ask = λ core actor action none. record { holds = nothing_off.asks at.setup core actor action none; made = λ i d within. tt };
+    on_call = λ core actor what lives none. record { holds = nothing_off.calls at.roads at.setup core actor what none; made = λ i d within. tt };
+    on_create = λ given actor target core lives fresh none. record { holds = nothing_off.creates given actor target core none; made = λ i d within. tt };
+    on_ask = λ core actor action lives none. record { holds = nothing_off.asks at.setup core actor action none; made = λ i d within. tt };
   }
 
-  clears_then : (first : Progress) (next : World → Progress) → Clears first → (UsesNothingOff first.world.core → Clears (next first.world)) → Clears (engine.and_then first next)
+  clears_then : (first : Progress) (next : World → Progress) → Clears first → (UsesNothingOff first.world.core → Clears (next first.world)) → Clears (engine.then_unless_ended first next)
   clears_then first next one more = by first.ended refl
     where
       by : (o : Option Ended) → first.ended ≡ o → Clears (and_then_by o first next)
@@ -171,7 +171,7 @@ module _ (at : Scene) (answers : Answering) where
   parts_clear zero world none = λ spared. none
   parts_clear (suc n) world none =
       let first = round_or_pass at answers world in
-      clears_either (are_completed world.core) (at_world (Some ended.Completed) world) (engine.and_then first (parts_from n at answers)) (λ spared. none)
+      clears_either (are_completed world.core) (at_world (Some ended.Completed) world) (engine.then_unless_ended first (parts_from n at answers)) (λ spared. none)
       (clears_then first (parts_from n at answers) (part_clears world none) (parts_clear n first.world))
 
   run_clears : (n : ℕ) (world : World) → UsesNothingOff world.core → Clears (run_from n at answers world)
@@ -179,7 +179,7 @@ module _ (at : Scene) (answers : Answering) where
   run_clears zero world none = λ spared. none
   run_clears (suc n) world none =
       let first = round_or_pass at answers world in
-      clears_either (are_completed world.core) (at_world (Some ended.Completed) world) (engine.and_then first (run_from n at answers)) (λ spared. none)
+      clears_either (are_completed world.core) (at_world (Some ended.Completed) world) (engine.then_unless_ended first (run_from n at answers)) (λ spared. none)
       (clears_then first (run_from n at answers) (part_clears world none) (run_clears n first.world))
 
 begins_clear : (run : Run) → UsesNothingOff (first_in run).core

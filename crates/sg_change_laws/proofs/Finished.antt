@@ -1,4 +1,4 @@
--- Who waits for an activity takes part in it, as activities are over and as time passes.
+-- An actor that waits for an activity takes part in it, as activities end and as time passes.
 use Rattle.std.proofs.Common.{◌≡◌, ◌⊎◌, ℕ, zero, suc, ◌+◌, ◌-◌, ◌<◌, ◌==◌, ◌&&◌, Bool, true, false, cond, inl, inr, Option, None, Some, option_map, List, [], ◌∷◌, length, set, get_or, refl, sym, ap, subst, ◌∙◌, arith}
 use Rattle.std.specs.List.{All}
 use Rattle.std.proofs.lemmas.List.{length-map, length-set}
@@ -24,7 +24,7 @@ use Rattle.sg_owners.specs.declared.owners.Whose.{Whose}
 use Rattle.sg_owners.specs.declared.owners.Whose.TheVariants.{Over, Alone, Posted, Pair}
 use Rattle.sg_calls.specs.declared.stop.Stop.TheVariants.{Budget}
 use Rattle.sg_calls.specs.kept.Sound.{is_posted}
-use Rattle.sg_calls.specs.Answers.{answer_to, answers, answers_by, answers_side, bare_side, finishes, for_receiver, is_on, party_eq, tells_bytes, with_over}
+use Rattle.sg_calls.specs.Answers.{answer_to, answers, answers_by, answers_side, bare_side, finishes, for_receiver, awaits_side, party_eq, tells_bytes, with_over}
 use Rattle.sg_kernel.specs.Passes.{all_fail, changes, core_later, ends, ends_by, ends_in, ends_one, enters_one, entry_stretches, fails, fails_one, next_span, pass_at, pass_of, settled, stretches}
 use Rattle.sg_calls.specs.Steps.{Step, goes_on, stops, counted, and_then, each, all_of, replied}
 use Rattle.sg_setup.specs.Setup.{Setup}
@@ -40,7 +40,7 @@ use Rattle.sg_await_laws.proofs.Over.{anything, core_after}
 use Rattle.sg_change_laws.specs.Theirs.{PartOf}
 use Rattle.sg_change_laws.proofs.Theirs.{HaveParts, IsAsked, IsPart, LeftOf, Nobody, TakePart, none_changed, none_mapped, parts_over, parts_tasks}
 
--- ---- who is blocked after one side was answered
+-- ---- who is blocked after one endpoint was answered
 -- what holds of a new one and of the one that stands for none holds where the new one is put
 pub at_place : {X : Type 0} (P : X → Type 0) (xs : List X) (i : ℕ) (new d : X) → P new → P d → P (get_or (set xs i new) i d)
 at_place P [] i new d p q = q
@@ -56,7 +56,7 @@ party_same party.Alone = refl
 party_same party.Sender = refl
 party_same party.Receiver = refl
 
-pub is_on_it : (serial : ℕ) (side : Party) (on : Await) → on.serial.0 ≡ serial → on.party ≡ side → is_on serial side (Some on) ≡ true
+pub is_on_it : (serial : ℕ) (side : Party) (on : Await) → on.serial.0 ≡ serial → on.party ≡ side → awaits_side serial side (Some on) ≡ true
 is_on_it serial side on same kind =
     let one : (on.serial.0 == serial) ≡ true = grind (arith, same) in
     ap (λ b. b && party_eq on.party side) one ∙ ap (λ p. party_eq p side) kind ∙ party_same side
@@ -72,7 +72,7 @@ side_leaves over serial side given core actor since what on = by (blocking_in (s
     found : given.actor.0 ≡ actor → state_of core actor ≡ Blocked what since (Some on) → blocking_in (state_of core given.actor.0) ≡ Some (record { what = what; since = since; on = Some on })
     found same e = ap (λ n. blocking_in (state_of core n)) same ∙ ap blocking_in e
 
-    tested : (blocking : Blocking) → blocking_in (state_of core given.actor.0) ≡ Some blocking → (b : Bool) → is_on serial side blocking.on ≡ b →
+    tested : (blocking : Blocking) → blocking_in (state_of core given.actor.0) ≡ Some blocking → (b : Bool) → awaits_side serial side blocking.on ≡ b →
         state_of (cond b (replied given.actor.0 blocking.what blocking.since (cond (tells_bytes blocking.what) given.bytes 0) (answer_to over blocking.what given.msg) core) (goes_on core [])).core actor ≡ Blocked what since (Some on) → StillWaits serial side given core actor since what on
     tested blocking e true there is = record {
       before = ready_after core.actors given.actor.0 actor since (answer_to over blocking.what given.msg) what (Some on) is;
@@ -82,12 +82,12 @@ side_leaves over serial side given core actor since what on = by (blocking_in (s
       before = is;
       other = λ same of kind.
           let one : blocking ≡ record { what = what; since = since; on = Some on } = cc (sym e ∙ found same is) in
-          absurd (cc (sym there ∙ ap (λ (b : Blocking). is_on serial side b.on) one ∙ is_on_it serial side on of kind));
+          absurd (cc (sym there ∙ ap (λ (b : Blocking). awaits_side serial side b.on) one ∙ is_on_it serial side on of kind));
     }
 
     by : (o : Option Blocking) → blocking_in (state_of core given.actor.0) ≡ o → state_of (answers_by over serial side given o core).core actor ≡ Blocked what since (Some on) → StillWaits serial side given core actor since what on
     by None e is = record { before = is; other = λ same of kind. absurd (cc (sym e ∙ found same is)) }
-    by (Some blocking) e is = tested blocking e (is_on serial side blocking.on) refl is
+    by (Some blocking) e is = tested blocking e (awaits_side serial side blocking.on) refl is
 
 -- ---- as some are answered nothing else changes
 pub record IsAlike (core later : Core) : Type 0 where
@@ -101,7 +101,7 @@ alike_replying core = record { replies = λ actor blocking bytes answer mid is a
 pub alike_itself : (core : Core) → IsAlike core core
 alike_itself core = record { tasks = refl; whose = refl; requests = refl }
 
--- who waits then did so before, and isn't one of those that are left
+-- an actor that waits then did so before, and isn't one of those that are left
 pub parts_alike : (Left : ℕ → Await → Type 0) (core later : Core) → IsAlike core later
     → ((actor since : ℕ) (what : Call) (on : Await) → 0 < actor → state_of later actor ≡ Blocked what since (Some on) → (state_of core actor ≡ Blocked what since (Some on)) × (Left actor on → ⊥)) → TakePart Left core → TakePart Nobody later
 parts_alike Left core later a still p = record {
@@ -117,7 +117,7 @@ parts_alike Left core later a still p = record {
     by actor on none (inl part) = inl part
     by actor on none (inr left) = absurd (none left)
 
--- ---- one side of what is over is answered
+-- ---- one endpoint of what ended is answered
 pub one_answered : (over : How) (serial : ℕ) (side : Party) (given : Side) (was : Whose) (core : Core) → 0 < serial → ((actor : ℕ) (on : Await) → PartOf actor was on.party → (given.actor.0 ≡ actor) × (on.party ≡ side)) → TakePart (LeftOf serial was) core
     → TakePart Nobody (answers_side over serial side given core).core
 one_answered over serial side given was core from only p =
@@ -128,7 +128,7 @@ one_answered over serial side given was core from only p =
         let s = side_leaves over serial side given core actor since what on e in
         (s.before, λ left. (let o = only actor on left.2 in s.other o.0 (omega (arith, left.0, left.1, from)) o.1))
 
--- ---- an activity is over
+-- ---- an activity ends
 answered_over : (over : How) (serial : ℕ) (was : Whose) (core : Core) → 0 < serial
     → (is_posted was ≡ true → (actor since : ℕ) (what : Call) (on : Await) → 0 < actor → state_of core actor ≡ Blocked what since (Some on) → PartOf actor was on.party → ⊥) → TakePart (LeftOf serial was) core → TakePart Nobody (answers over serial was core).core
 answered_over over serial (Over before) core from free p = parts_alike (LeftOf serial (Over before)) core core (alike_itself core) (λ actor since what on some e. (e, λ left. left.2)) p
@@ -175,11 +175,11 @@ pub parts_finished : (over : How) (serial : ℕ) (core : Core) → 0 < serial
     → TakePart Nobody core → TakePart Nobody (finishes over serial core).core
 parts_finished over serial core from free p = answered_over over serial (whose_at core serial) (with_over over serial core) from free (parts_over over serial core p)
 
--- what is under way has both of its sides
+-- what is running has both of its endpoints
 pub going_finished : (over : How) (serial : ℕ) (task : Task) (core : Core) → 0 < serial → task_at core.under.tasks serial ≡ Some task → TakePart Nobody core → TakePart Nobody (finishes over serial core).core
 going_finished over serial task core from at p = parts_finished over serial core from (λ is actor since what on some e part. absurd (cc (sym at ∙ p.posted (serial - 1) is))) p
 
--- ---- a pass
+-- ---- a time advance
 parts_cond : (b : Bool) (one other : Step) → TakePart Nobody one.core → TakePart Nobody other.core → TakePart Nobody (cond b one other).core
 parts_cond true one other p q = p
 parts_cond false one other p q = q

@@ -13,3 +13,9 @@ pub mod Meets
 pub mod Queues
 pub mod Order
 pub mod Reaching
+pub mod Extended
+pub mod Ended
+pub mod Rising
+pub mod Along
+pub mod Answers
+pub mod Once

@@ -1,4 +1,4 @@
--- What a kill tells, and in which order.
+-- What a kill records, and in which order.
 use Rattle.std.proofs.Common.{◌≡◌, ◌≢◌, ◌⊎◌, ℕ, zero, suc, ◌+◌, ◌-◌, ◌<◌, ◌≤◌, ◌==◌, nat_lt, Bool, true, false, cond, IsTrue, inl, inr, Option, None, Some, List, [], ◌∷◌, ◌++◌, append_assoc, get_or, refl, sym, ap, subst, ◌∙◌, arith}
 use Rattle.std.specs.List.{All, Contains}
 use Rattle.std.proofs.lemmas.Bool.{cond-false}
@@ -20,15 +20,16 @@ use Rattle.sg_states.specs.declared.state.State.{State}
 use Rattle.sg_states.specs.declared.state.State.TheVariants.{Ready, Blocked, Ended}
 use Rattle.sg_states.specs.Actors.{blocking_in, is_alive, is_answered, joiners, joins, not_suspended, put_state, state_at}
 use Rattle.sg_states.specs.Records.{record_of}
+use Rattle.sg_owners.specs.declared.owners.How.{How}
 use Rattle.sg_owners.specs.declared.owners.How.TheVariants as how
 use Rattle.sg_owners.specs.declared.owners.Whose.{Whose}
 use Rattle.sg_owners.specs.declared.owners.Whose.TheVariants.{Over, Alone, Posted, Pair}
 use Rattle.sg_calls.specs.declared.stop.Stop.{Stop}
 use Rattle.sg_calls.specs.declared.stop.Stop.TheVariants.{Budget}
-use Rattle.sg_calls.specs.Answers.{answers, answers_by, answers_side, bare_side, for_receiver, is_on, tells_bytes, with_over}
+use Rattle.sg_calls.specs.Answers.{answer_to, answers, answers_by, answers_side, bare_side, finishes, for_receiver, awaits_side, tells_bytes, with_over}
 use Rattle.sg_calls.specs.Calls.{answered}
 use Rattle.sg_calls.specs.Kills.{awaited, blocked_on, gives_up, gives_up_by, kill_done, kill_stretches, kills, withdrawn}
-use Rattle.sg_calls.specs.Lives.{exits, leaves}
+use Rattle.sg_calls.specs.Lives.{exits, with_actor_ended}
 use Rattle.sg_calls.specs.Locks.{joiners_wake, wakes, wakes_from}
 use Rattle.sg_calls.specs.Steps.{Step, goes_on, stops, counted, follows, and_then, each, all_of, at_once, replied}
 use Rattle.sg_setup.specs.Setup.{Setup}
@@ -49,7 +50,7 @@ use Rattle.sg_change_laws.specs.Told.{IsTold}
 use Rattle.sg_change_laws.proofs.Tracked.{Tracks, blocked_within, follow_both, quiet, reply_tracks, told_first, told_second}
 
 -- ---- numbers that rise
-abbrev Rising : List ℕ → Type 0
+abbrev pub Rising : List ℕ → Type 0
 Rising [] = Unit {0}
 Rising (n ∷ more) = All (λ m. n ≤ m) more × Rising more
 
@@ -73,7 +74,7 @@ rising_rises [] = tt
 rising_rises (n ∷ more) = entered_rises n (rising_numbers more) (rising_rises more)
 
 -- ---- records that rise
-rise_append : (number : Record → ℕ) (n : ℕ) (first rest : List Record) → All (λ r. number r ≡ n) first → All (λ r. n ≤ number r) rest → Rise number rest → Rise number (first ++ rest)
+pub rise_append : (number : Record → ℕ) (n : ℕ) (first rest : List Record) → All (λ r. number r ≡ n) first → All (λ r. n ≤ number r) rest → Rise number rest → Rise number (first ++ rest)
 rise_append number n [] rest all above rise = rise
 rise_append number n (r ∷ first) rest all above rise =
     let P = (λ (q : Record). number q ≡ n) in
@@ -82,16 +83,16 @@ rise_append number n (r ∷ first) rest all above rise =
     let Q = (λ (q : Record). number r ≤ number q) in
     (All-append Q first rest (λ i d within. (let same = others i d within in omega (arith, mine, same))) (λ i d within. (let more = above i d within in omega (arith, mine, more))), rise_append number n first rest others above rise)
 
--- where the first goes on the second follows
+-- if the first continues, the second one follows
 then_is : (first : Step) (next : Core → Step) → first.stop ≡ None → and_then first next ≡ record (next first.core) { made = first.made ++ (next first.core).made }
 then_is first next on = ap (λ o. follows o first (next first.core)) on
 
 -- what each makes has its number
-record Numbered {X : Type 0} (key : X → ℕ) (number : Record → ℕ) (xs : List X) (made : List Record) : Type 0 where
-  rises : Rise number made
-  above : (low : ℕ) → All (λ x. low ≤ key x) xs → All (λ r. low ≤ number r) made
+pub record Numbered {X : Type 0} (key : X → ℕ) (number : Record → ℕ) (xs : List X) (made : List Record) : Type 0 where
+  pub rises : Rise number made
+  pub above : (low : ℕ) → All (λ x. low ≤ key x) xs → All (λ r. low ≤ number r) made
 
-abbrev RiseBy : {X : Type 0} → (X → ℕ) → List X → Type 0
+abbrev pub RiseBy : {X : Type 0} → (X → ℕ) → List X → Type 0
 RiseBy key [] = Unit {0}
 RiseBy key (x ∷ more) = All (λ other. key x ≤ key other) more × RiseBy key more
 
@@ -113,69 +114,72 @@ each_rises key number Is Holds does on one keeps (x ∷ xs) core are rise h =
           (All-append (λ r. low ≤ number r) first.made (each does xs first.core).made (λ i d within. (let same = mine i d within in omega (arith, here, same))) (more.above low (All-tail (λ y. low ≤ key y) x xs all)));
     }
 
--- ---- the other sides
--- who is blocked was so before
-abbrev WasBlocked : Core → Core → Type 0
+-- ---- the other endpoints
+-- an actor that is blocked was so before
+abbrev pub WasBlocked : Core → Core → Type 0
 WasBlocked before core = (actor since : ℕ) (what : Call) (on : Option Await) → state_of core actor ≡ Blocked what since on → state_of before actor ≡ Blocked what since on
 
-was_closed : (before : Core) → Closed (WasBlocked before) anything
+pub was_closed : (before : Core) → Closed (WasBlocked before) anything
 was_closed before = record {
   answered = record { replies = λ actor blocking bytes given core is w. one_made (WasBlocked before) anything _ _ (λ other since what on e. w other since what on (ready_after core.actors actor other since given what on e)) tt };
   over = λ over serial core w. w;
 }
 
--- all are of those that were blocked on the activity of this serial
-abbrev AllOf : Core → ℕ → List Record → Type 0
+-- all are of those that were blocked on the activity with this id
+abbrev pub AllOf : Core → ℕ → List Record → Type 0
 AllOf before serial made = All (λ r. serial_before before r ≡ serial) made
 
-side_serial : (before : Core) (serial : ℕ) (side : Party) (given : Side) (core : Core) → WasBlocked before core → AllOf before serial (answers_side how.Failed serial side given core).made
-side_serial before serial side given core was = by (blocking_in (state_of core given.actor.0)) refl
+side_serial : (before : Core) (over : How) (serial : ℕ) (side : Party) (given : Side) (core : Core) → WasBlocked before core → AllOf before serial (answers_side over serial side given core).made
+side_serial before over serial side given core was = by (blocking_in (state_of core given.actor.0)) refl
   where
     Q : Record → Type 0
     Q r = serial_before before r ≡ serial
 
-    tested : (blocking : Blocking) → blocking_in (state_of core given.actor.0) ≡ Some blocking → (b : Bool) → is_on serial side blocking.on ≡ b →
-        All Q (cond b (replied given.actor.0 blocking.what blocking.since (cond (tells_bytes blocking.what) given.bytes 0) answer.Failed core) (goes_on core [])).made
+    tested : (blocking : Blocking) → blocking_in (state_of core given.actor.0) ≡ Some blocking → (b : Bool) → awaits_side serial side blocking.on ≡ b →
+        All Q (cond b (replied given.actor.0 blocking.what blocking.since (cond (tells_bytes blocking.what) given.bytes 0) (answer_to over blocking.what given.msg) core) (goes_on core [])).made
     tested blocking e true there =
         let at : Awaits serial blocking.on = awaits serial side blocking.on there in
         let old = was given.actor.0 blocking.since blocking.what (Some at.side) (blocking_is (state_of core given.actor.0) blocking e ∙ ap (λ o. Blocked blocking.what blocking.since o) at.is) in
         All-cons Q _ [] (ap (λ x. serial_on (blocked_on (blocking_in x))) old ∙ at.of) (All-nil Q)
     tested blocking e false there = All-nil Q
 
-    by : (found : Option Blocking) → blocking_in (state_of core given.actor.0) ≡ found → All Q (answers_by how.Failed serial side given found core).made
+    by : (found : Option Blocking) → blocking_in (state_of core given.actor.0) ≡ found → All Q (answers_by over serial side given found core).made
     by None e = All-nil Q
-    by (Some blocking) e = tested blocking e (is_on serial side blocking.on) refl
+    by (Some blocking) e = tested blocking e (awaits_side serial side blocking.on) refl
 
-both_all : (Q : Record → Type 0) (first : Step) (next : Core → Step) → All Q first.made → All Q (next first.core).made → All Q (and_then first next).made
+pub both_all : (Q : Record → Type 0) (first : Step) (next : Core → Step) → All Q first.made → All Q (next first.core).made → All Q (and_then first next).made
 both_all Q first next one more = by first.stop
   where
     by : (o : Option Stop) → All Q (follows o first (next first.core)).made
     by None = All-append Q first.made (next first.core).made one more
     by (Some why) = one
 
-give_up_serial : (before : Core) (serial : ℕ) (core : Core) → WasBlocked before core → AllOf before serial (gives_up serial core).made
-give_up_serial before serial core was = by (whose_at core serial)
+pub finish_serial : (before : Core) (over : How) (serial : ℕ) (core : Core) → WasBlocked before core → AllOf before serial (finishes over serial core).made
+finish_serial before over serial core was = answered_all (whose_at core serial)
   where
     Q : Record → Type 0
     Q r = serial_before before r ≡ serial
 
     mid : Core
-    mid = with_over how.Failed serial core
+    mid = with_over over serial core
 
-    answered_all : (w : Whose) → All Q (answers how.Failed serial w mid).made
-    answered_all (Over over) = All-nil Q
-    answered_all (Alone actor) = side_serial before serial party.Alone (bare_side actor.0) mid was
+    answered_all : (w : Whose) → All Q (answers over serial w mid).made
+    answered_all (Over how) = All-nil Q
+    answered_all (Alone actor) = side_serial before over serial party.Alone (bare_side actor.0) mid was
     answered_all (Posted mailbox sends side) = All-nil Q
     answered_all (Pair sender receiver) =
-        let first = answers_side how.Failed serial party.Sender sender mid in
-        both_all Q first (answers_side how.Failed serial party.Receiver (for_receiver sender receiver)) (side_serial before serial party.Sender sender mid was)
-        (side_serial before serial party.Receiver (for_receiver sender receiver) first.core (side_kept (WasBlocked before) anything (was_closed before).answered how.Failed serial party.Sender sender mid was).holds)
+        let first = answers_side over serial party.Sender sender mid in
+        both_all Q first (answers_side over serial party.Receiver (for_receiver sender receiver)) (side_serial before over serial party.Sender sender mid was)
+        (side_serial before over serial party.Receiver (for_receiver sender receiver) first.core (side_kept (WasBlocked before) anything (was_closed before).answered over serial party.Sender sender mid was).holds)
 
-    by : (w : Whose) → All Q (gives_up_by w serial core).made
-    by (Over over) = All-nil Q
-    by (Alone actor) = answered_all (whose_at core serial)
-    by (Posted mailbox sends side) = answered_all (whose_at core serial)
-    by (Pair sender receiver) = answered_all (whose_at core serial)
+give_up_serial : (before : Core) (serial : ℕ) (core : Core) → WasBlocked before core → AllOf before serial (gives_up serial core).made
+give_up_serial before serial core was = by (whose_at core serial)
+  where
+    by : (w : Whose) → AllOf before serial (gives_up_by w serial core).made
+    by (Over over) = All-nil _
+    by (Alone actor) = finish_serial before how.Failed serial core was
+    by (Posted mailbox sends side) = finish_serial before how.Failed serial core was
+    by (Pair sender receiver) = finish_serial before how.Failed serial core was
 
 rise_of : (ns : List ℕ) → Rising ns → RiseBy (λ n. n) ns
 rise_of [] r = tt
@@ -271,7 +275,7 @@ module _ (other since : ℕ) (what : Call) (from : 0 < other) where
       let some = All-head P actor rest all in
       follow_both other since what None core (wakes actor core) (each wakes rest) (wake_tracks actor core (omega (arith, some))) (wakes_track rest (wakes actor core).core (All-tail P actor rest all))
 
-  -- one of those that go on is told
+  -- one of those that are unblocked has its record
   woken_told : (actor : ActorId) (core : Core) → actor.0 ≡ other → Waits core → IsTold other since what (wakes actor core)
   woken_told actor core same is = by (blocking_in (state_of core actor.0)) refl
     where
@@ -326,19 +330,19 @@ module _ (other since : ℕ) (what : Call) (from : 0 < other) where
   side_waits : (serial : ℕ) (side : Party) (given : Side) (core : Core) → Waits core → Waits (answers_side how.Failed serial side given core).core
   side_waits serial side given core is = by (blocking_in (state_of core given.actor.0)) refl
     where
-      tested : (blocking : Blocking) → blocking_in (state_of core given.actor.0) ≡ Some blocking → (b : Bool) → is_on serial side blocking.on ≡ b →
+      tested : (blocking : Blocking) → blocking_in (state_of core given.actor.0) ≡ Some blocking → (b : Bool) → awaits_side serial side blocking.on ≡ b →
           Waits (cond b (replied given.actor.0 blocking.what blocking.since (cond (tells_bytes blocking.what) given.bytes 0) answer.Failed core) (goes_on core [])).core
       tested blocking e true there = put_there (λ (s : State). s ≡ Blocked what since None) core.actors given.actor.0 other (Ready answer.Failed) (λ same. absurd (apart same)) is
         where
           apart : other - 1 ≡ given.actor.0 - 1 → ⊥
           apart same =
               let one : blocking ≡ record { what = what; since = since; on = None } = cc (sym e ∙ ap blocking_in (sym (same_state core.actors other given.actor.0 same)) ∙ ap blocking_in is) in
-              absurd (cc (sym there ∙ ap (λ (b : Blocking). is_on serial side b.on) one))
+              absurd (cc (sym there ∙ ap (λ (b : Blocking). awaits_side serial side b.on) one))
       tested blocking e false there = is
 
       by : (o : Option Blocking) → blocking_in (state_of core given.actor.0) ≡ o → Waits (answers_by how.Failed serial side given o core).core
       by None e = is
-      by (Some blocking) e = tested blocking e (is_on serial side blocking.on) refl
+      by (Some blocking) e = tested blocking e (awaits_side serial side blocking.on) refl
 
   give_up_waits : (serial : ℕ) (core : Core) → Waits core → Waits (gives_up serial core).core
   give_up_waits serial core is = by (whose_at core serial)
@@ -467,14 +471,21 @@ kills_tell_in_order roads setup core actor target may alive left = subst (TellsI
 -- ---- an exit
 exit_tells : (core : Core) (actor : ℕ) → TellsJoiners actor core (exits actor (counted core))
 exit_tells core actor = record {
-  by_id = joins_rise actor (leaves actor (counted core));
+  joiners = (joiners_tell leaver core (with_actor_ended actor (counted core)) since_leaves).told;
+  by_id = joins_rise actor (with_actor_ended actor (counted core));
   told = λ other since from apart is.
-      let gone = leaves actor (counted core) in
+      let gone = with_actor_ended actor (counted core) in
       let now : state_of gone other ≡ Blocked (call.Join (record { 0 = actor })) since None = put_there (λ (s : State). s ≡ Blocked (call.Join (record { 0 = actor })) since None) core.actors actor other Ended (λ same. absurd (apart same)) is in
       let there : joins actor (state_of gone other) ≡ true = ap (joins actor) now ∙ eq_yes actor actor refl in
       let place : 1 + (other - 1) ≡ other = omega (arith, from) in
       all_told other since (call.Join (record { 0 = actor })) from (joiners actor 1 gone.actors) gone (joiners_from actor 1 gone.actors) (joiners_among actor 1 (other - 1) other gone.actors place there) now;
 }
+  where
+    leaver : ActorId
+    leaver = record { 0 = actor }
+
+    since_leaves : Since leaver core (with_actor_ended actor (counted core))
+    since_leaves = (let s = since_withdrawn leaver core (core.events + 1) in record { blocked = s.blocked; goes = s.goes; alone = s.alone })
 
 pub exits_tell_joiners : ExitsTellJoiners
 exits_tell_joiners roads setup core actor left =

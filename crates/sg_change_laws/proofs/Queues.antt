@@ -1,4 +1,4 @@
--- Who was killed waits in no queue ever after.
+-- An actor that was killed waits in no queue ever after.
 use Rattle.std.proofs.Common.{◌≡◌, ◌≢◌, ℕ, ◌+◌, ◌==◌, Bool, true, false, cond, IsTrue, Option, None, Some, [], sym, ap, subst, ◌∙◌, arith}
 use Rattle.sg_base.specs.declared.ids.ActorId.{ActorId}
 use Rattle.sg_activity.specs.Underway.{Underway, due_in}
@@ -7,7 +7,6 @@ use Rattle.sg_route.specs.Roads.{Roads, roads_of}
 use Rattle.sg_states.specs.Actors.{is_alive, is_answered}
 use Rattle.sg_sync.specs.Objects.{Objects, waiting}
 use Rattle.sg_calls.specs.declared.stop.Stop.TheVariants.{Budget}
-use Rattle.sg_calls.specs.Calls.{actor_of}
 use Rattle.sg_calls.specs.Kills.{kills}
 use Rattle.sg_kernel.specs.Passes.{core_later, next_span, pass_at, settled, stretches}
 use Rattle.sg_setup.specs.Setup.{setup_of, Setup}
@@ -21,6 +20,7 @@ use Rattle.sg_await_laws.specs.Reached.{Reaches, here, calls, creates, asks, pas
 use Rattle.sg_await_laws.proofs.Called.{withdrawn_fewer}
 use Rattle.sg_await_laws.proofs.Killed.{by_kernel, core_is, killed, killer, later, round_of, without_stop}
 use Rattle.sg_await_laws.proofs.Objects.{no_comer}
+use Rattle.sg_base.specs.Turn.{actor_of}
 use Rattle.sg_change_laws.specs.Queues.{KilledWaitNowhere}
 use Rattle.sg_change_laws.proofs.Around.{Lasting, Served, answered_then, created_then, stretches_then, told_then}
 

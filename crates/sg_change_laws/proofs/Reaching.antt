@@ -1,4 +1,4 @@
--- Whoever is blocked on what a killed actor awaits is told.
+-- Whoever is blocked on what a killed actor awaits has its record.
 use Rattle.std.proofs.Common.{◌≡◌, ◌≢◌, ◌⊎◌, ℕ, ◌-◌, ◌<◌, ◌≤◌, true, inl, inr, Option, None, Some, List, [], ◌∷◌, ◌++◌, refl, sym, ap, subst, ◌∙◌, arith}
 use Rattle.std.specs.List.{All, Contains}
 use Rattle.std.proofs.lemmas.List.Elements.{All-nil, All-cons, All-head, All-tail}
@@ -46,7 +46,7 @@ sides_differ other party.Alone sender receiver part = absurd part
 sides_differ other party.Sender sender receiver part = grind (arith, part)
 sides_differ other party.Receiver sender receiver part = grind (arith, part)
 
--- two that take part in one activity are the sides of a communication
+-- two that take part in one activity are the endpoints of a communication
 both_take_part : (other target : ℕ) (side : Party) (w : Whose) → other ≢ target → PartOf other w side → (is_over w ≡ true) ⊎ ((mine : Party) × PartOf target w mine) → is_side other side w ≡ true
 both_take_part other target side (Over before) apart part theirs = absurd part
 both_take_part other target side (Alone owner) apart part (inl over) = absurd (cc over)
@@ -55,7 +55,7 @@ both_take_part other target side (Posted mailbox sends one) apart part (inl over
 both_take_part other target side (Posted mailbox sends one) apart part (inr theirs) = absurd (apart (sym part.1 ∙ theirs.1.1))
 both_take_part other target side (Pair sender receiver) apart part theirs = sides_differ other side sender receiver part
 
--- ---- what was given up is over
+-- ---- what was given up has ended
 gone_closed : (serial : ℕ) → Closed (IsGone serial) anything
 gone_closed serial = record {
   answered = gone_replying serial;
@@ -91,7 +91,7 @@ none_over actor (Alone owner) side over part = absurd (cc over)
 none_over actor (Posted mailbox sends other) side over part = absurd (cc over)
 none_over actor (Pair sender receiver) side over part = absurd (cc over)
 
--- ---- who is blocked is so still, or is told
+-- ---- who is blocked is so still, or has its record
 module _ (other since : ℕ) (called : Call) (on : Option Await) (some : 0 < other) where
   abbrev Follows : Core → Step → Type 0
   Follows core step = Tracks other since called on core step

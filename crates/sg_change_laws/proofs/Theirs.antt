@@ -1,4 +1,4 @@
--- Who waits for an activity takes part in it, as what actors do, phases and whose activities are change.
+-- An actor that waits for an activity takes part in it, as what actors do, phases and the waiters of activities change.
 use Rattle.std.proofs.Common.{◌≡◌, ◌⊎◌, ℕ, zero, suc, ◌+◌, ◌-◌, ◌<◌, ◌≤◌, true, false, inl, inr, Option, None, Some, option_map, List, [], ◌∷◌, ◌++◌, length, map, set, get_or, refl, sym, ap, subst, ◌∙◌, arith}
 use Rattle.std.specs.List.{All}
 use Rattle.std.proofs.lemmas.Bool.{cases_eq, cases_lt}
@@ -32,21 +32,21 @@ pub record IsPart (whose : List Whose) (actor : ℕ) (on : Await) : Type 0 where
   pub from : 0 < on.serial.0
   pub part : PartOf actor (get_or whose (on.serial.0 - 1) (Over how.Done)) on.party
 
--- what it asked for may be over
+-- what it asked for may have ended
 pub record IsAsked (whose : List Whose) (actor : ℕ) (on : Await) : Type 0 where
   pub from : 0 < on.serial.0
   pub made : on.serial.0 - 1 < length whose
   pub part : (is_over (get_or whose (on.serial.0 - 1) (Over how.Done)) ≡ true) ⊎ PartOf actor (get_or whose (on.serial.0 - 1) (Over how.Done)) on.party
 
--- nobody is left
+-- no actor is left
 abbrev pub Nobody : ℕ → Await → Type 0
 Nobody actor on = ⊥
 
--- who took part in the activity of this serial, which was such
+-- the actor took part in the activity with this id, which was such
 abbrev pub LeftOf : ℕ → Whose → ℕ → Await → Type 0
 LeftOf serial was actor on = (0 < on.serial.0) × (on.serial.0 - 1 ≡ serial - 1) × PartOf actor was on.party
 
--- all take part in what they wait for, but for who is left; and no communication of which one side is there goes on
+-- all take part in what they wait for, except for who is left; and no communication with one endpoint runs
 pub record HaveParts (Left : ℕ → Await → Type 0) (actors : List Actor) (tasks : List (Option Task)) (whose : List Whose) (requests : List (List Await)) : Type 0 where
   pub numbered : length whose ≡ length tasks
   pub waits : (actor since : ℕ) (what : Call) (on : Await) → 0 < actor → state_at actors actor ≡ Blocked what since (Some on) → IsPart whose actor on ⊎ Left actor on
@@ -57,7 +57,7 @@ abbrev pub TakePart : (ℕ → Await → Type 0) → Core → Type 0
 TakePart Left core = HaveParts Left core.actors core.under.tasks core.whose core.requests
 
 -- ---- what actors do
--- who is blocked on an activity was so before
+-- an actor that is blocked on an activity was so before
 pub parts_fewer : (Left : ℕ → Await → Type 0) (old new : List Actor) (tasks : List (Option Task)) (whose : List Whose) (requests : List (List Await)) → ((actor since : ℕ) (what : Call) (on : Await) → state_at new actor ≡ Blocked what since (Some on) → state_at old actor ≡ Blocked what since (Some on)) → HaveParts Left old tasks whose requests → HaveParts Left new tasks whose requests
 parts_fewer Left old new tasks whose requests so p = record {
   numbered = p.numbered;
@@ -123,7 +123,7 @@ pub parts_taken : (Left : ℕ → Await → Type 0) (core : Core) (actor : ℕ) 
 parts_taken Left core actor from p = parts_queued Left core actor (rest_of (queue_at core.requests actor)) (own_queue core.whose actor _ from (rest_all (IsAsked core.whose actor) (queue_at core.requests actor) (p.asked actor from))) p
 
 -- ---- phases
--- where nothing is under way nothing is later
+-- if nothing is running now, nothing is later
 pub parts_tasks : (Left : ℕ → Await → Type 0) (actors : List Actor) (tasks later : List (Option Task)) (whose : List Whose) (requests : List (List Await)) → length later ≡ length tasks → ((place : ℕ) → get_or tasks place None ≡ None → get_or later place None ≡ None) → HaveParts Left actors tasks whose requests → HaveParts Left actors later whose requests
 parts_tasks Left actors tasks later whose requests long none p = record {
   numbered = p.numbered ∙ sym long;
@@ -209,7 +209,7 @@ asked_over whose at over actor on a = record {
   part = set_there (λ (x : Whose). (is_over x ≡ true) ⊎ PartOf actor x on.party) whose at (on.serial.0 - 1) (Over over) (Over how.Done) (λ same. inl refl) a.part;
 }
 
--- an activity is over: who took part in it is left
+-- an activity ends: who took part in it is left
 pub parts_over : (over : How) (serial : ℕ) (core : Core) → TakePart Nobody core → TakePart (LeftOf serial (whose_at core serial)) (with_over over serial core)
 parts_over over serial core p = record {
   numbered = length-set core.whose (serial - 1) (Over over) ∙ p.numbered ∙ sym (length-set core.under.tasks (serial - 1) None);
@@ -228,7 +228,7 @@ parts_over over serial core p = record {
     by actor on (inl is) = part actor on is
     by actor on (inr none) = absurd none
 
--- both sides are there: who was one of them is so still
+-- both endpoints are there: who was one of them is so still
 pub parts_paired : (serial : ℕ) (under : Underway) (was now : Whose) (core : Core) (slot : Option Task) → under.tasks ≡ set core.under.tasks (serial - 1) slot → serial - 1 < length core.whose → whose_at core serial ≡ was → is_over was ≡ false → is_posted now ≡ false →
     ((actor : ℕ) (on : Await) → PartOf actor was on.party → PartOf actor now on.party) → TakePart Nobody core → TakePart Nobody (record core { under = under; whose = set core.whose (serial - 1) now })
 parts_paired serial under was now core slot tasks within is live none so p = record {

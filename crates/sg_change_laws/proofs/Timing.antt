@@ -1,4 +1,4 @@
--- A pass changes the date and the energies of hosts only as time passes.
+-- A time advance changes the date and the energies of hosts only as time passes.
 use Rattle.std.proofs.Common.{◌≡◌, ℕ, ◌+◌, ◌*◌, ◌<◌, ◌==◌, Bool, true, false, cond, List, [], length, get_or, Option, None, Some, refl, ap, ◌∙◌, arith}
 use Rattle.sg_lives.specs.Slots.{listed}
 use Rattle.sg_activity.specs.Underway.{Underway, due_in, later, power_at, rate, used_later}
@@ -26,7 +26,7 @@ anyone caller = Unit {0}
 pub served_then : (date : ℕ) (energy : List ℕ) (caller : ℕ) → anyone caller → Served (IsThen date energy) caller
 served_then date energy caller any = record { does = λ under objects done most is. is; left = λ under objects target is. is }
 
--- ---- a pass
+-- ---- a time advance
 -- so many nanoseconds have passed, and each host has used what its power was
 pub record Passes (before after : Underway) : Type 0 where
   pub span : ℕ
@@ -43,8 +43,8 @@ at_rest before after date energy = record {
   energy = λ host within. omega (arith, ap (λ (e : List ℕ). get_or e host 0) energy);
 }
 
--- the power of a host doesn't depend on what changed since the rates were brought up to date
-power_settled : (under : Underway) (host : ℕ) → power_at (underway.settled under) host ≡ power_at under host
+-- the power of a host doesn't depend on what changed since the rates were updated
+power_settled : (under : Underway) (host : ℕ) → power_at (underway.with_rates_updated under) host ≡ power_at under host
 unfolding rate
 power_settled under host = refl
 

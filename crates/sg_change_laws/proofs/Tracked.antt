@@ -1,4 +1,4 @@
--- Who is blocked is so still after a step of a pass, or is told and has its answer.
+-- An actor that is blocked is so still after a step of a time advance, or has its record and its answer.
 use Rattle.std.proofs.Common.{◌≡◌, ◌⊎◌, ℕ, zero, suc, ◌+◌, ◌-◌, ◌<◌, ◌==◌, Bool, true, false, cond, inl, inr, Option, None, Some, option_map, List, [], ◌∷◌, ◌++◌, append_assoc, length, get_or, refl, sym, ap, subst, ◌∙◌, arith}
 use Rattle.std.specs.List.{All}
 use Rattle.std.proofs.lemmas.Bool.{and_parts, cases_eq}
@@ -29,7 +29,7 @@ use Rattle.sg_owners.specs.declared.owners.Whose.{Whose}
 use Rattle.sg_owners.specs.declared.owners.Whose.TheVariants.{Over, Alone, Posted, Pair}
 use Rattle.sg_calls.specs.declared.stop.Stop.{Stop}
 use Rattle.sg_calls.specs.declared.stop.Stop.TheVariants.{Budget}
-use Rattle.sg_calls.specs.Answers.{answer_to, answers, answers_by, answers_side, bare_side, finishes, for_receiver, is_on, party_eq, tells_bytes, with_over}
+use Rattle.sg_calls.specs.Answers.{answer_to, answers, answers_by, answers_side, bare_side, finishes, for_receiver, awaits_side, party_eq, tells_bytes, with_over}
 use Rattle.sg_kernel.specs.Passes.{all_fail, applied_if, changes, core_later, ends, ends_by, ends_in, ends_one, enters_one, entry_stretches, fails, fails_one, next_span, pass_at, pass_of, settled, stretches}
 use Rattle.sg_calls.specs.Steps.{Step, goes_on, stops, counted, follows, and_then, each, all_of, replied}
 use Rattle.sg_setup.specs.Setup.{Setup}
@@ -60,7 +60,7 @@ entry_date network (Some (entry.Bandwidth link bandwidth)) under = refl
 entry_date network (Some (entry.HostOn host on)) under = refl
 entry_date network (Some (entry.LinkOn link on)) under = refl
 
--- the side of an activity on which one is blocked
+-- the endpoint of an activity on which one is blocked
 record IsSideOf (serial : ℕ) (side : Party) (on : Option Await) : Type 0 where
   await : Await
   is : on ≡ Some await
@@ -78,13 +78,13 @@ party_is party.Receiver party.Alone e = absurd (cc e)
 party_is party.Receiver party.Sender e = absurd (cc e)
 party_is party.Receiver party.Receiver e = refl
 
-side_of_it : (serial : ℕ) (side : Party) (on : Option Await) → is_on serial side on ≡ true → IsSideOf serial side on
+side_of_it : (serial : ℕ) (side : Party) (on : Option Await) → awaits_side serial side on ≡ true → IsSideOf serial side on
 side_of_it serial side None e = absurd (cc e)
 side_of_it serial side (Some on) e =
     let both = and_parts (on.serial.0 == serial) (party_eq on.party side) e in
     record { await = on; is = refl; of = grind (arith, both.0); kind = party_is on.party side both.1 }
 
--- the date stays; an answer that the actor has stays; and where it is blocked so, it still is or is told
+-- the date stays; an answer that the actor has stays; and if it is blocked so, it still is or has its record
 pub record Tracks (actor since : ℕ) (what : Call) (on : Option Await) (core : Core) (step : Step) : Type 0 where
   pub date : step.core.under.date ≡ core.under.date
   pub stays : (given : Answer) → state_of core actor ≡ Ready given → state_of step.core actor ≡ Ready given
@@ -106,7 +106,7 @@ module _ (actor since : ℕ) (what : Call) (on : Option Await) where
   follow_cond core true one other s t = s
   follow_cond core false one other s t = t
 
-  -- as told before, after another step
+  -- the same record as before, after another step
   pub told_first : (first second : Step) → second.core.under.date ≡ first.core.under.date → ((given : Answer) → state_of first.core actor ≡ Ready given → state_of second.core actor ≡ Ready given) → IsTold actor since what first
       → IsTold actor since what (record second { made = first.made ++ second.made })
   told_first first second date stays t = record {
@@ -184,23 +184,23 @@ module _ (actor since : ℕ) (what : Call) (on : Option Await) where
             ready = put_at (λ (s : State). s ≡ Ready given) core.actors g actor (Ready given) within (λ kind. refl) (λ apart. absurd (apart same));
           }
 
-  side_tracks : (over : How) (serial : ℕ) (side : Party) (given : Side) (core : Core) → (state_of core actor ≡ Blocked what since on → is_on serial side on ≡ true → given.actor.0 ≡ actor) → Follows core (answers_side over serial side given core)
+  side_tracks : (over : How) (serial : ℕ) (side : Party) (given : Side) (core : Core) → (state_of core actor ≡ Blocked what since on → awaits_side serial side on ≡ true → given.actor.0 ≡ actor) → Follows core (answers_side over serial side given core)
   side_tracks over serial side given core exact = by (blocking_in (state_of core given.actor.0)) refl
     where
-      tested : (blocking : Blocking) → blocking_in (state_of core given.actor.0) ≡ Some blocking → (b : Bool) → is_on serial side blocking.on ≡ b →
+      tested : (blocking : Blocking) → blocking_in (state_of core given.actor.0) ≡ Some blocking → (b : Bool) → awaits_side serial side blocking.on ≡ b →
           Follows core (cond b (reply given.actor.0 blocking (cond (tells_bytes blocking.what) given.bytes 0) (answer_to over blocking.what given.msg) core) (goes_on core []))
       tested blocking e true there =
           reply_tracks given.actor.0 blocking (cond (tells_bytes blocking.what) given.bytes 0) (answer_to over blocking.what given.msg) core e
-          (λ is same place. exact is (ap (is_on serial side) (sym same) ∙ there))
+          (λ is same place. exact is (ap (awaits_side serial side) (sym same) ∙ there))
       tested blocking e false there = quiet core core None refl refl
 
       by : (o : Option Blocking) → blocking_in (state_of core given.actor.0) ≡ o → Follows core (answers_by over serial side given o core)
       by None e = quiet core core None refl refl
-      by (Some blocking) e = tested blocking e (is_on serial side blocking.on) refl
+      by (Some blocking) e = tested blocking e (awaits_side serial side blocking.on) refl
 
-  -- ---- an activity is over
-  -- whoever is blocked on a side of it is that side
-  part_of_side : (serial : ℕ) (side : Party) (w : Whose) (core : Core) → 0 < actor → TakePart Nobody core → whose_at core serial ≡ w → state_of core actor ≡ Blocked what since on → is_on serial side on ≡ true → PartOf actor w side
+  -- ---- an activity ends
+  -- whoever is blocked on an endpoint of it is that endpoint
+  part_of_side : (serial : ℕ) (side : Party) (w : Whose) (core : Core) → 0 < actor → TakePart Nobody core → whose_at core serial ≡ w → state_of core actor ≡ Blocked what since on → awaits_side serial side on ≡ true → PartOf actor w side
   part_of_side serial side w core from p e is there =
       let s = side_of_it serial side on there in
       let state = is ∙ ap (λ (o : Option Await). Blocked what since o) s.is in
@@ -218,7 +218,7 @@ module _ (actor since : ℕ) (what : Call) (on : Option Await) where
     told = λ is. t.told (ap (λ (a : List Actor). state_at a actor) actors ∙ is);
   }
 
-  -- who is blocked so was it before
+  -- an actor that is blocked so was it before
   abbrev BlockedThen : Core → Core → Type 0
   BlockedThen mid core = state_of core actor ≡ Blocked what since on → state_of mid actor ≡ Blocked what since on
 
@@ -242,7 +242,7 @@ module _ (actor since : ℕ) (what : Call) (on : Option Await) where
           (side_tracks over serial party.Receiver (for_receiver sender receiver) first.core
           (λ is there. part_of_side serial party.Receiver (Pair sender receiver) core from p e ((side_kept (BlockedThen mid) anything (then_replying mid) over serial party.Sender sender mid (λ now. now)).holds is) there))
 
-  -- ---- a pass
+  -- ---- a time advance
   abbrev Goes : Core → Step → Type 0
   Goes core step = Follows core step × TakePart Nobody step.core
 
@@ -313,14 +313,14 @@ module _ (actor since : ℕ) (what : Call) (on : Option Await) where
       by None = quiet core core None refl refl
       by (Some task) = follow_cond core (core.events == setup.budget) (stops core [] Budget) (ends_one serial core) (quiet core core (Some Budget) refl refl) (next (phase_after (task_at core.under.tasks serial)))
 
-  -- after the date of the pass has come
+  -- after the date of the time advance has come
   goes_then : (setup : Setup) (rows serials : List ℕ) (core : Core) → 0 < actor → All (λ n. 0 < n) serials → TakePart Nobody core → Goes core (all_of (each (changes setup) rows ∷ each (ends setup) serials ∷ []) core)
   goes_then setup rows serials core from above p =
       goes_two (each (changes setup) rows) (each (ends setup) serials) core
       (goes_each (λ n. Unit {0}) (changes setup) (λ row mid any q. goes_change setup row mid from q) rows core (λ i d within. tt) p)
       (λ mid q. goes_each (λ n. 0 < n) (ends setup) (λ serial late some r. goes_end setup serial late from some r) serials mid above q)
 
-  -- who is blocked before a pass is so still, or is told
+  -- an actor that is blocked before a time advance is so still, or has its record
   stays_or_told : (setup : Setup) (core : Core) (span : Option ℕ) → 0 < actor → TakePart Nobody core → state_of core actor ≡ Blocked what since on → (state_of (pass_at setup core span).core actor ≡ Blocked what since on) ⊎ IsTold actor since what (pass_at setup core span)
   stays_or_told setup core None from p is = inl is
   stays_or_told setup core (Some span) from p is = by (core.events == setup.budget)

@@ -6,13 +6,15 @@ use Rattle.sg_calls.specs.World.{Core}
 use Rattle.sg_failure_laws.specs.Others.{IsFit, MayTell}
 use Rattle.sg_await_laws.specs.Runs.{Run, IsCoreOf, parts_in, run_to, whole}
 
--- Nothing that is under way uses what is off: behind each round and each pass, and at the end, unless the budget has ended the run, maybe in mid-pass; and within each round.
+-- No running activity uses what is off: after each scheduling round and each time advance, and at the end, unless the
+-- budget has ended the run, maybe in the middle of a time advance; and within each scheduling round.
 pub record NothingOffIsUsedInRuns : Type 0 where
   pub behind : (run : Run) (parts : ℕ) → (parts_in parts run).ended ≢ Some ended.Budget → UsesNothingOff (parts_in parts run).world.core
   pub within : (run : Run) (parts actors : ℕ) → (parts_in parts run).ended ≡ None → UsesNothingOff (run_to parts actors run).world.core
   pub last : (run : Run) → (whole run).ended ≢ Some ended.Budget → UsesNothingOff (whole run).world.core
 
--- Each record of a run that tells a failure is of a call that may fail, and who waits in one of its cores does so by a call that suits.
+-- Each record of a failure in a run is of a call that may fail, and an actor that waits in one of its cores does so by
+-- a call that suits.
 pub record NoOtherFailsInRuns : Type 0 where
   pub made : (run : Run) → All MayTell (whole run).made
   pub made_by : (run : Run) (parts actors : ℕ) → All MayTell (run_to parts actors run).made

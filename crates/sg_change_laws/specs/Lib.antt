@@ -5,3 +5,7 @@ pub mod Told
 pub mod Meets
 pub mod Queues
 pub mod Order
+pub mod Ended
+pub mod Rising
+pub mod Answers
+pub mod Once

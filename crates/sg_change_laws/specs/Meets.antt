@@ -1,4 +1,4 @@
--- Of a meeting that fails in a call both sides are told.
+-- If a communication fails in a call, both endpoints get a record.
 use Rattle.std.specs.Prelude.{◌≡◌, ◌≢◌, ℕ, ◌-◌, Bool, true, false, None, Some, if◌then◌else◌, [], ◌∷◌}
 use Rattle.sg_base.specs.declared.awaits.Await.{Await}
 use Rattle.sg_base.specs.declared.call.Answer.{Answer}
@@ -15,11 +15,13 @@ use Rattle.sg_calls.specs.Answers.{tells_bytes}
 use Rattle.sg_calls.specs.Calls.{answered}
 use Rattle.sg_calls.specs.Meetings.{comer_of, party_of, posts_at, sender_of}
 use Rattle.sg_calls.specs.Steps.{Step}
+use Rattle.sg_owners.specs.declared.owners.How.TheVariants as how
+use Rattle.sg_owners.specs.declared.owners.Whose.TheVariants.{Over}
 use Rattle.sg_setup.specs.Setup.{Setup}
-use Rattle.sg_calls.specs.World.{Core, state_of}
+use Rattle.sg_calls.specs.World.{Core, MayCall, state_of, whose_at}
 use Rattle.sg_failure_laws.specs.Laws.{call_fails}
 
--- by the call of a side that comes it meets a post whose actor is another, and is blocked on that side
+-- an arriving endpoint matches by its call a post whose actor is another, and is blocked on that endpoint
 pub record MeetsBlocked (core : Core) (actor : ℕ) (what : Call) (comer : Comer) (post : Post) (since : ℕ) (called : Call) (on : Await) : Type 0 where
   pub comes : comer_of actor what ≡ Some comer
   pub meets : partner comer.sends (posts_at comer.mailbox core) ≡ Some post
@@ -28,12 +30,12 @@ pub record MeetsBlocked (core : Core) (actor : ℕ) (what : Call) (comer : Comer
   pub side : on.party ≡ party_of post.sends
   pub apart : post.side.actor.0 - 1 ≢ actor - 1
 
--- the answer of the side that comes: one that doesn't wait is done at once
+-- the answer of the arriving endpoint: one that doesn't wait is done at once
 abbrev pub comer_answer : Bool → Answer
 comer_answer true = answer.Failed
 comer_answer false = answer.Done
 
--- what its record tells of bytes: those that the sender sends, or its own
+-- what its record says of bytes: those that the sender sends, or its own
 abbrev pub comer_bytes : Bool → Comer → Post → ℕ
 comer_bytes true comer post = (sender_of comer post.side).bytes
 comer_bytes false comer post = comer.side.bytes
@@ -45,12 +47,14 @@ abbrev pub other_record : Core → Comer → Post → ℕ → Call → Record
 other_record core comer post since called =
     record_of post.side.actor.0 called since (if tells_bytes called then (sender_of comer post.side).bytes else 0) answer.Failed core.under.date
 
--- both are told, the sender first, and the other side has its answer
+-- both have a record, the sender first, and an answer; and their communication has failed
 pub record TellsBoth (core : Core) (actor : ℕ) (what : Call) (comer : Comer) (post : Post) (since : ℕ) (called : Call) (step : Step) : Type 0 where
   pub made : step.made ≡ (if comer.sends then comer_record core actor what comer post ∷ other_record core comer post since called ∷ []
       else other_record core comer post since called ∷ comer_record core actor what comer post ∷ [])
   pub goes_on : step.stop ≡ None
   pub other : state_of step.core post.side.actor.0 ≡ Ready answer.Failed
+  pub caller : MayCall core actor → state_of step.core actor ≡ Ready (comer_answer comer.waits)
+  pub over : whose_at step.core post.serial.0 ≡ Over how.Failed
 
 -- so it is of each such call that fails, and that the budget doesn't stop
 abbrev pub MeetingsTellBoth : Type 0

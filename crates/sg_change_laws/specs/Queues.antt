@@ -1,10 +1,10 @@
--- Who was killed waits in no queue.
+-- An actor that was killed waits in no queue.
 use Rattle.std.specs.Prelude.{◌≡◌, ℕ, ◌+◌}
 use Rattle.sg_base.specs.declared.ids.ActorId.{ActorId}
 use Rattle.sg_sync.specs.Objects.{waiting}
 use Rattle.sg_calls.specs.World.{Core}
 use Rattle.sg_await_laws.specs.Runs.{Run, IsLaterCore, KillsAt}
 
--- where a run kills an actor it waits for no mutex, no semaphore and not at the barrier, from behind that call on
+-- if a run kills an actor, it waits for no mutex, no semaphore and not at the barrier after that call
 abbrev pub KilledWaitNowhere : Type 0
 KilledWaitNowhere = (run : Run) (parts actors : ℕ) (target : ActorId) → KillsAt run parts actors target → (core : Core) → IsLaterCore run parts (actors + 1) core → waiting core.objects target ≡ 0

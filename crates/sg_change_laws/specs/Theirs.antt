@@ -22,11 +22,12 @@ PartOf actor (Pair sender receiver) party.Alone = ⊥
 PartOf actor (Pair sender receiver) party.Sender = sender.actor.0 ≡ actor
 PartOf actor (Pair sender receiver) party.Receiver = receiver.actor.0 ≡ actor
 
--- In each core of a run who is blocked on an activity takes part in it, and it isn't over: nobody waits for what has failed or ended.
+-- In each core of a run an actor that is blocked on an activity takes part in it, and it hasn't ended: no actor waits
+-- for what has failed or completed.
 abbrev pub NobodyWaitsForOver : Type 0
 NobodyWaitsForOver = (run : Run) (core : Core) → IsCoreOf run core → (actor since : ℕ) (what : Call) (on : Await) → 0 < actor → state_of core actor ≡ Blocked what since (Some on) →
     PartOf actor (whose_at core on.serial.0) on.party
 
--- serials are from 1 on: all that an actor awaits was drawn
+-- activity ids are from 1 on: all that an actor awaits was drawn
 abbrev pub AwaitedAreDrawn : Type 0
 AwaitedAreDrawn = (run : Run) (core : Core) → IsCoreOf run core → (target : ActorId) → 0 < target.0 → All (λ serial. 0 < serial) (awaited target core)

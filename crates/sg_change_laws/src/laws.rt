@@ -1,69 +1,99 @@
-//! Laws of runs in which hosts or links go off, actors are killed, and hosts use energy.
+//! Laws of runs in which hosts or links fail, actors are killed, and hosts use energy.
+ghost use Rattle.sg_change_laws.specs.Answers.{FailedAnswersHaveRecordsInRuns};
+ghost use Rattle.sg_change_laws.specs.Ended.{EndedActorsStayEnded};
 ghost use Rattle.sg_change_laws.specs.Energy.{EnergyIsSum};
 ghost use Rattle.sg_change_laws.specs.Failures.{NoOtherFailsInRuns, NothingOffIsUsedInRuns};
 ghost use Rattle.sg_change_laws.specs.Meets.{MeetingsTellBoth};
+ghost use Rattle.sg_change_laws.specs.Once.{NobodyHasTwoRecords};
 ghost use Rattle.sg_change_laws.specs.Order.{ExitsTellJoiners, KillsTellInOrder};
 ghost use Rattle.sg_change_laws.specs.Queues.{KilledWaitNowhere};
+ghost use Rattle.sg_change_laws.specs.Rising.{TimeAdvancesRecordBySerial};
 ghost use Rattle.sg_change_laws.specs.Theirs.{AwaitedAreDrawn, NobodyWaitsForOver};
 ghost use Rattle.sg_change_laws.specs.Told.{KillsReach, PassesAnswer};
 
-/// In a run nothing that is under way uses a host or a link that is off: not behind a round or a pass, also the last one,
-/// unless the budget ends the run, and not within a round.
+/// In a run no running activity uses a host or a link that is off: not after a scheduling round or a time advance, even
+/// the last one, unless the budget ends the run, and not within a scheduling round.
 pub fn nothing_off_is_used_in_runs()
     ensures { NothingOffIsUsedInRuns }
 {}
 
-/// In a run no call but a Compute, Send, Recv or Wait is ever answered that it failed.
+/// In a run no call except a Compute, Send, Recv or Wait is ever answered as failed.
 pub fn no_other_fails_in_runs()
     ensures { NoOtherFailsInRuns }
 {}
 
-/// In each core of a run who is blocked on an activity takes part in it, and it isn't over: whoever was blocked on what
-/// failed or ended, in a call, a kill or a pass, has been answered.
+/// In each core of a run an actor that is blocked on an activity takes part in it, and it hasn't ended: whoever was
+/// blocked on what failed or completed, in a call, a kill or a time advance, has been answered.
 pub fn nobody_waits_for_over()
     ensures { NobodyWaitsForOver }
 {}
 
-/// All that an actor awaits in a core of a run was drawn: its serial is above 0.
+/// All that an actor awaits in a core of a run was drawn: its activity id is above 0.
 pub fn awaited_are_drawn()
     ensures { AwaitedAreDrawn }
 {}
 
-/// Who is blocked on an activity that a pass ends, or lets fail, has in that pass a record of its call and an answer,
-/// which both tell so.
+/// If a time advance completes or fails an activity, each actor that is blocked on it has then a record of its call and
+/// an answer, which both say so.
 pub fn passes_answer()
     ensures { PassesAnswer }
 {}
 
-/// A kill of an actor that is alive tells whoever else is blocked, in a core of a run, on an activity that it awaits:
-/// there is a record that its call failed, and it has an answer.
+/// The kill of a living actor reaches whoever else is blocked, in a core of a run, on an activity that it awaits: there
+/// is a record that its call failed, and it has an answer.
 pub fn kills_reach()
     ensures { KillsReach }
 {}
 
-/// Of a meeting that fails in a call both sides are told, the sender first, and the other side has its answer.
+/// If a meeting fails in a call, the sender and the receiver have a record each, the sender first, and their answers,
+/// and their communication has failed.
 pub fn meetings_tell_both()
     ensures { MeetingsTellBoth }
 {}
 
-/// A kill of an actor that is alive tells first its caller, then the other sides of what the killed one awaited, by rising
-/// serial, and then those that joined it, by rising id, each of which is told and has its answer.
+/// The kill of a living actor records first its caller, then the other endpoints of what the killed one awaited, in
+/// order of activity id, and then those that joined it, by rising id, each of which has its answer.
 pub fn kills_tell_in_order()
     ensures { KillsTellInOrder }
 {}
 
-/// An exit tells those that joined the actor, by rising id, each of which has its answer.
+/// An exit makes a record of each actor that joined the one that exits, by rising id, and of no other, and each of them
+/// has its answer.
 pub fn exits_tell_joiners()
     ensures { ExitsTellJoiners }
 {}
 
-/// From where a run kills an actor that is alive it waits in no queue, to the end of the run.
+/// From its kill on, an actor waits in no queue, to the end of the run.
 pub fn killed_wait_nowhere()
     ensures { KilledWaitNowhere }
 {}
 
-/// The energy of a host at the end of a run, and behind each of its rounds and passes, is the sum over the stretches
-/// between their dates of the power that it has before each, times the nanoseconds of it. A round takes no time.
+/// The energy of a host at the end of a run, and after each of its scheduling rounds and time advances, is the sum over
+/// the stretches between their dates of the power that it has before each, times the nanoseconds of it. A
+/// scheduling round takes no time.
 pub fn energy_is_sum()
     ensures { EnergyIsSum }
+{}
+
+/// An actor that has ended anywhere in a run stays so to the end of the run, has the requests that it had, and no record
+/// that the run makes since is of it.
+pub fn ended_actors_stay_ended()
+    ensures { EndedActorsStayEnded }
+{}
+
+/// No actor has two records in one kill, in one exit or in one time advance.
+pub fn nobody_has_two_records()
+    ensures { NobodyHasTwoRecords }
+{}
+
+/// Anywhere in a run each actor that is ready with the answer that its call failed has made a Compute, Send, Recv or
+/// Wait, and the run has a record that it failed.
+pub fn failed_answers_have_records_in_runs()
+    ensures { FailedAnswersHaveRecordsInRuns }
+{}
+
+/// A time advance makes the records of the activities that fail after a profile entry by rising id, entry by entry, and
+/// then those of the activities that complete, by rising id too.
+pub fn time_advances_record_by_serial()
+    ensures { TimeAdvancesRecordBySerial }
 {}

@@ -6,7 +6,8 @@
 mod laws;
 
 pub use laws::{
-    awaited_are_drawn, energy_is_sum, exits_tell_joiners, killed_wait_nowhere, kills_reach,
-    kills_tell_in_order, meetings_tell_both, no_other_fails_in_runs, nobody_waits_for_over,
-    nothing_off_is_used_in_runs, passes_answer,
+    awaited_are_drawn, ended_actors_stay_ended, energy_is_sum, exits_tell_joiners,
+    failed_answers_have_records_in_runs, killed_wait_nowhere, kills_reach, kills_tell_in_order,
+    meetings_tell_both, no_other_fails_in_runs, nobody_has_two_records, nobody_waits_for_over,
+    nothing_off_is_used_in_runs, passes_answer, time_advances_record_by_serial,
 };

@@ -1,5 +1,5 @@
-//! Tables of whole jobs, as `sg_job_cases` reads them, in which hosts, links or actors change while the run goes on,
-//! and what hosts draw.
+//! Tables of whole jobs, as `sg_job_cases` reads them, in which hosts, links or actors change during the run, and what
+//! hosts draw.
 //! One enters by a table, as `OUTAGES`.
 //! It stands on std alone.
 #![tactic(auto)]

@@ -1,4 +1,4 @@
-//! Whole runs over hosts and links that go off and on, and what they write.
+//! Whole runs over hosts and links that fail and recover, and what they write.
 
 /// Jobs over hosts and links with profiles of states.
 pub const OUTAGES: &str = "\

@@ -1,4 +1,4 @@
-//! Whole runs on platforms that change while they go on, and what they write.
+//! Whole runs on platforms that change during the run, and what they write.
 
 /// Jobs over hosts and links with profiles.
 pub const PROFILES: &str = "\

@@ -1,7 +1,7 @@
 -- The generator, draw by draw.
 use Rattle.std.proofs.Common.{◌≡◌, ℕ, ◌+◌, ◌*◌, ◌%◌, codes, None, ap, ◌∙◌, refl, arith, add-one}
 use Rattle.sg_base.specs.Draw.{drawn, next_state}
-use Rattle.sg_churn.specs.Generated.{drawn_after, host_of, link_of, link_with, name_of, state_after}
+use Rattle.sg_churn.specs.Generated.{drawn_after, churn_host, link_of, link_with, churn_name, state_after}
 use Rattle.sg_rows.specs.declared.rows.HostRow.{HostRow}
 use Rattle.sg_rows.specs.declared.rows.LinkRow.{LinkRow}
 
@@ -13,7 +13,7 @@ more_draws : (seed draws : ℕ) → next_state (state_after seed draws) ≡ stat
 unfolding state_after
 more_draws seed draws = rw (add-one draws)
 
--- the state behind one draw more
+-- the state after one draw more
 pub next_drawn : (seed draws more state next : ℕ) → more ≡ draws + 1 → state ≡ state_after seed draws → next ≡ next_state state → next ≡ state_after seed more
 next_drawn seed draws more state next one here drawn = drawn ∙ ap next_state here ∙ more_draws seed draws ∙ ap (λ n. state_after seed n) (omega arith)
 
@@ -23,13 +23,13 @@ unfolding drawn_after
 drawn_here seed draws most state n here drawn_now = drawn_now ∙ ap (λ s. 1 + drawn s % most) here
 
 abbrev host_with : ℕ → ℕ → HostRow
-host_with row speed = record { id = name_of (codes "h") row; zone = record { 0 = 0 }; speed = speed; cores = 1; power = None }
+host_with row speed = record { id = churn_name (codes "h") row; zone = record { 0 = 0 }; speed = speed; cores = 1; power = None }
 
-pub host_drawn : (seed row speed : ℕ) (host : HostRow) → host ≡ host_with row (speed * 100000000) → speed ≡ drawn_after seed (3 * row) 8 → host ≡ host_of seed row
+pub host_drawn : (seed row speed : ℕ) (host : HostRow) → host ≡ host_with row (speed * 100000000) → speed ≡ drawn_after seed (3 * row) 8 → host ≡ churn_host seed row
 host_drawn seed row speed host made drawn = made ∙ ap (λ s. host_with row (s * 100000000)) drawn
 
-pub link_drawn : (seed row bandwidth latency : ℕ) (made : LinkRow) → made ≡ link_with (name_of (codes "l") row) (bandwidth * 1000000) (latency * 1000)
+pub link_drawn : (seed row bandwidth latency : ℕ) (made : LinkRow) → made ≡ link_with (churn_name (codes "l") row) (bandwidth * 1000000) (latency * 1000)
     → bandwidth ≡ drawn_after seed (3 * row + 1) 8 → latency ≡ drawn_after seed (3 * row + 2) 100 → made ≡ link_of seed row
 link_drawn seed row bandwidth latency made is first second =
-    is ∙ ap (λ b. link_with (name_of (codes "l") row) (b * 1000000) (latency * 1000)) first
-    ∙ ap (λ l. link_with (name_of (codes "l") row) (drawn_after seed (3 * row + 1) 8 * 1000000) (l * 1000)) second
+    is ∙ ap (λ b. link_with (churn_name (codes "l") row) (b * 1000000) (latency * 1000)) first
+    ∙ ap (λ l. link_with (churn_name (codes "l") row) (drawn_after seed (3 * row + 1) 8 * 1000000) (l * 1000)) second

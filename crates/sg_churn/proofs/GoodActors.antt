@@ -8,7 +8,7 @@ use Rattle.sg_base.specs.Limits.{Extent}
 use Rattle.sg_churn.proofs.GoodNames.{row_names}
 use Rattle.sg_churn.proofs.GoodRows.{name_short}
 use Rattle.sg_churn.proofs.NumberedRows.{all_rows, length-rows}
-use Rattle.sg_churn.specs.Generated.{ring_actor, host_of, platform_of_seed, rows}
+use Rattle.sg_churn.specs.Generated.{ring_actor, churn_host, platform_of_seed, rows}
 use Rattle.sg_rows.specs.Deployment.{IsActorRow, IsDeployment, IsFunction, extent_of}
 use Rattle.sg_rows.specs.OfRows.{AreActors, AreNames, ServesWorkers, deployed_with}
 use Rattle.sg_rows.specs.Platform.{Platform}
@@ -43,7 +43,7 @@ actors_named seed actors steps few =
 
 hosts_count : (seed actors : ℕ) → length (platform_of_seed seed actors).hosts ≡ actors
 unfolding platform_of_seed
-hosts_count seed actors = length-rows (host_of seed) actors
+hosts_count seed actors = length-rows (churn_host seed) actors
 
 pub deployment_good : (platform : Platform) (seed actors steps : ℕ) → platform ≡ platform_of_seed seed actors → 2 ≤ actors → actors ≤ 4096 → steps ≤ 1000000
     → AreActors platform (rows (ring_actor seed actors steps) actors)

@@ -10,7 +10,7 @@ use Rattle.sg_base.specs.Draw.{drawn}
 use Rattle.sg_base.specs.declared.ids.PointId.{PointId}
 use Rattle.sg_churn.proofs.GoodNames.{row_names_behind}
 use Rattle.sg_churn.proofs.NumberedRows.{all_rows, distinct_rows, length-rows}
-use Rattle.sg_churn.specs.Generated.{backbone, drawn_after, host_of, link, link_of, name_of, rows, spoke_of, star, state_after}
+use Rattle.sg_churn.specs.Generated.{backbone, drawn_after, churn_host, link, link_of, churn_name, rows, spoke_of, star, state_after}
 use Rattle.sg_rows.proofs.Networks.{plain_kept}
 use Rattle.sg_rows.specs.Ends.{ends_from, link_ends}
 use Rattle.sg_rows.specs.OfRows.{AreDistinct, AreNames, AreRows, IsOfRow, names_of_link, platform_with, point_names}
@@ -28,10 +28,10 @@ drawn_bounds : (seed draws most : ℕ) → 0 < most → (1 ≤ drawn_after seed 
 unfolding drawn_after
 drawn_bounds seed draws most some = one_to (drawn (state_after seed draws)) most some
 
-pub name_short : (c row : ℕ) → row < 4096 → length (name_of (c ∷ []) row) ≤ 64
+pub name_short : (c row : ℕ) → row < 4096 → length (churn_name (c ∷ []) row) ≤ 64
 name_short c row few = omega (arith, length-decimal-le 5 (row + 1) (omega arith) (omega arith) (omega arith))
 
-host_good : (counts : Counts) (seed row : ℕ) → 0 < counts.zones → row < 4096 → IsHostRow counts (host_of seed row)
+host_good : (counts : Counts) (seed row : ℕ) → 0 < counts.zones → row < 4096 → IsHostRow counts (churn_host seed row)
 host_good counts seed row some few =
     let speed = drawn_bounds seed (3 * row) 8 (omega arith) in
     record {
@@ -80,12 +80,12 @@ links_count : (seed actors : ℕ) → length (link_ends (backbone ∷ rows (link
 links_count seed actors =
     omega (arith, length-append (ends_from 0 (backbone ∷ rows (link_of seed) actors)), shared_ends seed 1 (range_with_len 0 actors), length-range_with_len 0 actors)
 
-platform_kept : (seed actors : ℕ) (counts : Counts) → counts ≡ counts_of (platform_with (star ∷ []) (rows (host_of seed) actors) (backbone ∷ rows (link_of seed) actors) (rows spoke_of actors))
+platform_kept : (seed actors : ℕ) (counts : Counts) → counts ≡ counts_of (platform_with (star ∷ []) (rows (churn_host seed) actors) (backbone ∷ rows (link_of seed) actors) (rows spoke_of actors))
     → counts.zones ≡ 1 → counts.points ≡ actors → counts.links ≡ actors + 2 → actors ≤ 4096
-    → IsPlatform (platform_with (star ∷ []) (rows (host_of seed) actors) (backbone ∷ rows (link_of seed) actors) (rows spoke_of actors))
+    → IsPlatform (platform_with (star ∷ []) (rows (churn_host seed) actors) (backbone ∷ rows (link_of seed) actors) (rows spoke_of actors))
 platform_kept seed actors counts same zones points links few = record {
   few_zones = omega arith;
-  few_hosts = omega (arith, length-rows (host_of seed) actors);
+  few_hosts = omega (arith, length-rows (churn_host seed) actors);
   few_routers = omega arith;
   few_links = omega (arith, length-rows (link_of seed) actors);
   few_routes = omega arith;
@@ -94,8 +94,8 @@ platform_kept seed actors counts same zones points links few = record {
   few_profiles = omega arith;
   few_state_profiles = omega arith;
   zones = subst (λ c. All (IsZoneRow c) (star ∷ [])) same (All-cons (IsZoneRow counts) star [] (record { id = omega arith; parent = tt }) (All-nil (IsZoneRow counts)));
-  hosts = subst (λ c. All (IsHostRow c) (rows (host_of seed) actors)) same
-      (all_rows (IsHostRow counts) (host_of seed) actors (λ k below. host_good counts seed k (omega arith) (omega arith)));
+  hosts = subst (λ c. All (IsHostRow c) (rows (churn_host seed) actors)) same
+      (all_rows (IsHostRow counts) (churn_host seed) actors (λ k below. host_good counts seed k (omega arith) (omega arith)));
   routers = All-nil _;
   links = All-cons IsLinkRow backbone (rows (link_of seed) actors) (record { id = omega arith; some_bandwidth = omega arith; bandwidth = omega arith; latency = omega arith })
       (all_rows IsLinkRow (link_of seed) actors (λ k below. link_good seed k (omega arith)));
@@ -116,15 +116,15 @@ backbone_named : IsTrue (is_name (codes "bb"))
 unfolding is_name
 backbone_named = refl
 
-points_named : (seed actors : ℕ) → actors ≤ 4096 → AreNames (point_names (star ∷ []) (rows (host_of seed) actors))
+points_named : (seed actors : ℕ) → actors ≤ 4096 → AreNames (point_names (star ∷ []) (rows (churn_host seed) actors))
 points_named seed actors few =
-    subst (λ names. AreNames (codes "z" ∷ names)) (sym (map-map (λ host. host.id) (host_of seed) (range_with_len 0 actors)))
+    subst (λ names. AreNames (codes "z" ∷ names)) (sym (map-map (λ host. host.id) (churn_host seed) (range_with_len 0 actors)))
     (row_names_behind (codes "z") 104 actors star_named refl (λ row same. let first : 122 ≡ 104 = ap (λ (name : List ℕ). get_or name 0 0) same in absurd (omega arith)) few)
 
 -- a SHARED link takes its own name alone
-own_names : (seed : ℕ) (ks : List ℕ) → flat_map names_of_link (map (link_of seed) ks) ≡ map (name_of (codes "l")) ks
+own_names : (seed : ℕ) (ks : List ℕ) → flat_map names_of_link (map (link_of seed) ks) ≡ map (churn_name (codes "l")) ks
 own_names seed [] = refl
-own_names seed (k ∷ ks) = ap (λ names. name_of (codes "l") k ∷ names) (own_names seed ks)
+own_names seed (k ∷ ks) = ap (λ names. churn_name (codes "l") k ∷ names) (own_names seed ks)
 
 links_named : (seed actors : ℕ) → actors ≤ 4096 → AreNames (flat_map names_of_link (backbone ∷ rows (link_of seed) actors))
 links_named seed actors few =
@@ -155,11 +155,11 @@ ways_of_rows seed actors =
     let links : List LinkRow = backbone ∷ rows (link_of seed) actors in
     all_rows (λ spoke. All (IsOfRow links) (spoke.up ++ spoke.down)) spoke_of actors (λ k below. four_links links k (omega (arith, links_count seed actors)) (omega (arith, links_count seed actors)))
 
-rows_good : (seed actors : ℕ) → actors ≤ 4096 → AreRows (star ∷ []) (rows (host_of seed) actors) (backbone ∷ rows (link_of seed) actors) (rows spoke_of actors)
+rows_good : (seed actors : ℕ) → actors ≤ 4096 → AreRows (star ∷ []) (rows (churn_host seed) actors) (backbone ∷ rows (link_of seed) actors) (rows spoke_of actors)
 rows_good seed actors few =
-    let counts : Counts = counts_of (platform_with (star ∷ []) (rows (host_of seed) actors) (backbone ∷ rows (link_of seed) actors) (rows spoke_of actors)) in
+    let counts : Counts = counts_of (platform_with (star ∷ []) (rows (churn_host seed) actors) (backbone ∷ rows (link_of seed) actors) (rows spoke_of actors)) in
     record {
-      kept = platform_kept seed actors counts refl (omega arith) (omega (arith, length-rows (host_of seed) actors)) (links_count seed actors) few;
+      kept = platform_kept seed actors counts refl (omega arith) (omega (arith, length-rows (churn_host seed) actors)) (links_count seed actors) few;
       named_points = points_named seed actors few;
       named_links = links_named seed actors few;
       children = children_differ actors;
@@ -167,6 +167,6 @@ rows_good seed actors few =
     }
 
 pub platform_good : (seed actors : ℕ) (zones : List ZoneRow) (hosts : List HostRow) (links : List LinkRow) (spokes : List SpokeRow)
-    → zones ≡ star ∷ [] → hosts ≡ rows (host_of seed) actors → links ≡ backbone ∷ rows (link_of seed) actors → spokes ≡ rows spoke_of actors → actors ≤ 4096
+    → zones ≡ star ∷ [] → hosts ≡ rows (churn_host seed) actors → links ≡ backbone ∷ rows (link_of seed) actors → spokes ≡ rows spoke_of actors → actors ≤ 4096
     → AreRows zones hosts links spokes
 platform_good seed actors zones hosts links spokes a b c d few = rw (a, b, c, d) (rows_good seed actors few)

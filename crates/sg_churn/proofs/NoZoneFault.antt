@@ -4,16 +4,16 @@ use Rattle.std.proofs.lemmas.Bool.Decides.{nat_tests}
 use Rattle.std.specs.List.{range_with_len}
 use Rattle.std.specs.Option.{option_or}
 use Rattle.sg_base.specs.declared.ids.ZoneId.{ZoneId}
-use Rattle.sg_churn.specs.Generated.{host_of, platform_of_seed, spoke_of, star}
+use Rattle.sg_churn.specs.Generated.{churn_host, platform_of_seed, spoke_of, star}
 use Rattle.sg_rows.specs.Platform.{Platform}
 use Rattle.sg_zones.proofs.FaultLemmas.{zones_good}
 use Rattle.sg_zones.specs.Faults.{first_along, spoke_gateway_fault, place, row_fault, spoke_fault, fault_if, tree_fault, zone_fault, zones_of}
 use Rattle.sg_zones.specs.Paths.{ancestor}
-use Rattle.sg_zones.specs.Tree.{Tree, tree_of}
+use Rattle.sg_zones.specs.Tree.{Tree, zone_tree}
 use Rattle.sg_zones.specs.declared.fault.ZoneFault.{ZoneFault}
 use Rattle.sg_zones.specs.declared.fault.ZoneFault.TheVariants.{WrongRouting}
 
--- nothing is told along rows that are made from their numbers, where nothing is told of any
+-- rows that are made from their numbers have no fault, if none of them has one
 none_along : {A : Type 0} (told : ℕ → A → Option ZoneFault) (f : ℕ → A) → ((row k : ℕ) → told row (f k) ≡ None) → (row from count : ℕ) → first_along told row (map f (range_with_len from count)) ≡ None
 none_along told f none row from zero = refl
 none_along told f none row from (suc count) = rw (none row from) (none_along told f none (row + 1) (from + 1) count)
@@ -22,7 +22,7 @@ star_alone : tree_fault (star ∷ []) ≡ None
 unfolding ancestor
 star_alone = refl
 
-home_is_star : (seed from count k : ℕ) → slice_index_or (map (λ row. row.zone) (map (host_of seed) (range_with_len from count)) ++ []) k (record { 0 = 0 }) ≡ record { 0 = 0 }
+home_is_star : (seed from count k : ℕ) → slice_index_or (map (λ row. row.zone) (map (churn_host seed) (range_with_len from count)) ++ []) k (record { 0 = 0 }) ≡ record { 0 = 0 }
 home_is_star seed from zero k = refl
 home_is_star seed from (suc count) zero = refl
 home_is_star seed from (suc count) (suc k) = home_is_star seed (from + 1) count k
@@ -33,14 +33,14 @@ same_number k = grind (arith, nat_tests)
 own_gateway : (t : Tree) (row k : ℕ) → spoke_gateway_fault t row (spoke_of k) ≡ None
 own_gateway t row k = rw (same_number k)
 
-star_child : (seed actors row k : ℕ) → spoke_fault (tree_of (platform_of_seed seed actors)) row (spoke_of k) ≡ None
+star_child : (seed actors row k : ℕ) → spoke_fault (zone_tree (platform_of_seed seed actors)) row (spoke_of k) ≡ None
 unfolding platform_of_seed
 star_child seed actors row k = ap (λ (zone : ZoneId). fault_if (false || not (zone.0 == 0)) (WrongRouting (place 7 (row + 1) 1))) (home_is_star seed 0 actors k)
 
-rows_right : (seed actors : ℕ) → row_fault (tree_of (platform_of_seed seed actors)) (platform_of_seed seed actors) ≡ None
+rows_right : (seed actors : ℕ) → row_fault (zone_tree (platform_of_seed seed actors)) (platform_of_seed seed actors) ≡ None
 unfolding platform_of_seed
 rows_right seed actors =
-    let tree : Tree = tree_of (platform_of_seed seed actors) in
+    let tree : Tree = zone_tree (platform_of_seed seed actors) in
     rw (none_along (spoke_gateway_fault tree) spoke_of (own_gateway tree) 0 0 actors) (none_along (spoke_fault tree) spoke_of (star_child seed actors) 0 0 actors)
 
 one_zone : (seed actors : ℕ) → tree_fault (platform_of_seed seed actors).zones ≡ None
@@ -50,7 +50,7 @@ one_zone seed actors = star_alone
 pub no_fault : (seed actors : ℕ) → zone_fault (platform_of_seed seed actors) ≡ None
 no_fault seed actors =
     let churn : Platform = platform_of_seed seed actors in
-    ap (λ o. option_or o (row_fault (tree_of churn) churn)) (one_zone seed actors) ∙ rows_right seed actors
+    ap (λ o. option_or o (row_fault (zone_tree churn) churn)) (one_zone seed actors) ∙ rows_right seed actors
 
-pub tree_built : (seed actors : ℕ) → zones_of (platform_of_seed seed actors) ≡ Ok (tree_of (platform_of_seed seed actors))
+pub tree_built : (seed actors : ℕ) → zones_of (platform_of_seed seed actors) ≡ Ok (zone_tree (platform_of_seed seed actors))
 tree_built seed actors = zones_good (platform_of_seed seed actors) (one_zone seed actors) (rows_right seed actors)

@@ -16,12 +16,12 @@ use Rattle.sg_rows.specs.declared.rows.Routing.TheVariants.{Star}
 use Rattle.sg_rows.specs.declared.rows.SpokeRow.{SpokeRow}
 use Rattle.sg_rows.specs.declared.rows.ZoneRow.{ZoneRow}
 
--- the state of the generator behind so many draws
+-- the state of the generator after so many draws
 unfoldable pub state_after : ℕ → ℕ → ℕ
 state_after seed zero = seed
 state_after seed (suc draws) = next_state (state_after seed draws)
 
--- a number from 1 to `most`, by the draw behind so many others
+-- a number from 1 to `most`, by the draw after so many others
 unfoldable pub drawn_after : ℕ → ℕ → ℕ → ℕ
 drawn_after seed draws most = 1 + drawn (state_after seed draws) % most
 
@@ -30,14 +30,16 @@ abbrev pub rows : {A : Type 0} → (ℕ → A) → ℕ → List A
 rows row_of count = map row_of (range_with_len 0 count)
 
 -- names are numbered from 1 on
-abbrev pub name_of : List ℕ → ℕ → List ℕ
-name_of letter row = letter ++ decimal (row + 1)
+abbrev pub churn_name : List ℕ → ℕ → List ℕ
+churn_name letter row = letter ++ decimal (row + 1)
 
 -- ---- the platform: one Star zone, and for each actor a host, whose link leads to the backbone
 
+-- the one zone of the platform, with Star routing and no parent
 abbrev pub star : ZoneRow
 star = record { id = codes "z"; parent = None; routing = Star }
 
+-- a SHARED link of this name, bandwidth and latency
 abbrev pub link_with : List ℕ → ℕ → ℕ → LinkRow
 link_with id bandwidth latency = record { id = id; bandwidth = bandwidth; latency = latency; policy = Shared }
 
@@ -45,9 +47,11 @@ link_with id bandwidth latency = record { id = id; bandwidth = bandwidth; latenc
 abbrev pub backbone : LinkRow
 backbone = link_with (codes "bb") 1000000000 1000
 
+-- the identifier of the link with this number, where the backbone has number 0
 abbrev pub link : ℕ → LinkId
 link number = record { 0 = number }
 
+-- the spoke of a host: up over its own link and the backbone, down over the same links reversed
 abbrev pub spoke_of : ℕ → SpokeRow
 spoke_of row = record {
   zone = record { 0 = 0 };
@@ -58,32 +62,35 @@ spoke_of row = record {
 }
 
 -- each actor takes three draws: for the speed of its host, and for the bandwidth and the latency of its link
-abbrev pub host_of : ℕ → ℕ → HostRow
-host_of seed row = record {
-  id = name_of (codes "h") row;
+abbrev pub churn_host : ℕ → ℕ → HostRow
+churn_host seed row = record {
+  id = churn_name (codes "h") row;
   zone = record { 0 = 0 };
   speed = drawn_after seed (3 * row) 8 * 100000000;
   cores = 1;
   power = None;
 }
 
+-- the link of a host, whose bandwidth and latency are drawn from the seed
 abbrev pub link_of : ℕ → ℕ → LinkRow
-link_of seed row = link_with (name_of (codes "l") row) (drawn_after seed (3 * row + 1) 8 * 1000000) (drawn_after seed (3 * row + 2) 100 * 1000)
+link_of seed row = link_with (churn_name (codes "l") row) (drawn_after seed (3 * row + 1) 8 * 1000000) (drawn_after seed (3 * row + 2) 100 * 1000)
 
+-- the generated platform: one zone, and for each actor a host, its link and its spoke
 unfoldable pub platform_of_seed : ℕ → ℕ → Platform
 platform_of_seed seed actors =
-    platform_with (star ∷ []) (rows (host_of seed) actors) (backbone ∷ rows (link_of seed) actors) (rows spoke_of actors)
+    platform_with (star ∷ []) (rows (churn_host seed) actors) (backbone ∷ rows (link_of seed) actors) (rows spoke_of actors)
 
 -- ---- the actors: a ring, one on each host
 
--- each sends to the one behind it, and receives from the one before it
+-- each sends to the one after it, and receives from the one before it
 abbrev pub ring_actor : ℕ → ℕ → ℕ → ℕ → ActorRow
 ring_actor seed actors steps row = record {
-  name = name_of (codes "a") row;
+  name = churn_name (codes "a") row;
   host = record { 0 = row };
   function = Churn ((seed + (row + 1)) % 2 ^ 64) (record { 0 = 1 + (row + 1) % actors }) (record { 0 = 1 + (row + (actors - 1)) % actors }) steps;
   start = true;
 }
 
+-- the generated deployment: the ring of actors, with no mutexes and no semaphores
 unfoldable pub deployed_of_seed : ℕ → ℕ → ℕ → Deployed
 deployed_of_seed seed actors steps = deployed_with (rows (ring_actor seed actors steps) actors)

@@ -43,11 +43,11 @@ fn actor_rows(alloc: Global, seed: u64, actors: u32, steps: u32) -> Result<Vec<A
     Ok(made)
 }
 
-/// The actors of a churn with this seed, so many actors and so many steps, on its platform.
+/// Makes the actors of a churn with this seed, so many actors and so many steps, on its platform.
 ///
 /// # Errors
 ///
-/// Want of memory.
+/// Out of memory.
 #[tactic(auto, unfolding(crate::specs::Generated::deployed_of_seed))]
 pub fn churn_deployment(
     alloc: Global,

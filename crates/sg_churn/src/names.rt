@@ -1,14 +1,14 @@
 //! The names of a churn's rows.
 ghost use Rattle.std.specs.Prelude.{◌≡◌, ◌<◌, IfOk};
-ghost use Rattle.sg_churn.specs.Generated.{name_of};
+ghost use Rattle.sg_churn.specs.Generated.{churn_name};
 
 use sg_base::{Memory, Text};
 use std::alloc::Global;
 
-/// The name of the row of this number: a letter, and the number from 1 on.
+/// Returns the name of the row of this number: a letter, and the number from 1 on.
 pub fn row_name(alloc: Global, letter: &str, row: u32) -> Result<Text, Memory>
     requires { row < 4096 }
-    ensures { IfOk result (λ name. name ≡ name_of letter.now row) }
+    ensures { IfOk result (λ name. name ≡ churn_name letter.now row) }
 {
     let number = row + 1;
     let name = format!(in alloc; "{letter}{number}")?;

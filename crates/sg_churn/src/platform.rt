@@ -1,6 +1,6 @@
 //! The platform of a churn.
 ghost use Rattle.std.specs.Prelude.{◌≡◌, ◌<◌, ◌≤◌, ◌^◌, ◌∷◌, [], None, codes, IfOk};
-ghost use Rattle.sg_churn.specs.Generated.{backbone, host_of, link_of, link_with, name_of, platform_of_seed, rows, spoke_of, star};
+ghost use Rattle.sg_churn.specs.Generated.{backbone, churn_host, link_of, link_with, churn_name, platform_of_seed, rows, spoke_of, star};
 
 use crate::names::row_name;
 use sg_actor::draw;
@@ -38,7 +38,7 @@ fn backbone(alloc: Global) -> Result<LinkRow, Memory>
 fn host_row(alloc: Global, row: u32, speed: u64) -> Result<HostRow, Memory>
     requires { row < 4096 }
     ensures { IfOk result (λ host. host ≡ record {
-      id = name_of (codes "h") row;
+      id = churn_name (codes "h") row;
       zone = record { 0 = 0 };
       speed = speed;
       cores = 1;
@@ -56,7 +56,8 @@ fn host_row(alloc: Global, row: u32, speed: u64) -> Result<HostRow, Memory>
 
 fn link_row(alloc: Global, row: u32, bandwidth: u64, latency: u64) -> Result<LinkRow, Memory>
     requires { row < 4096 }
-    ensures { IfOk result (λ made. made ≡ link_with (name_of (codes "l") row) bandwidth latency) }
+    ensures { IfOk result (λ made.
+        made ≡ link_with (churn_name (codes "l") row) bandwidth latency) }
 {
     Ok(LinkRow {
         id: row_name(alloc, "l", row)?,
@@ -66,7 +67,7 @@ fn link_row(alloc: Global, row: u32, bandwidth: u64, latency: u64) -> Result<Lin
     })
 }
 
-/// A way over two links.
+/// Returns a route over two links.
 fn two_links(alloc: Global, first: LinkId, second: LinkId) -> Result<Links, Memory>
     ensures { IfOk result (λ links. links ≡ first ∷ (second ∷ [])) }
 {
@@ -98,7 +99,7 @@ struct Rows {
 
 fn rows_of(alloc: Global, seed: u64, actors: u32) -> Result<Rows, Memory>
     requires { actors ≤ 4096 }
-    ensures hosts { IfOk result (λ made. made.hosts.items ≡ rows (host_of seed) actors) }
+    ensures hosts { IfOk result (λ made. made.hosts.items ≡ rows (churn_host seed) actors) }
     ensures links { IfOk result (λ made. made.links.items ≡ backbone ∷ rows (link_of seed) actors) }
     ensures spokes { IfOk result (λ made. made.spokes.items ≡ rows spoke_of actors) }
 {
@@ -122,11 +123,11 @@ fn rows_of(alloc: Global, seed: u64, actors: u32) -> Result<Rows, Memory>
     })
 }
 
-/// The platform of a churn with this seed and so many actors.
+/// Makes the platform of a churn with this seed and so many actors.
 ///
 /// # Errors
 ///
-/// Want of memory.
+/// Out of memory.
 #[tactic(auto, unfolding(crate::specs::Generated::platform_of_seed))]
 pub fn churn_platform(alloc: Global, seed: u64, actors: u32) -> Result<PlatformText, Memory>
     requires seed { seed < 2 ^ 63 }

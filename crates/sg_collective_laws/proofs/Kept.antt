@@ -8,8 +8,8 @@ use Rattle.sg_base.specs.declared.ids.ActorId.{ActorId}
 use Rattle.sg_collectives.specs.Members.{HasAmounts}
 use Rattle.sg_collectives.specs.declared.collective.Collective.{Collective}
 use Rattle.sg_collectives.specs.declared.collective.Collective.TheVariants as collective
-use Rattle.sg_script.specs.Known.{Known}
-use Rattle.sg_script.specs.Line.{Judgement, actor_in, alone, amount_in, computing_of, entry_of, is_plain, line_of, no_words, of_words, one_actor, one_amount, one_mutex, one_semaphore, one_time, one_word, operation_of, or_bad_amount, receiving_of, sending_of, text_of, then_go, together, two_amounts, with_action, without_return}
+use Rattle.sg_script.specs.Known.{ScriptNames}
+use Rattle.sg_script.specs.Line.{Judgement, actor_in, single_action, script_amount, computing_of, entry_of, is_plain, line_judgement, no_words, of_words, one_actor, one_amount, one_mutex, one_semaphore, one_time, one_word, operation_of, or_bad_amount, receiving_of, sending_of, text_judgement, then_go, together, two_amounts, with_action, without_return}
 use Rattle.sg_script.specs.Verbs.{verb_of}
 use Rattle.sg_script.specs.Words.{words}
 use Rattle.sg_script.specs.declared.fault.LineFault.{LineFault}
@@ -27,7 +27,7 @@ use Rattle.sg_units.specs.declared.fault.AmountFault.TheVariants as amount
 use Rattle.sg_units.specs.declared.units.Ratio.{Ratio}
 
 -- some name stands for the actor
-abbrev pub IsKnown : Known → ActorId → Type 0
+abbrev pub IsKnown : ScriptNames → ActorId → Type 0
 IsKnown known actor = (name : List ℕ) × (known.actor name ≡ Some actor)
 
 abbrev pub KeepsAmounts : Operation → Type 0
@@ -75,7 +75,7 @@ amount_small text =
     either_accepted IsSmall (length n.whole == 0) (Err amount.NotANumber) (value_in_unit (10 ^ 15) n (size_of amount_units n.unit)) tt
     (in_unit_small n (size_of amount_units n.unit))
 
-argument_small : (text : List ℕ) → Accepted IsSmall (amount_in text)
+argument_small : (text : List ℕ) → Accepted IsSmall (script_amount text)
 argument_small text = by (amount_of text) (amount_small text)
   where
     by : (r : Result ℕ AmountFault) → Accepted IsSmall r → Accepted IsSmall (or_bad_amount r)
@@ -86,18 +86,18 @@ abbrev AreSmall : ℕ × ℕ → Type 0
 AreSmall both = IsSmall both.0 × IsSmall both.1
 
 one_small : (args : List (List ℕ)) → Accepted IsSmall (one_amount args)
-one_small args = went (λ _. ⊤) IsSmall (one_word args) amount_in (anything (one_word args)) (λ word _. argument_small word)
+one_small args = went (λ _. ⊤) IsSmall (one_word args) script_amount (anything (one_word args)) (λ word _. argument_small word)
 
 both_small : (args : List (List ℕ)) → Accepted AreSmall (two_amounts args)
 both_small [] = tt
 both_small (one ∷ []) = tt
 both_small (one ∷ two ∷ []) =
-    went IsSmall AreSmall (amount_in one) (λ a. then_go (amount_in two) (λ b. Ok (a, b))) (argument_small one)
-    (λ a small. went IsSmall AreSmall (amount_in two) (λ b. Ok (a, b)) (argument_small two) (λ b small'. (small, small')))
+    went IsSmall AreSmall (script_amount one) (λ a. then_go (script_amount two) (λ b. Ok (a, b))) (argument_small one)
+    (λ a small. went IsSmall AreSmall (script_amount two) (λ b. Ok (a, b)) (argument_small two) (λ b small'. (small, small')))
 both_small (one ∷ two ∷ three ∷ more) = tt
 
 -- ---- operations
-alone_keeps : {X : Type 0} (r : Result X LineFault) (make : X → Action) → Accepted KeepsAmounts (alone make r)
+alone_keeps : {X : Type 0} (r : Result X LineFault) (make : X → Action) → Accepted KeepsAmounts (single_action make r)
 alone_keeps (Ok x) make = tt
 alone_keeps (Err kind) make = tt
 
@@ -106,7 +106,7 @@ together_keeps : {X : Type 0} (P : X → Type 0) (r : Result X LineFault) (make 
 together_keeps P (Ok x) make held each = each x held
 together_keeps P (Err kind) make held each = tt
 
-operation_keeps : (known : Known) (verb : Verb) (args : List (List ℕ)) → Accepted KeepsAmounts (operation_of known verb args)
+operation_keeps : (known : ScriptNames) (verb : Verb) (args : List (List ℕ)) → Accepted KeepsAmounts (operation_of known verb args)
 operation_keeps known Compute args = alone_keeps (computing_of args) (λ c. action.Compute c.0 c.1)
 operation_keeps known Sleep args = alone_keeps (one_time args) action.Sleep
 operation_keeps known Send args = alone_keeps (sending_of known args) (λ s. action.Send s.0 s.1 s.2)
@@ -131,14 +131,14 @@ operation_keeps known Allreduce args = together_keeps AreSmall (two_amounts args
 operation_keeps known Alltoall args = together_keeps IsSmall (one_amount args) collective.Alltoall (one_small args) (λ n small. small)
 
 -- ---- entries
-abbrev IsFrom : Known → Entry → Type 0
+abbrev IsFrom : ScriptNames → Entry → Type 0
 IsFrom known entry = IsKnown known entry.actor × KeepsAmounts entry.operation
 
-abbrev IsGood : Known → Option Entry → Type 0
+abbrev IsGood : ScriptNames → Option Entry → Type 0
 IsGood known None = ⊤
 IsGood known (Some entry) = IsFrom known entry
 
-by_verb : (known : Known) (a : ActorId) (found : Option Verb) (args : List (List ℕ)) → IsKnown known a →
+by_verb : (known : ScriptNames) (a : ActorId) (found : Option Verb) (args : List (List ℕ)) → IsKnown known a →
     Accepted (IsGood known) (then_go (then_go (ok_or found fault.UnknownAction) (λ verb. operation_of known verb args))
     (λ operation. Ok (Some (record { actor = a; operation = operation }))))
 by_verb known a None args is = tt
@@ -146,32 +146,32 @@ by_verb known a (Some verb) args is =
     went KeepsAmounts (IsGood known) (operation_of known verb args) (λ operation. Ok (Some (record { actor = a; operation = operation })))
     (operation_keeps known verb args) (λ operation held. (is, held))
 
-action_good : (known : Known) (a : ActorId) (args : List (List ℕ)) → IsKnown known a → Accepted (IsGood known) (with_action known a args)
+action_good : (known : ScriptNames) (a : ActorId) (args : List (List ℕ)) → IsKnown known a → Accepted (IsGood known) (with_action known a args)
 action_good known a [] is = tt
 action_good known a (word ∷ args) is = by_verb known a (verb_of word) args is
 
-known_actor : (known : Known) (name : List ℕ) → Accepted (IsKnown known) (actor_in known name)
+known_actor : (known : ScriptNames) (name : List ℕ) → Accepted (IsKnown known) (actor_in known name)
 known_actor known name = by (known.actor name) (λ a e. (name, e))
   where
     by : (found : Option ActorId) → ((a : ActorId) → found ≡ Some a → IsKnown known a) → Accepted (IsKnown known) (ok_or found fault.UnknownActor)
     by None told = tt
     by (Some a) told = told a refl
 
-entry_good : (known : Known) (name : List ℕ) (args : List (List ℕ)) → Accepted (IsGood known) (entry_of known name args)
+entry_good : (known : ScriptNames) (name : List ℕ) (args : List (List ℕ)) → Accepted (IsGood known) (entry_of known name args)
 entry_good known name args =
     went (IsKnown known) (IsGood known) (actor_in known name) (λ a. with_action known a args) (known_actor known name) (λ a is. action_good known a args is)
 
-words_good : (known : Known) (plain : Bool) (all : List (List ℕ)) → Accepted (IsGood known) (of_words known plain all)
+words_good : (known : ScriptNames) (plain : Bool) (all : List (List ℕ)) → Accepted (IsGood known) (of_words known plain all)
 words_good known plain [] = tt
 words_good known plain (word ∷ more) =
     either_accepted (IsGood known) (slice_index word 0 == 35) (Ok None) (cond plain (entry_of known word more) (Err fault.NotAscii)) tt
     (either_accepted (IsGood known) plain (entry_of known word more) (Err fault.NotAscii) (entry_good known word more) tt)
 
-line_good : (known : Known) (line : List ℕ) → Accepted (IsGood known) (line_of known line)
+line_good : (known : ScriptNames) (line : List ℕ) → Accepted (IsGood known) (line_judgement known line)
 line_good known line =
     let text : List ℕ = without_return line in
-    either_accepted (IsGood known) (nat_lt 4096 (length line)) (Err fault.TooLong) (text_of known text) tt
+    either_accepted (IsGood known) (nat_lt 4096 (length line)) (Err fault.TooLong) (text_judgement known text) tt
     (words_good known (list_all is_plain text) (words text))
 
-pub entry_kept : (known : Known) (line : List ℕ) (entry : Entry) → line_of known line ≡ Ok (Some entry) → IsKnown known entry.actor × KeepsAmounts entry.operation
+pub entry_kept : (known : ScriptNames) (line : List ℕ) (entry : Entry) → line_judgement known line ≡ Ok (Some entry) → IsKnown known entry.actor × KeepsAmounts entry.operation
 entry_kept known line entry e = subst (λ (j : Judgement). Accepted (IsGood known) j) e (line_good known line)

@@ -1,4 +1,4 @@
--- What runs write that are the same but for the number of a bad line.
+-- What runs write that are the same except for the number of a bad line.
 use Rattle.std.proofs.Common.{◌≡◌, ◌∙◌, ◌-◌, ◌++◌, ap, sym, refl, ℕ, List, Option, None, Some, option_map, unwrap_or}
 use Rattle.sg_edge.specs.Sources.{Source}
 use Rattle.sg_engine.specs.Output.{end_of, last_lines, trace_of, written_of}

@@ -7,8 +7,8 @@ use Rattle.std.proofs.lemmas.List.Splits.{length-slice_split}
 use Rattle.sg_base.specs.declared.ids.ActorId.{ActorId}
 use Rattle.sg_edge.specs.Sources.{Source}
 use Rattle.sg_script.specs.Answer.{is_newline, judgement_of, judgements, line_judgements, lines_among}
-use Rattle.sg_script.specs.Known.{Known}
-use Rattle.sg_script.specs.Line.{Judgement, line_of, text_of, without_return}
+use Rattle.sg_script.specs.Known.{ScriptNames}
+use Rattle.sg_script.specs.Line.{Judgement, line_judgement, text_judgement, without_return}
 use Rattle.sg_script.specs.declared.fault.LineFault.TheVariants as fault
 use Rattle.sg_script.specs.declared.line.Entry.{Entry}
 use Rattle.sg_script.specs.declared.operation.Operation.{Operation}
@@ -20,7 +20,7 @@ use Rattle.sg_collective_laws.proofs.Reading.{AreNamed, expansion_plain}
 use Rattle.sg_collective_laws.proofs.Texts.{Lacks, lacks_split, split_back}
 
 -- ---- few lines
--- whether what stands behind the last newline is a line, where few lines stand before it
+-- whether what stands after the last newline is a line, if few lines stand before it
 abbrev ends_line : Bool → List ℕ → Bool
 ends_line false rest = nat_lt 0 (length rest)
 ends_line true rest = nat_lt 4096 (length rest)
@@ -30,7 +30,7 @@ few_lines broken [] = []
 few_lines broken (rest ∷ []) = cond (ends_line broken rest) (rest ∷ []) []
 few_lines broken (line ∷ part ∷ parts) = line ∷ few_lines broken (part ∷ parts)
 
--- a rest that is told as one line too many isn't there
+-- a rest that is judged as one line too many isn't there
 not_last : (before : ℕ) (rest : List ℕ) (long last : Bool) → (last ≡ true → before ≡ 100000000) →
     before + length (cond (long || last) (rest ∷ []) []) ≤ 100000000 → cond (long || last) (rest ∷ []) [] ≡ cond long (rest ∷ []) []
 not_last before rest true last at few = refl
@@ -47,21 +47,21 @@ lines_few true before (rest ∷ []) few =
 lines_few broken before (line ∷ part ∷ parts) few =
     ap (λ (l : List (List ℕ)). line ∷ l) (lines_few broken (before + 1) (part ∷ parts) (omega arith))
 
-lines_judged_few : (known : Known) (before : ℕ) (lines : List (List ℕ)) → before + length lines ≤ 100000000 →
-    line_judgements known before lines ≡ map (line_of known) lines
+lines_judged_few : (known : ScriptNames) (before : ℕ) (lines : List (List ℕ)) → before + length lines ≤ 100000000 →
+    line_judgements known before lines ≡ map (line_judgement known) lines
 lines_judged_few known before [] few = refl
 lines_judged_few known before (line ∷ lines) few =
-    let first : judgement_of known (before + 1) line ≡ line_of known line =
-    ap (λ (b : Bool). cond b (Err fault.TooManyLines) (line_of known line)) (le-ltb 100000000 (before + 1) (omega arith)) in
-    let behind : line_judgements known (before + 1) lines ≡ map (line_of known) lines = lines_judged_few known (before + 1) lines (omega arith) in
+    let first : judgement_of known (before + 1) line ≡ line_judgement known line =
+    ap (λ (b : Bool). cond b (Err fault.TooManyLines) (line_judgement known line)) (le-ltb 100000000 (before + 1) (omega arith)) in
+    let behind : line_judgements known (before + 1) lines ≡ map (line_judgement known) lines = lines_judged_few known (before + 1) lines (omega arith) in
     λ i. first i ∷ behind i
 
 -- the judgements of a source with few enough lines are those of its lines, whatever their numbers
-pub judged_few : (known : Known) (bytes : List ℕ) (broken : Bool) → length (lines_among broken 0 (slice_split is_newline bytes)) ≤ 100000000 →
-    judgements known 0 bytes broken ≡ map (line_of known) (few_lines broken (slice_split is_newline bytes))
+pub judged_few : (known : ScriptNames) (bytes : List ℕ) (broken : Bool) → length (lines_among broken 0 (slice_split is_newline bytes)) ≤ 100000000 →
+    judgements known 0 bytes broken ≡ map (line_judgement known) (few_lines broken (slice_split is_newline bytes))
 judged_few known bytes broken few =
     lines_judged_few known 0 (lines_among broken 0 (slice_split is_newline bytes)) (omega arith)
-    ∙ ap (map (line_of known)) (lines_few broken 0 (slice_split is_newline bytes) (omega arith))
+    ∙ ap (map (line_judgement known)) (lines_few broken 0 (slice_split is_newline bytes) (omega arith))
 
 few_lines_append : (broken : Bool) (lines parts : List (List ℕ)) → 0 < length parts → few_lines broken (lines ++ parts) ≡ lines ++ few_lines broken parts
 few_lines_append broken lines [] some = absurd (omega arith)
@@ -75,8 +75,8 @@ few_lines_ended : (lines : List (List ℕ)) → few_lines false (lines ++ [] ∷
 few_lines_ended lines = few_lines_append false lines ([] ∷ []) (omega arith) ∙ append-nil lines
 
 -- ---- replaced
-module _ (known : Known) (name : Naming) where
-  own_lines : (line : List ℕ) (judged : Judgement) → line_of known line ≡ judged → lines_judged known name line judged ≡ lines_for known name line
+module _ (known : ScriptNames) (name : Naming) where
+  own_lines : (line : List ℕ) (judged : Judgement) → line_judgement known line ≡ judged → lines_judged known name line judged ≡ lines_for known name line
   own_lines line judged e = ap (lines_judged known name line) (sym e)
 
   -- a line that is too long stands for itself
@@ -85,7 +85,7 @@ module _ (known : Known) (name : Naming) where
     where
       by : (b : Bool) → nat_lt 4096 (length rest) ≡ b → cond b (rest ∷ []) [] ≡ flat_map (lines_for known name) (cond b (rest ∷ []) [])
       by true e =
-          let long : line_of known rest ≡ Err fault.TooLong = ap (λ (b : Bool). cond b (Err fault.TooLong) (text_of known (without_return rest))) e in
+          let long : line_judgement known rest ≡ Err fault.TooLong = ap (λ (b : Bool). cond b (Err fault.TooLong) (text_judgement known (without_return rest))) e in
           sym (append-nil (rest ∷ [])) ∙ ap (λ (l : List (List ℕ)). l ++ []) (own_lines rest (Err fault.TooLong) long)
       by false e = refl
 
@@ -102,17 +102,17 @@ module _ (known : Known) (name : Naming) where
       few_lines_ended lines ∙ sym (append-nil lines) ∙ ap (λ (l : List (List ℕ)). l ++ []) (sym same)
       ∙ ap (λ (b : Bool). flat_map (lines_for known name) (cond b (rest ∷ []) [])) (sym (lt-ltb 0 (length rest) some))
 
-  some_rest : (rest : List ℕ) (entry : Entry) → line_of known rest ≡ Ok (Some entry) → 0 < length rest
+  some_rest : (rest : List ℕ) (entry : Entry) → line_judgement known rest ≡ Ok (Some entry) → 0 < length rest
   some_rest [] entry e = absurd (cc e)
   some_rest (b ∷ rest) entry e = omega arith
 
-  asking_rest : (rest : List ℕ) (actor : ActorId) (operation : Operation) → line_of known rest ≡ Ok (Some (record { actor = actor; operation = operation })) →
+  asking_rest : (rest : List ℕ) (actor : ActorId) (operation : Operation) → line_judgement known rest ≡ Ok (Some (record { actor = actor; operation = operation })) →
       few_lines false (rest_asking known name rest actor operation) ≡ flat_map (lines_for known name) (few_lines false (rest ∷ []))
   asking_rest rest actor (Alone action) e = kept_rest rest (ap (lines_judged known name rest) e)
   asking_rest rest actor (Together collective) e =
       collective_rest rest (expansion_lines name known.members actor collective) (ap (lines_judged known name rest) e) (some_rest rest _ e)
 
-  judged_rest : (rest : List ℕ) (judged : Judgement) → line_of known rest ≡ judged →
+  judged_rest : (rest : List ℕ) (judged : Judgement) → line_judgement known rest ≡ judged →
       few_lines false (rest_judged known name rest judged) ≡ flat_map (lines_for known name) (few_lines false (rest ∷ []))
   judged_rest rest (Ok None) e = kept_rest rest (ap (lines_judged known name rest) e)
   judged_rest rest (Ok (Some entry)) e = asking_rest rest entry.actor entry.operation e
@@ -131,7 +131,7 @@ module _ (known : Known) (name : Naming) where
   some_parts : (broken : Bool) (parts : List (List ℕ)) → 0 < length parts → 0 < length (expanded_parts known name broken parts)
   some_parts broken [] some = absurd (omega arith)
   some_parts true (rest ∷ []) some = omega arith
-  some_parts false (rest ∷ []) some = some_judged rest (line_of known rest)
+  some_parts false (rest ∷ []) some = some_judged rest (line_judgement known rest)
   some_parts broken (line ∷ part ∷ parts) some =
       omega (arith, length-append (lines_for known name line) (expanded_parts known name broken (part ∷ parts)), some_parts broken (part ∷ parts) (omega arith))
 
@@ -140,33 +140,33 @@ module _ (known : Known) (name : Naming) where
       few_lines broken (expanded_parts known name broken parts) ≡ flat_map (lines_for known name) (few_lines broken parts)
   lines_expanded broken [] = refl
   lines_expanded true (rest ∷ []) = broken_rest rest
-  lines_expanded false (rest ∷ []) = judged_rest rest (line_of known rest) refl
+  lines_expanded false (rest ∷ []) = judged_rest rest (line_judgement known rest) refl
   lines_expanded broken (line ∷ part ∷ parts) =
       few_lines_append broken (lines_for known name line) (expanded_parts known name broken (part ∷ parts)) (some_parts broken (part ∷ parts) (omega arith))
       ∙ ap (λ (l : List (List ℕ)). lines_for known name line ++ l) (lines_expanded broken (part ∷ parts))
 
 -- ---- joined, and cut again
-module _ (known : Known) (name : Naming) (are : AreNamed known name) where
-  plain_asking : (line : List ℕ) (actor : ActorId) (operation : Operation) → line_of known line ≡ Ok (Some (record { actor = actor; operation = operation })) →
+module _ (known : ScriptNames) (name : Naming) (are : AreNamed known name) where
+  plain_asking : (line : List ℕ) (actor : ActorId) (operation : Operation) → line_judgement known line ≡ Ok (Some (record { actor = actor; operation = operation })) →
       Lacks is_newline line → All (Lacks is_newline) (lines_asking known name line actor operation)
   plain_asking line actor (Alone action) e lacks = All-cons (Lacks is_newline) line [] lacks (All-nil (Lacks is_newline))
   plain_asking line actor (Together collective) e lacks =
       let kept = entry_kept known line (record { actor = actor; operation = Together collective }) e in
       expansion_plain known name are actor kept.0 collective kept.1
 
-  plain_judged : (line : List ℕ) (judged : Judgement) → line_of known line ≡ judged → Lacks is_newline line → All (Lacks is_newline) (lines_judged known name line judged)
+  plain_judged : (line : List ℕ) (judged : Judgement) → line_judgement known line ≡ judged → Lacks is_newline line → All (Lacks is_newline) (lines_judged known name line judged)
   plain_judged line (Ok None) e lacks = All-cons (Lacks is_newline) line [] lacks (All-nil (Lacks is_newline))
   plain_judged line (Ok (Some entry)) e lacks = plain_asking line entry.actor entry.operation e lacks
   plain_judged line (Err kind) e lacks = All-cons (Lacks is_newline) line [] lacks (All-nil (Lacks is_newline))
 
-  rest_plain_asking : (rest : List ℕ) (actor : ActorId) (operation : Operation) → line_of known rest ≡ Ok (Some (record { actor = actor; operation = operation })) →
+  rest_plain_asking : (rest : List ℕ) (actor : ActorId) (operation : Operation) → line_judgement known rest ≡ Ok (Some (record { actor = actor; operation = operation })) →
       Lacks is_newline rest → All (Lacks is_newline) (rest_asking known name rest actor operation)
   rest_plain_asking rest actor (Alone action) e lacks = All-cons (Lacks is_newline) rest [] lacks (All-nil (Lacks is_newline))
   rest_plain_asking rest actor (Together collective) e lacks =
       All-append (Lacks is_newline) (expansion_lines name known.members actor collective) ([] ∷ []) (plain_asking rest actor (Together collective) e lacks)
       (All-cons (Lacks is_newline) [] [] (All-nil (λ b. is_newline b ≡ false)) (All-nil (Lacks is_newline)))
 
-  rest_plain_judged : (rest : List ℕ) (judged : Judgement) → line_of known rest ≡ judged → Lacks is_newline rest → All (Lacks is_newline) (rest_judged known name rest judged)
+  rest_plain_judged : (rest : List ℕ) (judged : Judgement) → line_judgement known rest ≡ judged → Lacks is_newline rest → All (Lacks is_newline) (rest_judged known name rest judged)
   rest_plain_judged rest (Ok None) e lacks = All-cons (Lacks is_newline) rest [] lacks (All-nil (Lacks is_newline))
   rest_plain_judged rest (Ok (Some entry)) e lacks = rest_plain_asking rest entry.actor entry.operation e lacks
   rest_plain_judged rest (Err kind) e lacks = All-cons (Lacks is_newline) rest [] lacks (All-nil (Lacks is_newline))
@@ -174,10 +174,10 @@ module _ (known : Known) (name : Naming) (are : AreNamed known name) where
   plain_parts : (broken : Bool) (parts : List (List ℕ)) → All (Lacks is_newline) parts → All (Lacks is_newline) (expanded_parts known name broken parts)
   plain_parts broken [] all = All-nil (Lacks is_newline)
   plain_parts true (rest ∷ []) all = all
-  plain_parts false (rest ∷ []) all = rest_plain_judged rest (line_of known rest) refl (All-head (Lacks is_newline) rest [] all)
+  plain_parts false (rest ∷ []) all = rest_plain_judged rest (line_judgement known rest) refl (All-head (Lacks is_newline) rest [] all)
   plain_parts broken (line ∷ part ∷ parts) all =
       All-append (Lacks is_newline) (lines_for known name line) (expanded_parts known name broken (part ∷ parts))
-      (plain_judged line (line_of known line) refl (All-head (Lacks is_newline) line (part ∷ parts) all))
+      (plain_judged line (line_judgement known line) refl (All-head (Lacks is_newline) line (part ∷ parts) all))
       (plain_parts broken (part ∷ parts) (All-tail (Lacks is_newline) line (part ∷ parts) all))
 
   -- the parts of the expanded source
@@ -192,9 +192,9 @@ module _ (known : Known) (name : Naming) (are : AreNamed known name) where
   -- the judgements of the expanded source are those of the lines that stand for the lines of the source
   pub judged_expanded : (source : Source) → line_count (expanded known name source) ≤ 100000000 →
       judgements known 0 (expanded known name source).bytes source.broken
-      ≡ map (line_of known) (flat_map (lines_for known name) (few_lines source.broken (slice_split is_newline source.bytes)))
+      ≡ map (line_judgement known) (flat_map (lines_for known name) (few_lines source.broken (slice_split is_newline source.bytes)))
   judged_expanded source few =
       let parts : List (List ℕ) = slice_split is_newline source.bytes in
       judged_few known (expanded known name source).bytes source.broken few
-      ∙ ap (λ (ps : List (List ℕ)). map (line_of known) (few_lines source.broken ps)) (parts_expanded source)
-      ∙ ap (map (line_of known)) (lines_expanded known name source.broken parts)
+      ∙ ap (λ (ps : List (List ℕ)). map (line_judgement known) (few_lines source.broken ps)) (parts_expanded source)
+      ∙ ap (map (line_judgement known)) (lines_expanded known name source.broken parts)

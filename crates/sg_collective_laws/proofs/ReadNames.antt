@@ -10,7 +10,7 @@ use Rattle.std.proofs.lemmas.Option.{same_Some, slice_get-get_or}
 use Rattle.std.proofs.lemmas.Slice.Eq.{bytes_eq-Decides}
 use Rattle.sg_base.specs.declared.ids.ActorId.{ActorId}
 use Rattle.sg_platform.specs.Build.{actor_row}
-use Rattle.sg_platform.specs.DeploymentOf.{deployment_of, names_on, rows_of, tree_deployment}
+use Rattle.sg_platform.specs.DeploymentOf.{deployment_of, names_on, deployment_rows, tree_deployment}
 use Rattle.sg_platform.specs.PlatformOf.{greatest_text, rows_unless, too_long}
 use Rattle.sg_rows.specs.Deployment.{Deployed, id_if_replay, member_ids, members_among, members_of, replay_actor_named}
 use Rattle.sg_rows.specs.Index.{names_if_replay, number_by}
@@ -156,8 +156,8 @@ module _ (names : Known) (tree : Tree) (none : first (faults_of names deployment
     own : HasOwnName names place data_row
     name : row.name ≡ own.text
 
-  row_from : (place : ℕ) (row : ActorRow) → slice_get (rows_of names tree).actors place ≡ Some row → IsRow place row
-  unfolding rows_of actor_row
+  row_from : (place : ℕ) (row : ActorRow) → slice_get (deployment_rows names tree).actors place ≡ Some row → IsRow place row
+  unfolding deployment_rows actor_row
   row_from place row at =
       let made = mapped_at (actor_row names) (rows_at (codes "actor") tree) place row at in
       let own : HasOwnName names place made.item = data_named place made.item made.at in
@@ -168,7 +168,7 @@ module _ (names : Known) (tree : Tree) (none : first (faults_of names deployment
         name = sym (ap (λ (r : ActorRow). r.name) made.is) ∙ ap (λ (o : Option (List ℕ)). unwrap_or o []) own.there;
       }
 
-  spelled_at : (place : ℕ) (row : ActorRow) → slice_get (rows_of names tree).actors place ≡ Some row → is_name row.name ≡ true
+  spelled_at : (place : ℕ) (row : ActorRow) → slice_get (deployment_rows names tree).actors place ≡ Some row → is_name row.name ≡ true
   spelled_at place row at =
       let from = row_from place row at in
       ap is_name from.name ∙ from.own.spelled
@@ -177,8 +177,8 @@ module _ (names : Known) (tree : Tree) (none : first (faults_of names deployment
   AreNumbered : Type 0
   AreNumbered = (text : List ℕ) → names.actors text ≡ lookup (bytes_eq text) (numbered (texts_at (codes "name")) 0 (rows_at (codes "actor") tree))
 
-  apart : AreNumbered → (place : ℕ) (row : ActorRow) → slice_get (rows_of names tree).actors place ≡ Some row → (earlier : ℕ) (other : ActorRow) → earlier < place →
-      slice_get (rows_of names tree).actors earlier ≡ Some other → other.name ≡ row.name → ⊥
+  apart : AreNumbered → (place : ℕ) (row : ActorRow) → slice_get (deployment_rows names tree).actors place ≡ Some row → (earlier : ℕ) (other : ActorRow) → earlier < place →
+      slice_get (deployment_rows names tree).actors earlier ≡ Some other → other.name ≡ row.name → ⊥
   unfolding AreNumbered
   apart numbered place row at earlier other less at' same =
       let from = row_from place row at in
@@ -253,12 +253,12 @@ member_named deployed apart member is =
 
 -- ---- texts
 tree_named : (names : Known) (tree : Tree) → ((text : List ℕ) → names.actors text ≡ lookup (bytes_eq text) (numbered (texts_at (codes "name")) 0 (rows_at (codes "actor") tree))) →
-    first (faults_of names deployment_tables tree) ≡ None → HasNames (rows_of names tree)
+    first (faults_of names deployment_tables tree) ≡ None → HasNames (deployment_rows names tree)
 unfolding members_among AreNumbered
 tree_named names tree numbered none = record {
-  spelled = λ k d less. spelled_at names tree none k (get_or (rows_of names tree).actors k d) (slice_get-get_or (rows_of names tree).actors k d less);
-  own = All-weaker (IsMember (rows_of names tree).actors 0) (λ member. replay_actor_named (rows_of names tree) (name_of (rows_of names tree) member) ≡ Some member)
-      (member_named (rows_of names tree) (apart names tree none numbered)) (members_of (rows_of names tree)) (all_members (rows_of names tree).actors 0);
+  spelled = λ k d less. spelled_at names tree none k (get_or (deployment_rows names tree).actors k d) (slice_get-get_or (deployment_rows names tree).actors k d less);
+  own = All-weaker (IsMember (deployment_rows names tree).actors 0) (λ member. replay_actor_named (deployment_rows names tree) (name_of (deployment_rows names tree) member) ≡ Some member)
+      (member_named (deployment_rows names tree) (apart names tree none numbered)) (members_of (deployment_rows names tree)) (all_members (deployment_rows names tree).actors 0);
 }
 
 numbered_on : (platform : Platform) (tree : Tree) (text : List ℕ) →
@@ -271,7 +271,7 @@ Has (Ok deployed) = HasNames deployed
 Has (Err why) = Unit {0}
 
 unless_named : (platform : Platform) (tree : Tree) (fault : Option Fault) → first (faults_of (names_on platform tree) deployment_tables tree) ≡ fault →
-    Has (rows_unless fault (rows_of (names_on platform tree) tree))
+    Has (rows_unless fault (deployment_rows (names_on platform tree) tree))
 unless_named platform tree None e = tree_named (names_on platform tree) tree (numbered_on platform tree) e
 unless_named platform tree (Some fault) e = tt
 

@@ -17,8 +17,8 @@ use Rattle.sg_collectives.specs.declared.step.Step.TheVariants.{Recv, Send, Comp
 use Rattle.sg_collectives.proofs.Limited.{step_keeps_limits}
 use Rattle.sg_collectives.proofs.MemberLemmas.{rank_below, step_names_member}
 use Rattle.sg_script.specs.Answer.{is_newline}
-use Rattle.sg_script.specs.Known.{Known}
-use Rattle.sg_script.specs.Line.{Judgement, entry_of, is_plain, line_of, of_words, text_of, then_go, with_action, without_return}
+use Rattle.sg_script.specs.Known.{ScriptNames}
+use Rattle.sg_script.specs.Line.{Judgement, entry_of, is_plain, line_judgement, of_words, text_judgement, then_go, with_action, without_return}
 use Rattle.sg_script.specs.Words.{is_blank, words}
 use Rattle.sg_script.proofs.WordLemmas.{is_some_word}
 use Rattle.sg_script.specs.declared.fault.LineFault.TheVariants as fault
@@ -30,8 +30,8 @@ use Rattle.sg_collective_laws.proofs.Texts.{IsWord, Lacks, all_joined, is_word_b
 
 -- ---- a line of words
 -- plain words with spaces between them, of which the first begins no comment, are read as these words
-pub reads_words : (known : Known) (word : List ℕ) (more : List (List ℕ)) → All IsWord (word ∷ more) → length more ≤ 3 → (slice_index word 0 == 35) ≡ false →
-    line_of known (join_with_byte 32 (word ∷ more)) ≡ entry_of known word more
+pub reads_words : (known : ScriptNames) (word : List ℕ) (more : List (List ℕ)) → All IsWord (word ∷ more) → length more ≤ 3 → (slice_index word 0 == 35) ≡ false →
+    line_judgement known (join_with_byte 32 (word ∷ more)) ≡ entry_of known word more
 reads_words known word more all few clear =
     let text : List ℕ = join_with_byte 32 (word ∷ more) in
     let plain : All (λ b. is_plain b ≡ true) text =
@@ -40,20 +40,20 @@ reads_words known word more all few clear =
     let cut : slice_split is_blank text ≡ word ∷ more = split_joined is_blank 32 refl word more (All-weaker IsWord (Lacks is_blank) word_whole (word ∷ more) all) in
     let whole : words text ≡ word ∷ more =
     ap (filter is_some_word) cut ∙ kept_words (word ∷ more) (All-weaker IsWord (λ w. 0 < length w) (λ w is. is.some) (word ∷ more) all) in
-    ap (λ (b : Bool). cond b (Err fault.TooLong) (text_of known (without_return text))) (le-ltb 4096 (length text) (omega arith))
-    ∙ ap (text_of known) (no_return text plain)
+    ap (λ (b : Bool). cond b (Err fault.TooLong) (text_judgement known (without_return text))) (le-ltb 4096 (length text) (omega arith))
+    ∙ ap (text_judgement known) (no_return text plain)
     ∙ (λ i. of_words known (passes_all is_plain text plain i) (whole i))
     ∙ ap (λ (b : Bool). cond b (Ok None) (entry_of known word more)) clear
 
 -- ---- names
--- the name is a word that stands for the actor at the front of a line and behind
-pub record IsNamed (known : Known) (name : List ℕ) (actor : ActorId) : Type 0 where
+-- the name is a word that stands for the actor at the front of a line and later in it
+pub record IsNamed (known : ScriptNames) (name : List ℕ) (actor : ActorId) : Type 0 where
   pub word : IsWord name
   pub clear : (slice_index name 0 == 35) ≡ false
   pub means : known.actor name ≡ Some actor
 
 -- every actor that can be named has a name, and each member can be; they exist
-pub record AreNamed (known : Known) (name : Naming) : Type 0 where
+pub record AreNamed (known : ScriptNames) (name : Naming) : Type 0 where
   pub named : (actor : ActorId) → IsKnown known actor → IsNamed known (name actor) actor
   pub members : All (IsKnown known) known.members
   pub extent : Extent
@@ -94,7 +94,7 @@ isend_word = verb_is_word (codes "isend") (omega arith) (omega arith) refl
 wait_word : IsWord (codes "wait")
 wait_word = verb_is_word (codes "wait") (omega arith) (omega arith) refl
 
-module _ (known : Known) (name : Naming) (are : AreNamed known name) where
+module _ (known : ScriptNames) (name : Naming) (are : AreNamed known name) where
   peer_named : (peer : ℕ) → peer < length known.members → IsNamed known (name (member known.members peer)) (member known.members peer)
   peer_named peer below = are.named (member known.members peer) (All-get_or (IsKnown known) known.members peer (record { 0 = 0 }) below are.members)
 
@@ -117,7 +117,7 @@ module _ (known : Known) (name : Naming) (are : AreNamed known name) where
   few_words (ISend peer bytes) = omega arith
   few_words Wait = omega arith
 
-  -- the words behind the actor's name say the action
+  -- the words after the actor's name say the action
   words_say : (extent : Extent) (actor : ActorId) (step : Step) → NamesMember (length known.members) step → IsAction extent (action_of known.members step) →
       with_action known actor (step_words (λ rank. name (member known.members rank)) step) ≡ entry_for actor (action_of known.members step)
   words_say extent actor (Recv peer) names limited = let means = (peer_named peer names).means in rw means refl
@@ -131,7 +131,7 @@ module _ (known : Known) (name : Naming) (are : AreNamed known name) where
 
   -- ---- whole lines
   abbrev IsRead : ActorId → Step → Type 0
-  IsRead actor step = line_of known (step_line name known.members actor step) ≡ entry_for actor (action_of known.members step)
+  IsRead actor step = line_judgement known (step_line name known.members actor step) ≡ entry_for actor (action_of known.members step)
 
   abbrev IsPlain : ActorId → Step → Type 0
   IsPlain actor step = Lacks is_newline (step_line name known.members actor step)
@@ -156,11 +156,11 @@ module _ (known : Known) (name : Naming) (are : AreNamed known name) where
 
   -- ---- whole expansions
   all_read : (actor : ActorId) (steps : List Step) → All (IsRead actor) steps →
-      map (line_of known) (map (step_line name known.members actor) steps) ≡ map (entry_for actor) (map (action_of known.members) steps)
+      map (line_judgement known) (map (step_line name known.members actor) steps) ≡ map (entry_for actor) (map (action_of known.members) steps)
   all_read actor [] all = refl
   all_read actor (step ∷ steps) all =
-      let first : line_of known (step_line name known.members actor step) ≡ entry_for actor (action_of known.members step) = All-head (IsRead actor) step steps all in
-      let behind : map (line_of known) (map (step_line name known.members actor) steps) ≡ map (entry_for actor) (map (action_of known.members) steps) = all_read actor steps (All-tail (IsRead actor) step steps all) in
+      let first : line_judgement known (step_line name known.members actor step) ≡ entry_for actor (action_of known.members step) = All-head (IsRead actor) step steps all in
+      let behind : map (line_judgement known) (map (step_line name known.members actor) steps) ≡ map (entry_for actor) (map (action_of known.members) steps) = all_read actor steps (All-tail (IsRead actor) step steps all) in
       λ i. first i ∷ behind i
 
   module _ (actor : ActorId) (is : IsKnown known actor) (collective : Collective) (has : HasAmounts collective) where
@@ -173,14 +173,14 @@ module _ (known : Known) (name : Naming) (are : AreNamed known name) where
         (step_keeps_limits are.extent known.members collective rank k (get_or steps k d) below at are.exist has)
 
     at_rank : (rank : Option ℕ) → ((r : ℕ) → rank ≡ Some r → r < length known.members) →
-        map (line_of known) (lines_at name known.members actor collective rank) ≡ map (entry_for actor) (actions_at known.members collective rank)
+        map (line_judgement known) (lines_at name known.members actor collective rank) ≡ map (entry_for actor) (actions_at known.members collective rank)
     at_rank None within = refl
     at_rank (Some rank) within =
         all_read actor (expansion collective rank (length known.members))
         (each_step (IsRead actor) (λ step names limited. step_read are.extent actor step is names limited) rank (within rank refl))
 
     -- the lines of an expansion say its actions
-    pub expansion_read : map (line_of known) (expansion_lines name known.members actor collective)
+    pub expansion_read : map (line_judgement known) (expansion_lines name known.members actor collective)
         ≡ map (entry_for actor) (collective_actions known.members actor.0 collective)
     unfolding collective_actions
     expansion_read = at_rank (rank_of known.members actor.0) (λ r e. rank_below known.members actor.0 r e)

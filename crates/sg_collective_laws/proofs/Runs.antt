@@ -4,7 +4,7 @@ use Rattle.std.specs.Option.{option_map_or}
 use Rattle.sg_base.specs.declared.call.Action.{Action}
 use Rattle.sg_base.specs.declared.call.Call.{Call}
 use Rattle.sg_base.specs.declared.ids.ActorId.{ActorId}
-use Rattle.sg_engine.specs.Run.{Answering, Progress, Scene, and_then, and_then_by, answer_step, anyone_ready, are_completed, is_ask, ask_step, at_world, calls_from, created_by, creates, if_call, in_world, one_call, other_call, round, round_or_pass, run_from, unless_killed}
+use Rattle.sg_engine.specs.Run.{Answering, Progress, Scene, then_unless_ended, and_then_by, answer_step, anyone_ready, are_completed, is_ask, ask_step, at_world, calls_from, created_by, creates, if_call, in_world, one_call, other_call, round, round_or_pass, run_from, unless_killed}
 use Rattle.sg_engine.specs.World.{World}
 use Rattle.sg_engine.specs.declared.ended.Ended.{Ended}
 use Rattle.sg_engine.specs.declared.ended.Ended.TheVariants as ended
@@ -20,7 +20,7 @@ use Rattle.sg_script.specs.declared.fault.ScriptFault.TheVariants as fault
 use Rattle.sg_collective_laws.specs.Alike.{AnswerAlike, unnumbered_answer, unnumbered_end}
 use Rattle.sg_collective_laws.specs.Laws.{AnswersMakeRuns}
 
--- two stretches lead to the same but for the number of a bad line
+-- two stretches lead to the same except for the number of a bad line
 record Alike (p q : Progress) : Type 0 where
   pub world : p.world ≡ q.world
   pub made : p.made ≡ q.made
@@ -53,10 +53,10 @@ joined_by None (Some there) p q f g each is e = absurd (cc e)
 joined_by (Some here) None p q f g each is e = absurd (cc e)
 joined_by (Some here) (Some there) p q f g each is e = is
 
-joined : (p q : Progress) (f g : World → Progress) → ((world : World) → Alike (f world) (g world)) → Alike p q → Alike (and_then p f) (and_then q g)
+joined : (p q : Progress) (f g : World → Progress) → ((world : World) → Alike (f world) (g world)) → Alike p q → Alike (then_unless_ended p f) (then_unless_ended q g)
 joined p q f g each is = joined_by p.ended q.ended p q f g each is is.ended
 
--- ---- answers to Asks
+-- ---- answers to fetches
 without_number : (setup : Setup) (actor : ℕ) (answer : Result (Option Action) ScriptFault) (world : World) →
     Alike (answer_step setup actor answer world) (answer_step setup actor (unnumbered_answer answer) world)
 without_number setup actor (Ok action) world = same _
@@ -120,7 +120,7 @@ module _ (at : Scene) (one other : Answering) (alike : AnswerAlike one other) wh
       let over : Progress = at_world (Some ended.Completed) world in
       let first = round_or_pass at one world in
       let second = round_or_pass at other world in
-      either (are_completed world.core) over (and_then first (run_from n at one)) over (and_then second (run_from n at other)) (same over)
+      either (are_completed world.core) over (then_unless_ended first (run_from n at one)) over (then_unless_ended second (run_from n at other)) (same over)
       (joined first second (run_from n at one) (run_from n at other) (λ w. parts n w) (part world))
 
 pub runs_alike : AnswersMakeRuns

@@ -1,5 +1,5 @@
--- Answers, runs and outputs without the number of a bad line: where these are equal, the answers, runs and outputs are the
--- same but for that number.
+-- Answers, runs and outputs without the number of a bad line: if these are equal, the answers, runs and outputs are the
+-- same except for that number.
 use Rattle.std.specs.Prelude.{◌≡◌, ℕ, Option, option_map, Result, Ok, Err}
 use Rattle.sg_base.specs.declared.call.Action.{Action}
 use Rattle.sg_engine.specs.Output.{Output}
@@ -25,11 +25,12 @@ unnumbered_end other = other
 abbrev pub unnumbered : Progress → Progress
 unnumbered progress = record progress { ended = option_map unnumbered_end progress.ended }
 
--- two scripts have the same answer to each Ask of each actor
+-- two scripts have the same answer to each fetch of each actor
 abbrev pub AnswerAlike : Answering → Answering → Type 0
 AnswerAlike one other = (actor earlier : ℕ) → unnumbered_answer (one actor earlier) ≡ unnumbered_answer (other actor earlier)
 
--- two runs write the same on Out, end alike, take as many contexts and have the same work; on Err they tell how they ended
+-- two runs write the same on Out, end alike, take as many contexts and have the same work; on Err they report how they
+-- ended
 pub record WriteAlike (one other : Output) : Type 0 where
   pub out : one.out ≡ other.out
   pub ended : unnumbered_end one.ended ≡ unnumbered_end other.ended

@@ -6,8 +6,8 @@ use Rattle.sg_edge.specs.Sources.{Source}
 use Rattle.sg_rows.specs.Deployment.{Deployed, members_of, replay_actor_named}
 use Rattle.sg_rows.specs.declared.rows.ActorRow.{ActorRow}
 use Rattle.sg_script.specs.Answer.{is_newline, lines_among}
-use Rattle.sg_script.specs.Known.{Known, known_in}
-use Rattle.sg_script.specs.Line.{Judgement, line_of}
+use Rattle.sg_script.specs.Known.{ScriptNames, known_in}
+use Rattle.sg_script.specs.Line.{Judgement, line_judgement}
 use Rattle.sg_script.specs.declared.operation.Operation.{Operation}
 use Rattle.sg_script.specs.declared.operation.Operation.TheVariants.{Alone, Together}
 use Rattle.sg_tree.specs.Spelling.{is_name}
@@ -15,46 +15,46 @@ use Rattle.sg_collective_laws.specs.Written.{Naming, expansion_lines}
 
 -- ---- one line
 -- the lines that stand for a line of an actor, which asks for this
-abbrev pub lines_asking : Known → Naming → List ℕ → ActorId → Operation → List (List ℕ)
+abbrev pub lines_asking : ScriptNames → Naming → List ℕ → ActorId → Operation → List (List ℕ)
 lines_asking known name line actor (Alone action) = line ∷ []
 lines_asking known name line actor (Together collective) =
     expansion_lines name known.members actor collective
 
-abbrev pub lines_judged : Known → Naming → List ℕ → Judgement → List (List ℕ)
+abbrev pub lines_judged : ScriptNames → Naming → List ℕ → Judgement → List (List ℕ)
 lines_judged known name line (Ok (Some entry)) =
     lines_asking known name line entry.actor entry.operation
 lines_judged known name line other = line ∷ []
 
 -- the lines that stand for this one: those of its expansion for a collective, else itself
-abbrev pub lines_for : Known → Naming → List ℕ → List (List ℕ)
-lines_for known name line = lines_judged known name line (line_of known line)
+abbrev pub lines_for : ScriptNames → Naming → List ℕ → List (List ℕ)
+lines_for known name line = lines_judged known name line (line_judgement known line)
 
--- ---- what stands behind the last newline
--- of an expansion there each line has a newline behind it
-abbrev pub rest_asking : Known → Naming → List ℕ → ActorId → Operation → List (List ℕ)
+-- ---- what stands after the last newline
+-- of an expansion there each line has a newline after it
+abbrev pub rest_asking : ScriptNames → Naming → List ℕ → ActorId → Operation → List (List ℕ)
 rest_asking known name rest actor (Alone action) = rest ∷ []
 rest_asking known name rest actor (Together collective) =
     expansion_lines name known.members actor collective ++ [] ∷ []
 
-abbrev pub rest_judged : Known → Naming → List ℕ → Judgement → List (List ℕ)
+abbrev pub rest_judged : ScriptNames → Naming → List ℕ → Judgement → List (List ℕ)
 rest_judged known name rest (Ok (Some entry)) =
     rest_asking known name rest entry.actor entry.operation
 rest_judged known name rest other = rest ∷ []
 
 -- a line at the end of the input, but none before a failed read
-abbrev pub rest_for : Known → Naming → Bool → List ℕ → List (List ℕ)
+abbrev pub rest_for : ScriptNames → Naming → Bool → List ℕ → List (List ℕ)
 rest_for known name true rest = rest ∷ []
-rest_for known name false rest = rest_judged known name rest (line_of known rest)
+rest_for known name false rest = rest_judged known name rest (line_judgement known rest)
 
 -- ---- the whole source
 -- among parts that newlines separate
-abbrev pub expanded_parts : Known → Naming → Bool → List (List ℕ) → List (List ℕ)
+abbrev pub expanded_parts : ScriptNames → Naming → Bool → List (List ℕ) → List (List ℕ)
 expanded_parts known name broken [] = []
 expanded_parts known name broken (rest ∷ []) = rest_for known name broken rest
 expanded_parts known name broken (line ∷ part ∷ parts) =
     lines_for known name line ++ expanded_parts known name broken (part ∷ parts)
 
-abbrev pub expanded : Known → Naming → Source → Source
+abbrev pub expanded : ScriptNames → Naming → Source → Source
 expanded known name source = record {
   bytes = join_with_byte 10
       (expanded_parts known name source.broken (slice_split is_newline source.bytes));

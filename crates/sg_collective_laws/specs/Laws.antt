@@ -13,18 +13,18 @@ use Rattle.sg_script.specs.Known.{known_in}
 use Rattle.sg_collective_laws.specs.Alike.{AnswerAlike, WriteAlike, unnumbered}
 use Rattle.sg_collective_laws.specs.Expanded.{HasNames, expanded_in, line_count}
 
--- A run depends on its script by the answers alone: scripts that answer alike lead to the same world, records and end, but
--- for the number of a bad line.
+-- A run depends on its script by the answers alone: scripts that answer alike lead to the same world, records and end,
+-- except for the number of a bad line.
 abbrev pub AnswersMakeRuns : Type 0
 AnswersMakeRuns = (at : Scene) (first : World) (one other : Answering) → AnswerAlike one other →
     unnumbered (run_of at first one) ≡ unnumbered (run_of at first other)
 
--- what is said of each source and the one with its collectives replaced, where neither has more than 10^8 lines
+-- what is said of each source and the one with its collectives replaced, if neither has more than 10^8 lines
 abbrev pub ForExpanded : Deployed → (Source → Source → Type 0) → Type 0
 ForExpanded deployed P = (source : Source) → line_count source ≤ 100000000 →
     line_count (expanded_in deployed source) ≤ 100000000 → P source (expanded_in deployed source)
 
--- each Ask has the same answer
+-- each fetch has the same answer
 abbrev pub CollectivesAnswer : Type 0
 CollectivesAnswer = (deployed : Deployed) → HasNames deployed →
     ForExpanded deployed (λ source other. AnswerAlike (answer_of (known_in deployed) source) (answer_of (known_in deployed) other))

@@ -32,7 +32,7 @@ lines_at name members actor collective None = []
 lines_at name members actor collective (Some rank) =
     map (step_line name members actor) (expansion collective rank (length members))
 
--- all that an actor does for a collective, as lines; none where it is no member
+-- all that an actor does for a collective, as lines; none if it is no member
 abbrev pub expansion_lines : Naming → List ActorId → ActorId → Collective → List (List ℕ)
 expansion_lines name members actor collective =
     lines_at name members actor collective (rank_of members actor.0)

@@ -13,7 +13,7 @@ use Rattle.sg_collectives.specs.declared.step.Step.{Step}
 use Rattle.sg_collectives.specs.declared.step.Step.TheVariants.{Recv, Send, Compute, IRecv, ISend, Wait}
 use Rattle.sg_collectives.specs.Expansion.{alltoall, bcast, expansion, from_children, from_parent, reduce, to_children, to_parent}
 use Rattle.sg_collectives.specs.Members.{HasAmounts}
-use Rattle.sg_collectives.specs.Tree.{children, parent}
+use Rattle.sg_collectives.specs.Tree.{children, parent_rank}
 use Rattle.sg_collectives.proofs.MemberLemmas.{step_names_member}
 use Rattle.sg_collectives.proofs.Others.{All-if}
 use Rattle.sg_collectives.proofs.Ranges.{All-pairs}
@@ -30,7 +30,7 @@ bcast_amounts : (bytes rank members : ℕ) → IsAmount bytes → All HasStepAmo
 unfolding bcast to_children
 bcast_amounts bytes rank members are =
     All-append HasStepAmount (from_parent rank) (to_children bytes rank members)
-    (All-if HasStepAmount (ltb 0 rank) (Recv (parent rank)) (λ some. tt))
+    (All-if HasStepAmount (ltb 0 rank) (Recv (parent_rank rank)) (λ some. tt))
     (All-map HasStepAmount (λ child. Send child bytes) (reverse (children rank members)) (λ k d less. are))
 
 reduce_amounts : (bytes flops rank members : ℕ) → IsAmount bytes → IsAmount flops → All HasStepAmount (reduce bytes flops rank members)
@@ -39,7 +39,7 @@ reduce_amounts bytes flops rank members are are' =
     All-append HasStepAmount (from_children flops rank members) (to_parent bytes rank)
     (All-pairs HasStepAmount (λ child. Recv child) (λ child. Compute flops) (children rank members)
     (λ k d less. tt) (λ k d less. are'))
-    (All-if HasStepAmount (ltb 0 rank) (Send (parent rank) bytes) (λ some. are))
+    (All-if HasStepAmount (ltb 0 rank) (Send (parent_rank rank) bytes) (λ some. are))
 
 alltoall_amounts : (bytes rank members : ℕ) → IsAmount bytes → All HasStepAmount (alltoall bytes rank members)
 unfolding alltoall

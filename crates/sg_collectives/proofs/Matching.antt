@@ -11,7 +11,7 @@ use Rattle.sg_collectives.specs.declared.step.Step.{Step}
 use Rattle.sg_collectives.specs.declared.step.Step.TheVariants.{Recv, Send, Compute, IRecv, ISend, Wait}
 use Rattle.sg_collectives.specs.Expansion.{alltoall, bcast, expansion, from_children, from_parent, reduce, to_children, to_parent}
 use Rattle.sg_collectives.specs.Laws.{KindsAgree, RequestsAreAwaited, SendsAreReceived, is_irecv, is_isend, is_recv, is_send, is_wait, makes_request}
-use Rattle.sg_collectives.specs.Tree.{children, parent}
+use Rattle.sg_collectives.specs.Tree.{children, parent_rank}
 use Rattle.sg_collectives.proofs.Ranges.{count_by-append, count_by-each, count_by-map, count_by-none, count_by-pairs, count_by-replicate, count_by-reverse, count_by_agree}
 use Rattle.sg_collectives.proofs.TreeLemmas.{children_count, is_under}
 
@@ -25,22 +25,22 @@ off true = refl
 off false = refl
 
 count_bcast : (p : Step → Bool) (bytes rank members : ℕ) → count_by p (bcast bytes rank members)
-    ≡ cond (ltb 0 rank && p (Recv (parent rank))) 1 0 + count_by (λ child. p (Send child bytes)) (children rank members)
+    ≡ cond (ltb 0 rank && p (Recv (parent_rank rank))) 1 0 + count_by (λ child. p (Send child bytes)) (children rank members)
 unfolding bcast to_children
 count_bcast p bytes rank members =
     let send : ℕ → Step = λ child. Send child bytes in
     count_by-append p (from_parent rank) (to_children bytes rank members)
-    ∙ ap₂ (λ x y. x + y) (count_if p (ltb 0 rank) (Recv (parent rank)))
+    ∙ ap₂ (λ x y. x + y) (count_if p (ltb 0 rank) (Recv (parent_rank rank)))
     (count_by-map p send (reverse (children rank members)) ∙ count_by-reverse (λ child. p (send child)) (children rank members))
 
 count_reduce : (p : Step → Bool) (bytes flops rank members : ℕ) → count_by p (reduce bytes flops rank members)
     ≡ (count_by (λ child. p (Recv child)) (children rank members) + count_by (λ child. p (Compute flops)) (children rank members))
-    + cond (ltb 0 rank && p (Send (parent rank) bytes)) 1 0
+    + cond (ltb 0 rank && p (Send (parent_rank rank) bytes)) 1 0
 unfolding reduce from_children
 count_reduce p bytes flops rank members =
     count_by-append p (from_children flops rank members) (to_parent bytes rank)
     ∙ ap₂ (λ x y. x + y) (count_by-pairs p (λ child. Recv child) (λ child. Compute flops) (children rank members))
-    (count_if p (ltb 0 rank) (Send (parent rank) bytes))
+    (count_if p (ltb 0 rank) (Send (parent_rank rank) bytes))
 
 count_alltoall : (p : Step → Bool) (bytes rank members : ℕ) → count_by p (alltoall bytes rank members)
     ≡ (count_by (λ i. p (IRecv ((rank + members - i) % members))) (range_with_len 1 (members - 1))

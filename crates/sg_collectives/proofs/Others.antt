@@ -8,14 +8,14 @@ use Rattle.sg_collectives.specs.declared.step.Step.{Step}
 use Rattle.sg_collectives.specs.declared.step.Step.TheVariants.{Recv, Send, Compute, IRecv, ISend, Wait}
 use Rattle.sg_collectives.specs.Expansion.{alltoall, bcast, from_children, from_parent, reduce, to_children, to_parent}
 use Rattle.sg_collectives.specs.Laws.{AloneDoesNothing, IsOther, NamesOther, PeersAreOthers}
-use Rattle.sg_collectives.specs.Tree.{children, low, parent, power_from}
+use Rattle.sg_collectives.specs.Tree.{children, low, parent_rank, power_from}
 use Rattle.sg_collectives.proofs.Matching.{over, under}
 use Rattle.sg_collectives.proofs.Powers.{lowest_within}
 use Rattle.sg_collectives.proofs.Ranges.{All-pairs, All-range, All-reverse}
 use Rattle.sg_collectives.proofs.TreeLemmas.{child_by_test, children_by_test, has_child}
 
 -- ---- the tree
-parent_is_other : (rank members : ℕ) → rank < members → 0 < rank → IsOther rank members (parent rank)
+parent_is_other : (rank members : ℕ) → rank < members → 0 < rank → IsOther rank members (parent_rank rank)
 parent_is_other rank members within some =
     (omega (arith, lowest_within rank some), λ e. omega (arith, lowest_within rank some, e))
 
@@ -39,7 +39,7 @@ unfolding bcast to_children
 bcast_others bytes rank members within =
     let P : Step → Type 0 = NamesOther rank members in
     All-append P (from_parent rank) (to_children bytes rank members)
-    (All-if P (ltb 0 rank) (Recv (parent rank)) (λ some. parent_is_other rank members within (ltb-true 0 rank some)))
+    (All-if P (ltb 0 rank) (Recv (parent_rank rank)) (λ some. parent_is_other rank members within (ltb-true 0 rank some)))
     (All-map P (λ child. Send child bytes) (reverse (children rank members))
     (All-reverse (IsOther rank members) (children rank members) (children_are_others rank members)))
 
@@ -51,7 +51,7 @@ reduce_others bytes flops rank members within =
     All-append P (from_children flops rank members) (to_parent bytes rank)
     (All-pairs P (λ child. Recv child) (λ child. Compute flops) (children rank members)
     (children_are_others rank members) (λ k d less. tt))
-    (All-if P (ltb 0 rank) (Send (parent rank) bytes) (λ some. parent_is_other rank members within (ltb-true 0 rank some)))
+    (All-if P (ltb 0 rank) (Send (parent_rank rank) bytes) (λ some. parent_is_other rank members within (ltb-true 0 rank some)))
 
 -- ---- all to all
 module _ (rank members i : ℕ) (rank_in : rank < members) (from : 1 ≤ i) (below : i < members) where

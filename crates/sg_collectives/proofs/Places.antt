@@ -8,7 +8,7 @@ use Rattle.std.proofs.lemmas.Option.{slice_get-get_or, slice_get-map, slice_get_
 use Rattle.sg_collectives.specs.declared.step.Step.{Step}
 use Rattle.sg_collectives.specs.declared.step.Step.TheVariants.{Recv, Send, Compute, IRecv, ISend, Wait}
 use Rattle.sg_collectives.specs.Expansion.{alltoall, bcast, from_children, from_parent, reduce, to_children, to_parent}
-use Rattle.sg_collectives.specs.Tree.{children, doubling_from, parent}
+use Rattle.sg_collectives.specs.Tree.{children, doubling_from, parent_rank}
 
 -- ---- joined lists
 at_first : {X : Type 0} (xs ys : List X) (i : ℕ) → i < length xs → slice_get (xs ++ ys) i ≡ slice_get xs i
@@ -90,10 +90,10 @@ to_child_past bytes rank members count place e past =
 
 -- ---- bcast
 from_parent_root : (rank : ℕ) → rank ≡ 0 → from_parent rank ≡ []
-from_parent_root rank root = ap (λ b. cond b (Recv (parent rank) ∷ []) []) (le-ltb 0 rank (omega arith))
+from_parent_root rank root = ap (λ b. cond b (Recv (parent_rank rank) ∷ []) []) (le-ltb 0 rank (omega arith))
 
-from_parent_other : (rank : ℕ) → 0 < rank → from_parent rank ≡ Recv (parent rank) ∷ []
-from_parent_other rank some = ap (λ b. cond b (Recv (parent rank) ∷ []) []) (lt-ltb 0 rank some)
+from_parent_other : (rank : ℕ) → 0 < rank → from_parent rank ≡ Recv (parent_rank rank) ∷ []
+from_parent_other rank some = ap (λ b. cond b (Recv (parent_rank rank) ∷ []) []) (lt-ltb 0 rank some)
 
 pub bcast_root : (bytes rank members : ℕ) → rank ≡ 0 → to_children bytes rank members ≡ bcast bytes rank members
 unfolding bcast
@@ -101,19 +101,19 @@ bcast_root bytes rank members root =
     sym (ap (λ xs. xs ++ to_children bytes rank members) (from_parent_root rank root))
 
 bcast_other : (bytes rank members : ℕ) → 0 < rank →
-    bcast bytes rank members ≡ Recv (parent rank) ∷ to_children bytes rank members
+    bcast bytes rank members ≡ Recv (parent_rank rank) ∷ to_children bytes rank members
 unfolding bcast
 bcast_other bytes rank members some =
     ap (λ xs. xs ++ to_children bytes rank members) (from_parent_other rank some)
 
-pub bcast_first : (bytes rank members : ℕ) → 0 < rank → Some (Recv (parent rank)) ≡ slice_get (bcast bytes rank members) 0
+pub bcast_first : (bytes rank members : ℕ) → 0 < rank → Some (Recv (parent_rank rank)) ≡ slice_get (bcast bytes rank members) 0
 bcast_first bytes rank members some = sym (ap (λ xs. slice_get xs 0) (bcast_other bytes rank members some))
 
 pub bcast_behind : (bytes rank members place : ℕ) → 0 < rank → 0 < place →
     slice_get (to_children bytes rank members) (place - 1) ≡ slice_get (bcast bytes rank members) place
 bcast_behind bytes rank members place some behind =
     sym (ap (λ xs. slice_get xs place) (bcast_other bytes rank members some)
-    ∙ at_behind (Recv (parent rank) ∷ []) (to_children bytes rank members) place (place - 1) (omega arith))
+    ∙ at_behind (Recv (parent_rank rank) ∷ []) (to_children bytes rank members) place (place - 1) (omega arith))
 
 pub length_bcast_root : (bytes rank members count : ℕ) → children rank members ≡ doubling_from rank count →
     rank ≡ 0 → count ≡ length (bcast bytes rank members)
@@ -127,19 +127,19 @@ length_bcast_other bytes rank members count e some =
 
 -- ---- reduce
 to_parent_root : (bytes rank : ℕ) → rank ≡ 0 → to_parent bytes rank ≡ []
-to_parent_root bytes rank root = ap (λ b. cond b (Send (parent rank) bytes ∷ []) []) (le-ltb 0 rank (omega arith))
+to_parent_root bytes rank root = ap (λ b. cond b (Send (parent_rank rank) bytes ∷ []) []) (le-ltb 0 rank (omega arith))
 
-to_parent_other : (bytes rank : ℕ) → 0 < rank → to_parent bytes rank ≡ Send (parent rank) bytes ∷ []
-to_parent_other bytes rank some = ap (λ b. cond b (Send (parent rank) bytes ∷ []) []) (lt-ltb 0 rank some)
+to_parent_other : (bytes rank : ℕ) → 0 < rank → to_parent bytes rank ≡ Send (parent_rank rank) bytes ∷ []
+to_parent_other bytes rank some = ap (λ b. cond b (Send (parent_rank rank) bytes ∷ []) []) (lt-ltb 0 rank some)
 
-pub to_parent_first : (bytes rank : ℕ) → 0 < rank → Some (Send (parent rank) bytes) ≡ slice_get (to_parent bytes rank) 0
+pub to_parent_first : (bytes rank : ℕ) → 0 < rank → Some (Send (parent_rank rank) bytes) ≡ slice_get (to_parent bytes rank) 0
 to_parent_first bytes rank some = sym (ap (λ xs. slice_get xs 0) (to_parent_other bytes rank some))
 
 pub to_parent_behind : (bytes rank place : ℕ) → 0 < place → None ≡ slice_get (to_parent bytes rank) place
 to_parent_behind bytes zero place behind = sym (ap (λ xs. slice_get xs place) (to_parent_root bytes zero refl))
 to_parent_behind bytes (suc r) place behind =
     sym (ap (λ xs. slice_get xs place) (to_parent_other bytes (suc r) (omega arith))
-    ∙ slice_get_past (Send (parent (suc r)) bytes ∷ []) place (omega arith))
+    ∙ slice_get_past (Send (parent_rank (suc r)) bytes ∷ []) place (omega arith))
 
 pub to_parent_none : (bytes rank place : ℕ) → rank ≡ 0 → None ≡ slice_get (to_parent bytes rank) place
 to_parent_none bytes rank place root = sym (ap (λ xs. slice_get xs place) (to_parent_root bytes rank root))

@@ -40,7 +40,7 @@ front_kept test a (suc n) (suc count) within passes fails =
     (front_kept test (a + 1) n count (omega arith) (λ k above below. passes k (omega arith) (omega arith))
     (λ k above. fails k (omega arith))))
 
--- a filter behind a map behind a filter
+-- a filter after a map after a filter
 pub filter_map_filter : (p t : ℕ → Bool) (f : ℕ → ℕ) (xs : List ℕ) →
     filter p (map f (filter t xs)) ≡ map f (filter (λ k. t k && p (f k)) xs)
 filter_map_filter p t f [] = refl

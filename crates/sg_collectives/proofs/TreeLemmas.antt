@@ -8,7 +8,7 @@ use Rattle.std.proofs.lemmas.List.{length-map}
 use Rattle.std.proofs.lemmas.List.Sums.{length-filter}
 use Rattle.std.proofs.lemmas.Nat.{pow_below}
 use Rattle.std.proofs.lemmas.Nat.Bits.{bit_at-trailing_zeros}
-use Rattle.sg_collectives.specs.Tree.{children, doubling_from, low, lowest_bit, parent, power_from}
+use Rattle.sg_collectives.specs.Tree.{children, doubling_from, low, lowest_bit, parent_rank, power_from}
 use Rattle.sg_collectives.proofs.Powers.{IsEvenTimes, IsOddTimes, below_power, even_below_odd, even_from_odd, exponent_less, lowest_by_bits, lowest_is, odd_part, power_from_above, power_within}
 use Rattle.sg_collectives.proofs.Ranges.{filter_map_filter, filter_through, front_kept, none_kept, one_kept}
 
@@ -155,7 +155,7 @@ same_exponent j k e = elim (cases_lt j k) [
 
 -- whether b stands right below a
 abbrev pub is_under : ℕ → ℕ → Bool
-is_under a b = ltb 0 b && eqb (parent b) a
+is_under a b = ltb 0 b && eqb (parent_rank b) a
 
 is_child_here : ℕ → ℕ → ℕ → ℕ → Bool
 is_child_here a b members k = has_child a members k && eqb (a + 2 ^ k) b
@@ -196,23 +196,23 @@ pub children_count : (a b members : ℕ) → b < members →
 children_count a b members within = elim (cases_eq b 0) [
   | inl root ↦
       none_here a b members (λ k is e. omega (arith, pow_pos k, e))
-      ∙ ap (λ t. cond t 1 0) (sym (and_left (ltb 0 b) (eqb (parent b) a) (le-ltb 0 b (omega arith))))
+      ∙ ap (λ t. cond t 1 0) (sym (and_left (ltb 0 b) (eqb (parent_rank b) a) (le-ltb 0 b (omega arith))))
   | inr other ↦
       let some : 0 < b = omega arith in
       let part : (i : ℕ) × IsOddTimes b i = odd_part b b (omega arith) some in
-      let up : parent b ≡ b - 2 ^ part.0 = ap (λ m. b - m) (lowest_is b part.0 part.1) in
-      elim (cases_eq (parent b) a) [
+      let up : parent_rank b ≡ b - 2 ^ part.0 = ap (λ m. b - m) (lowest_is b part.0 part.1) in
+      elim (cases_eq (parent_rank b) a) [
         | inl under ↦
             let at : b - 2 ^ part.0 ≡ a = sym up ∙ under in
             one_here a b members part.0
             (subst (λ r. IsChild r members part.0) at (child_of_parent b members part.0 within part.1))
             (omega (arith, at, power_within b part.0 part.1))
-            ∙ ap (λ t. cond t 1 0) (sym (and_from (ltb 0 b) (eqb (parent b) a) (lt-ltb 0 b some) (eq-eqb (parent b) a under)))
+            ∙ ap (λ t. cond t 1 0) (sym (and_from (ltb 0 b) (eqb (parent_rank b) a) (lt-ltb 0 b some) (eq-eqb (parent_rank b) a under)))
         | inr apart ↦
             none_here a b members (λ k is e.
             let lowest : lowest_bit b ≡ 2 ^ k = subst (λ r. lowest_bit r ≡ 2 ^ k) e (lowest_of_child a members k is.below) in
             apart (omega (arith, lowest, e)))
-            ∙ ap (λ t. cond t 1 0) (sym (and_right (ltb 0 b) (eqb (parent b) a) (ne_eqb (parent b) a apart)))
+            ∙ ap (λ t. cond t 1 0) (sym (and_right (ltb 0 b) (eqb (parent_rank b) a) (ne_eqb (parent_rank b) a apart)))
       ]
 ]
 

@@ -15,7 +15,7 @@ NamesMember members (IRecv peer) = peer < members
 NamesMember members (ISend peer bytes) = peer < members
 NamesMember members Wait = ⊤
 
--- the member of this rank, where there is one
+-- the member of this rank, if there is one
 abbrev pub member : List ActorId → ℕ → ActorId
 member members rank = slice_index_or members rank (record { 0 = 0 })
 

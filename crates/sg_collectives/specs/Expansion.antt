@@ -5,14 +5,15 @@ use Rattle.sg_collectives.specs.declared.collective.Collective.{Collective}
 use Rattle.sg_collectives.specs.declared.collective.Collective.TheVariants.{Bcast, Reduce, Allreduce, Alltoall}
 use Rattle.sg_collectives.specs.declared.step.Step.{Step}
 use Rattle.sg_collectives.specs.declared.step.Step.TheVariants.{Recv, Send, Compute, IRecv, ISend, Wait}
-use Rattle.sg_collectives.specs.Tree.{children, parent}
+use Rattle.sg_collectives.specs.Tree.{children, parent_rank}
 
 -- from its parent, and to it; rank 0 has none
 abbrev pub from_parent : ℕ → List Step
-from_parent rank = if nat_lt 0 rank then Recv (parent rank) ∷ [] else []
+from_parent rank = if nat_lt 0 rank then Recv (parent_rank rank) ∷ [] else []
 
+-- the bytes that a rank sends to its parent; rank 0 has none
 abbrev pub to_parent : ℕ → ℕ → List Step
-to_parent bytes rank = if nat_lt 0 rank then Send (parent rank) bytes ∷ [] else []
+to_parent bytes rank = if nat_lt 0 rank then Send (parent_rank rank) bytes ∷ [] else []
 
 -- to its children, the farthest first
 unfoldable pub to_children : ℕ → ℕ → ℕ → List Step
@@ -24,13 +25,15 @@ unfoldable pub from_children : ℕ → ℕ → ℕ → List Step
 from_children flops rank members =
     flat_map (λ child. Recv child ∷ Compute flops ∷ []) (children rank members)
 
+-- a broadcast down the tree: a rank receives from its parent, then sends to its children
 unfoldable pub bcast : ℕ → ℕ → ℕ → List Step
 bcast bytes rank members = from_parent rank ++ to_children bytes rank members
 
+-- a reduction up the tree: a rank receives from its children and computes, then sends to its parent
 unfoldable pub reduce : ℕ → ℕ → ℕ → ℕ → List Step
 reduce bytes flops rank members = from_children flops rank members ++ to_parent bytes rank
 
--- from each other rank, the one before it first, and to each, the one behind it first; then it
+-- from each other rank, the one before it first, and to each, the one after it first; then it
 -- waits for all
 unfoldable pub alltoall : ℕ → ℕ → ℕ → List Step
 alltoall bytes rank members =

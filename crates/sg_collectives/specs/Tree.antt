@@ -6,20 +6,21 @@ use Rattle.std.specs.List.{filter, find, range_with_len}
 abbrev pub powers : ℕ → List ℕ
 powers count = map (λ k. 2 ^ k) (range_with_len 0 count)
 
+-- the powers of two below a bound, rising
 abbrev pub powers_below : ℕ → List ℕ
 powers_below bound = filter (λ m. nat_lt m bound) (powers bound)
 
 -- the first number of a list that passes
-abbrev pub first : (ℕ → Bool) → List ℕ → ℕ
-first test numbers = unwrap_or (find test numbers) 0
+abbrev pub first_passing : (ℕ → Bool) → List ℕ → ℕ
+first_passing test numbers = unwrap_or (find test numbers) 0
 
 -- the lowest set bit of a number above 0
 unfoldable pub lowest_bit : ℕ → ℕ
-lowest_bit number = first (λ m. number / m % 2 == 1) (powers number)
+lowest_bit number = first_passing (λ m. number / m % 2 == 1) (powers number)
 
 -- the least power of two that is at least this number
 unfoldable pub power_from : ℕ → ℕ
-power_from number = first (λ m. nat_le number m) (powers (number + 1))
+power_from number = first_passing (λ m. nat_le number m) (powers (number + 1))
 
 -- the lowest set bit of a rank; of rank 0 the least power of two that is at least the number of
 -- members
@@ -27,8 +28,8 @@ abbrev pub low : ℕ → ℕ → ℕ
 low rank members = if rank == 0 then power_from members else lowest_bit rank
 
 -- whom a rank above 0 stands below
-abbrev pub parent : ℕ → ℕ
-parent rank = rank - lowest_bit rank
+abbrev pub parent_rank : ℕ → ℕ
+parent_rank rank = rank - lowest_bit rank
 
 -- who stands right below a rank, rising: one member for each power of two below its lowest set bit
 unfoldable pub children : ℕ → ℕ → List ℕ

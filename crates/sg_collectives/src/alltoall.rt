@@ -5,7 +5,7 @@ ghost use Rattle.sg_collectives.specs.Expansion.{alltoall};
 use crate::step::Step;
 use crate::tree::Rank;
 
-// The rank that is met there by going round all members.
+// Returns the rank found there by counting around all members.
 fn around(way: u64, members: u32) -> u32
     requires { 0 < members }
     ensures { result ≡ way % members }

@@ -5,7 +5,7 @@ ghost use Rattle.sg_collectives.specs.Expansion.{bcast, to_children};
 use crate::step::Step;
 use crate::tree::{Rank, child_count, parent};
 
-// What a rank sends to its children, the farthest first.
+// Returns what a rank sends to its children, the farthest first.
 #[tactic(auto, using(crate::proofs::Places::to_child_at, crate::proofs::Places::to_child_past))]
 fn to_child(bytes: u64, rank: Rank, place: u64) -> Option<Step>
     ensures { result ≡ slice_get (to_children bytes rank.number rank.members) place }

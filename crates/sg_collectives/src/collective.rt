@@ -27,8 +27,8 @@ pub enum Collective {
 }
 
 impl Collective {
-    /// The step at this place, from 0 on, of what the member of a rank does; none behind the last. It takes no memory,
-    /// and about as many instructions as the number of members has binary digits.
+    /// Returns the step at this place, from 0 on, of what the member of a rank does; none after the last. It takes no
+    /// memory, and about as many instructions as the number of members has binary digits.
     #[tactic(auto, using(crate::proofs::Places::allreduce_first, crate::proofs::Places::allreduce_behind))]
     pub fn step(self, rank: Rank, place: u64) -> Option<Step>
         ensures { result ≡ slice_get (expansion self rank.number rank.members) place }
@@ -48,7 +48,7 @@ impl Collective {
         }
     }
 
-    /// How many steps the member of a rank does.
+    /// Returns how many steps the member of a rank does.
     pub fn steps(self, rank: Rank) -> u64
         ensures { result ≡ length (expansion self rank.number rank.members) }
     {
@@ -60,7 +60,7 @@ impl Collective {
         }
     }
 
-    /// The action at this place, from 0 on, of what an actor does; none behind the last, nor of who is no member.
+    /// Returns an actor's action at this place, from 0 on; none after the last, nor if the actor is no member.
     #[tactic(auto, using(crate::proofs::MemberLemmas::nobody_acts, crate::proofs::MemberLemmas::rank_below, crate::proofs::MemberLemmas::past_acts, crate::proofs::MemberLemmas::no_step_acts, crate::proofs::MemberLemmas::a_step_acts, crate::proofs::MemberLemmas::step_names_member, crate::proofs::Limited::step_keeps_limits))]
     pub fn action(self, actor: ActorId, members: &Members, place: u64) -> Option<Action>
         ensures action { result ≡ slice_get (actions_of members.now actor.0 self) place }

@@ -1,5 +1,5 @@
 //! Collective actions of numbered members, each as the sends, receives and computes that every member does for it.
-//! One enters by `Collective`: `action` is what an actor does at a place of it, `steps` how many places there are.
+//! The type is `Collective`: `action` returns what an actor does at a place of it, `steps` how many places there are.
 //! It stands on `sg_base`.
 #![tactic(auto)]
 

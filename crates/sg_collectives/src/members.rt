@@ -40,7 +40,7 @@ fn lengthen(ranks: &mut Vec<Option<u32>>, count: usize) -> Result<(), Memory>
 }
 
 impl Members {
-    /// Nobody.
+    /// Makes an empty list of members.
     #[tactic(auto, using(crate::proofs::MemberLemmas::ranked_none))]
     pub fn new(alloc: Global) -> Members
         ensures { result ≡ [] }
@@ -51,11 +51,11 @@ impl Members {
         }
     }
 
-    /// Adds an actor behind those that are members, whose numbers are all smaller.
+    /// Adds an actor after those that are members, whose numbers are all smaller.
     ///
     /// # Errors
     ///
-    /// Want of memory: then the members stay.
+    /// Out of memory: then the members stay.
     #[tactic(auto, using(crate::proofs::MemberLemmas::ranked_same, crate::proofs::MemberLemmas::ranked_more))]
     pub fn push(&mut self, actor: ActorId) -> Result<(), Memory>
         requires rising { All (λ member. member.0 < actor.0) self.old }
@@ -71,7 +71,7 @@ impl Members {
         Ok(())
     }
 
-    /// The rank of an actor, if it is a member.
+    /// Returns the rank of an actor, if it is a member.
     pub fn rank_of(&self, actor: ActorId) -> Option<u32>
         ensures { result ≡ rank_of self.now actor.0 }
     {
@@ -81,7 +81,7 @@ impl Members {
         }
     }
 
-    /// The members by rank.
+    /// Returns the members by rank.
     pub fn as_slice(&self) -> &[ActorId]
         ensures value { result.now ≡ self.now }
         ensures few { length result.now < 2 ^ 32 }

@@ -5,7 +5,7 @@ ghost use Rattle.sg_collectives.specs.Expansion.{reduce, to_parent};
 use crate::step::Step;
 use crate::tree::{Rank, child_count, parent};
 
-// What a rank sends to its parent.
+// Returns what a rank sends to its parent.
 #[tactic(auto, using(crate::proofs::Places::to_parent_first, crate::proofs::Places::to_parent_behind, crate::proofs::Places::to_parent_none))]
 fn to_parent(bytes: u64, rank: u32, place: u64) -> Option<Step>
     ensures { result ≡ slice_get (to_parent bytes rank) place }

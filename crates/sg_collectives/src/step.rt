@@ -7,9 +7,9 @@ use sg_base::{Action, ActorId};
 /// One action of a member, which names its peer by rank. Members have the ranks from 0 on.
 #[derive(Clone, Copy)]
 pub enum Step {
-    /// To receive from a peer, and go on when the bytes have arrived.
+    /// To receive from a peer, and continue after the bytes have arrived.
     Recv(u32),
-    /// To send a peer so many bytes, and go on when they have arrived.
+    /// To send a peer this many bytes, and continue after they have arrived.
     Send(u32, u64),
     /// To compute so many flops.
     Compute(u64),
@@ -22,7 +22,7 @@ pub enum Step {
 }
 
 impl Step {
-    /// The action of an actor: the list has the member of each rank.
+    /// Returns the action of an actor: the list has the member of each rank.
     pub fn action(self, members: &[ActorId]) -> Action
         requires { NamesMember (length members.now) self }
         ensures { result ≡ action_of members.now self }

@@ -1,6 +1,6 @@
 //! The tree of the ranks: whom each one stands below, and which ones stand below it.
 ghost use Rattle.std.specs.Prelude.{◌≡◌, ℕ, ◌+◌, ◌^◌, ◌<◌};
-ghost use Rattle.sg_collectives.specs.Tree.{children, doubling_from, parent};
+ghost use Rattle.sg_collectives.specs.Tree.{children, doubling_from, parent_rank};
 
 /// A rank among so many members.
 #[derive(Clone, Copy)]
@@ -10,15 +10,15 @@ pub struct Rank {
     ghost below: { number < members },
 }
 
-/// The rank that a rank above 0 stands below: it without its lowest set bit.
+/// Returns the rank that a rank above 0 stands below: it without its lowest set bit.
 pub fn parent(rank: u32) -> u32
     requires { 0 < rank }
-    ensures { result ≡ parent rank }
+    ensures { result ≡ parent_rank rank }
 {
     rank - 2u32.pow(rank.trailing_zeros())
 }
 
-/// How many ranks stand right below this one; the k-th of them, from 0 on, is 2^k above it.
+/// Returns how many ranks stand right below this one; the k-th of them, from 0 on, is 2^k above it.
 #[tactic(auto, using(crate::proofs::TreeLemmas::counted_none, crate::proofs::TreeLemmas::counted_more, crate::proofs::TreeLemmas::counted_all, crate::proofs::TreeLemmas::few_doublings))]
 pub fn child_count(rank: Rank) -> u32
     ensures counted { children rank.number rank.members ≡ doubling_from rank.number result }

@@ -1,4 +1,4 @@
--- Bytes that are taken from a part piece by piece.
+-- Bytes that are taken from an input stream piece by piece.
 use Rattle.std.proofs.Common.{◌≡◌, ◌∙◌, ◌+◌, ◌-◌, ◌≤◌, sym, ap, refl, ℕ, ◌++◌, List, [], length, take, drop, Option, None, Some, append_assoc, length-append, arith}
 use Rattle.std.proofs.lemmas.List.{take-append-drop}
 use Rattle.std.proofs.lemmas.Grind.{common_steps}
@@ -15,7 +15,7 @@ pub before-before : (a b : List ℕ) (left : Option (List ℕ)) → before a (be
 before-before a b None = refl
 before-before a b (Some rest) = ap (λ (l : List ℕ). Some l) (sym (append_assoc a b rest))
 
--- the piece that was copied out, and what stands behind it
+-- the piece that was copied out, and what follows it
 pub piece_split : (bytes copied rest : List ℕ) (taken n : ℕ) → taken + n ≤ length bytes → copied ≡ take (taken + n - taken) (drop taken bytes) → drop taken bytes ≡ take n (copied ++ rest) ++ drop (taken + n) bytes
 piece_split bytes copied rest taken n fits is =
     let size : taken + n - taken ≡ n = omega arith in

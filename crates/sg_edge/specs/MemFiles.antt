@@ -1,4 +1,4 @@
--- What parts in memory show, and when their calls fail.
+-- What input streams in memory show, and when their calls fail.
 use Rattle.std.specs.Prelude.{◌≡◌, ◌≢◌, ◌+◌, ◌==◌, ◌&&◌, ℕ, Bool, not, List, [], length, min, Option, None, Some, unwrap_or, is_some}
 use Rattle.std.specs.List.{list_any}
 use Rattle.sg_edge.specs.declared.files.Part.{Part}
@@ -21,19 +21,19 @@ mem_view m part = part_view (mem_part m part)
 abbrev pub mem_left : MemFiles → Part → List ℕ
 mem_left m part = part_left (mem_part m part)
 
--- whether there is such a part
+-- whether there is such an input stream
 abbrev pub is_there : MemFiles → Part → Bool
 is_there m part = (mem_part m part).there
 
--- the only name under which a part can be begun, if it was given one
+-- the only name under which an input stream can be begun, if it was given one
 abbrev pub name_of : MemFiles → Part → Option (List ℕ)
 name_of m part = part_name (mem_part m part)
 
--- the greatest count that one read of a part gives
+-- the greatest count that one read of an input stream gives
 abbrev pub piece_of : MemFiles → Part → ℕ
 piece_of m part = (mem_part m part).piece
 
--- how many bytes a read takes into a buffer of so many, where it doesn't fail
+-- how many bytes a read takes into a buffer of so many, if it doesn't fail
 abbrev pub read_count : MemFiles → Part → ℕ → ℕ
 read_count m part room = min (min room (piece_of m part)) (length (mem_left m part))
 
@@ -49,20 +49,20 @@ failing_of m = m.failing.items
 abbrev pub call_fails : MemFiles → Bool
 call_fails m = list_any (λ n. n == calls_of m + 1) (failing_of m)
 
--- a part can be begun under this name: it is there, that is its name or it has none, and the call
--- is none of those that are to fail
+-- an input stream can be begun under this name: it is there, that is its name or it has none, and
+-- the call is none of those that are to fail
 abbrev pub can_begin : MemFiles → Part → List ℕ → Bool
 can_begin m part name = is_there m part && (takes_name (name_of m part) name && not (call_fails m))
 
--- the part holds these bytes, or none, and has no name, a read gives as many as there are, and
--- nothing was done to it
+-- the input stream holds these bytes, or none, and has no name, a read gives as many as there are,
+-- and nothing was done to it
 pub record StartsAs (part : Part) (bytes : Option (List ℕ)) (m : MemFiles) : Type 0 where
   pub shows : mem_view m part ≡ fresh_view (unwrap_or bytes [])
   pub there : is_there m part ≡ is_some bytes
   pub unnamed : name_of m part ≡ None
   pub piece : piece_of m part ≡ greatest_count
 
--- one call more was made, and all that decides which calls fail, and how much they give, stays
+-- one more call was made, and all that decides which calls fail, and how much they give, stays
 pub record CountsCall (old new : MemFiles) : Type 0 where
   pub calls : calls_of new ≡ calls_of old + 1
   pub failing : failing_of new ≡ failing_of old
@@ -77,21 +77,21 @@ pub record MakesNoCall (old new : MemFiles) : Type 0 where
   pub calls : calls_of new ≡ calls_of old
   pub failing : failing_of new ≡ failing_of old
 
--- the part has this name now, and all else stays
+-- the input stream has this name now, and all else stays
 pub record Renames (part : Part) (name : List ℕ) (old new : MemFiles) : Type 0 where
   pub name_is : name_of new part ≡ Some name
   pub others : (q : Part) → q ≢ part → name_of new q ≡ name_of old q
   pub pieces : (q : Part) → piece_of new q ≡ piece_of old q
   pub rest : MakesNoCall old new
 
--- a read of the part gives at most so many bytes now, and all else stays
+-- a read of the input stream gives at most so many bytes now, and all else stays
 pub record SetsPiece (part : Part) (n : ℕ) (old new : MemFiles) : Type 0 where
   pub piece_is : piece_of new part ≡ n
   pub others : (q : Part) → q ≢ part → piece_of new q ≡ piece_of old q
   pub names : (q : Part) → name_of new q ≡ name_of old q
   pub rest : MakesNoCall old new
 
--- of a part that is over nothing is left
+-- no bytes remain of an input stream that is `Over`
 pub mem_over : (files : MemFiles) (part : Part)
     → (mem_view files part).stage ≡ Over → NoneLeft (mem_view files part).left
 mem_over files part over = part_over (mem_part files part) over

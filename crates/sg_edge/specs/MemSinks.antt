@@ -57,7 +57,7 @@ pub record StartsEmpty (out err : ℕ) (numbers : List ℕ) (most : ℕ) (m : Me
   pub writes : writes_of m ≡ 0
   pub faults : mem_faults m ≡ 0
 
--- one write more was made, and all that decides which writes fail, and what they take, stays
+-- one more write was made, and all that decides which writes fail, and what they take, stays
 pub record CountsWrite (old new : MemSinks) : Type 0 where
   pub writes : writes_of new ≡ writes_of old + 1
   pub failing : failing_of new ≡ failing_of old

@@ -1,4 +1,4 @@
--- What a part has given to a call: its bytes, and whether a call failed behind them.
+-- What an input stream has given to a call: its bytes, and whether a call failed after them.
 use Rattle.std.specs.Prelude.{◌≡◌, ◌≢◌, ◌<◌, ◌≤◌, ◌+◌, ◌-◌, ℕ, List, length, take, Some, Bool, true, false, ⊤}
 use Rattle.sg_edge.specs.declared.files.Stage.{Stage}
 use Rattle.sg_edge.specs.declared.files.Stage.TheVariants.{Fresh, Begun, Over, Broken}
@@ -6,26 +6,26 @@ use Rattle.sg_edge.specs.declared.loading.Loaded.{Loaded}
 use Rattle.sg_edge.specs.declared.loading.Loaded.TheVariants.{Whole, TooLong, Fault, Memory}
 use Rattle.sg_edge.specs.Files.{PartView, TakesJust}
 
--- the bytes of a part, and whether a call failed where they stop
+-- the bytes of an input stream, and whether a call failed at their end
 pub record Source : Type 0 where
   pub bytes : List ℕ
   pub broken : Bool
 
+-- whether a read of an input stream has failed
 abbrev pub is_broken : Stage → Bool
 is_broken Fresh = false
 is_broken Begun = false
 is_broken Over = false
 is_broken Broken = true
 
--- of a part that isn't broken all bytes that there were, of a broken one those that were taken
+-- all bytes of an input stream that isn't broken, and of a broken one those that were taken
 abbrev pub bytes_given : List ℕ → List ℕ → Stage → List ℕ
 bytes_given all rest Fresh = all
 bytes_given all rest Begun = all
 bytes_given all rest Over = all
 bytes_given all rest Broken = take (length all - length rest) all
 
--- this is what the part gave between two moments; nothing is said of one that doesn't tell its
--- bytes
+-- this is what the input stream gave between two moments; nothing is said if its contents are unknown
 pub record Gives (old new : PartView) (source : Source) : Type 0 where
   pub all : List ℕ
   pub rest : List ℕ
@@ -34,7 +34,7 @@ pub record Gives (old new : PartView) (source : Source) : Type 0 where
   pub bytes : source.bytes ≡ bytes_given all rest new.stage
   pub broken : source.broken ≡ is_broken new.stage
 
--- what a part of at most so many bytes was read as; its length is judged before a failure behind it
+-- what an input stream of at most so many bytes was read as; its length counts before a later failure
 abbrev pub LoadedIs : ℕ → Loaded → Source → Type 0
 LoadedIs most (Whole bytes) source =
     (source.bytes ≡ bytes.items) × (source.broken ≡ false) × (length bytes.items ≤ most)
@@ -42,7 +42,7 @@ LoadedIs most TooLong source = most < length source.bytes
 LoadedIs most Fault source = (source.broken ≡ true) × (length source.bytes ≤ most)
 LoadedIs most Memory source = ⊤
 
--- a fault is told only of a part that is broken, whose count rose
+-- a fault is reported only of an input stream that is broken and whose count rose
 abbrev pub FaultIs : Loaded → PartView → PartView → Type 0
 FaultIs (Whole bytes) old new = (new.stage ≢ Broken) × (new.faults ≡ old.faults)
 FaultIs TooLong old new = (new.stage ≢ Broken) × (new.faults ≡ old.faults)
@@ -56,7 +56,7 @@ IsFew most TooLong = ⊤
 IsFew most Fault = ⊤
 IsFew most Memory = ⊤
 
--- of a part that is too long one byte more than the most was taken
+-- of an input stream that is too long one byte more than the most was taken
 abbrev pub StopsBehind : ℕ → Loaded → PartView → PartView → Type 0
 StopsBehind most (Whole bytes) old new = ⊤
 StopsBehind most TooLong old new = TakesJust (most + 1) old new

@@ -1,4 +1,4 @@
--- What parts that never fail show. They can be begun under any name and keep none.
+-- What input streams that never fail show. They can be begun under any name and keep none.
 use Rattle.std.specs.Prelude.{◌≡◌, ℕ, List, None, Some, refl}
 use Rattle.sg_edge.specs.declared.files.Part.{Part}
 use Rattle.sg_edge.specs.declared.files.Part.TheVariants.{Platform, Deployment, Script}
@@ -25,12 +25,12 @@ sure_view m part = record {
   faults = 0;
 }
 
--- of a part that is over nothing is left
+-- no bytes remain of an input stream that is `Over`
 pub sure_over : (files : SureFiles) (part : Part)
     → (sure_view files part).stage ≡ Over → NoneLeft (sure_view files part).left
 sure_over files part over = part_over (sure_part files part) over
 
--- no part has a name
+-- no input stream has a name
 pub sure_unnamed : (files : SureFiles) (part : Part)
     → (sure_view files part).stage ≡ Fresh → (sure_view files part).name ≡ None
 sure_unnamed files part fresh = refl

@@ -1,3 +1,3 @@
--- How parts and streams in memory are kept.
+-- How input streams and streams in memory are kept.
 pub mod Parts
 pub mod Streams

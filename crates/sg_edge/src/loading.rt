@@ -1,4 +1,4 @@
-//! Parts that are read whole.
+//! Input streams that are read whole.
 ghost use Rattle.std.specs.Prelude.{◌≡◌, ◌+◌, ◌<◌, ◌^◌, IfOk, IsErrOf};
 ghost use Rattle.sg_edge.specs.declared.files.Stage.TheVariants.{Fresh, Begun};
 ghost use Rattle.sg_edge.specs.declared.loading.ReadError.TheVariants.{Memory, Fault};
@@ -8,7 +8,7 @@ ghost use Rattle.sg_edge.specs.Sources.{Source, Gives, LoadedIs, FaultIs, IsFew,
 use crate::files::{Failed, Files, Part};
 use std::alloc::{AllocError, Global};
 
-/// Why a part was not read.
+/// Why an input stream was not read.
 #[derive(Clone, Copy)]
 pub enum ReadError {
     /// There was no memory for its bytes.
@@ -33,7 +33,7 @@ impl From<Failed> for ReadError {
     }
 }
 
-/// What a part of at most so many bytes was read as.
+/// What an input stream of at most so many bytes was read as.
 #[derive(Drop)]
 pub enum Loaded {
     /// All its bytes.
@@ -46,7 +46,7 @@ pub enum Loaded {
     Memory,
 }
 
-/// Reads a part to its end, or to `limit` bytes, whichever comes first.
+/// Reads an input stream to its end, or to `limit` bytes, whichever comes first.
 ///
 /// After `Memory` the bytes taken so far are lost.
 pub fn read_whole<F: Files>(
@@ -80,7 +80,7 @@ pub fn read_whole<F: Files>(
     Ok(bytes)
 }
 
-// Reads a part that is begun.
+// Reads an input stream that is begun.
 fn load_begun<F: Files>(alloc: Global, files: &mut F, part: Part, most: usize) -> Loaded
     requires begun { (F.shows files.old part).stage ≡ Begun }
     requires most { most + 1 < 2 ^ 64 }
@@ -108,9 +108,10 @@ fn load_begun<F: Files>(alloc: Global, files: &mut F, part: Part, most: usize) -
     }
 }
 
-/// Begins a part under its name and reads it whole, or one byte past the most bytes that it may have.
+/// Begins an input stream under its name and reads it whole, or one byte past the most bytes that it may have.
 ///
-/// It never takes more: of a part that is too long, as of one over 16 MiB, one byte more than the most is taken.
+/// It never takes more: of an input stream that is too long, as of one over 16 MiB, one byte more than the most is
+/// taken.
 pub fn load<F: Files>(alloc: Global, files: &mut F, part: Part, name: &str, most: usize) -> Loaded
     requires fresh { (F.shows files.old part).stage ≡ Fresh }
     requires most { most + 1 < 2 ^ 64 }

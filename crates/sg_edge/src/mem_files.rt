@@ -1,22 +1,22 @@
-//! Three parts in memory, whose calls fail where they are told to.
+//! Three input streams in memory, with calls that fail at given numbers.
 ghost use Rattle.std.specs.Prelude.{◌≡◌, ◌+◌, ◌<◌, ◌≤◌, length, take, not, is_ok, IfOk, OnOk, OnErr};
 ghost use Rattle.std.specs.Option.{option_copied};
 ghost use Rattle.sg_edge.specs.declared.files.Stage.TheVariants.{Fresh, Begun};
 ghost use Rattle.sg_edge.specs.Files.{Begins, Breaks, Takes, Only};
 ghost use Rattle.sg_edge.specs.kept.Parts.{part_steps};
 
+use crate::failing_calls::is_among;
 use crate::files::{Failed, Files, Part, Stage};
 use crate::mem_part::MemPart;
-use crate::numbers::is_among;
 use sg_base::Memory;
 use std::alloc::Global;
 
-/// Three parts in memory, some of them maybe not there, whose calls fail where they are told to.
+/// Three input streams in memory, some of them maybe missing, with calls that fail at given numbers.
 ///
-/// A call fails exactly where its number is among those to fail, or it begins a part that isn't there. Calls of `begin`
-/// and `read` are counted together from 1. Parts have no names at first: each can be begun under any, and doesn't tell
-/// which. One that `rename` gave a name can be begun under that alone, and tells it. A read gives as many bytes as there
-/// are, the buffer holds, and one read of that part gives.
+/// A call fails if and only if its number is among those to fail, or it begins a missing input stream. Calls of `begin`
+/// and `read` are counted together from 1. At first each stream can be begun under any name, and reports none. One that
+/// `rename` gave a name can be begun under that alone, and reports it. A read gives as many bytes as remain, the buffer
+/// holds, and one read of that stream gives.
 #[derive(Drop)]
 pub struct MemFiles {
     platform: MemPart,
@@ -31,7 +31,7 @@ pub struct MemFiles {
 impl MemFiles {
     ghost use Rattle.sg_edge.specs.MemFiles.{calls_of, failing_of, mem_left, mem_view, Renames, SetsPiece, StartsAs};
 
-    /// Parts with these bytes, or none, and the numbers of the calls that are to fail.
+    /// Makes input streams with these bytes, or none, and the numbers of the calls that are to fail.
     pub fn new(
         alloc: Global,
         platform: Option<&[u8]>,
@@ -55,7 +55,8 @@ impl MemFiles {
         })
     }
 
-    /// Gives a part that isn't begun a name, under which alone it can be begun. After `Memory` it has its old one, or none.
+    /// Gives an input stream that isn't begun a name, under which alone it can be begun. After `Memory` it has its old
+    /// one, or none.
     pub fn rename(&mut self, alloc: Global, part: Part, name: &str) -> Result<(), Memory>
         requires { (mem_view self.old part).stage ≡ Fresh }
         ensures renamed { OnOk result (Renames part name.now self.old self.new) }
@@ -70,7 +71,7 @@ impl MemFiles {
         Ok(())
     }
 
-    /// Sets the greatest count that one read of a part gives. At first there is none.
+    /// Sets the greatest count that one read of an input stream gives. At first there is none.
     pub fn pieces(&mut self, part: Part, n: usize)
         requires { 0 < n }
         ensures { SetsPiece part n self.old self.new }
@@ -82,7 +83,7 @@ impl MemFiles {
         }
     }
 
-    /// The bytes of a part that were not taken.
+    /// Returns the bytes of an input stream that were not taken.
     pub fn left(&self, part: Part) -> &[u8]
         ensures { result.now ≡ mem_left self.now part }
     {

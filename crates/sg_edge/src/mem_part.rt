@@ -1,4 +1,4 @@
-//! One part in memory.
+//! One input stream in memory.
 ghost use Rattle.std.specs.Prelude.{◌≡◌, ◌+◌, ◌<◌, ◌≤◌, ◌&&◌, length, take, not, is_ok, false, IfOk, OnOk, OnErr};
 ghost use Rattle.std.specs.Option.{option_copied};
 ghost use Rattle.sg_edge.specs.declared.files.Stage.TheVariants.{Fresh, Begun, Over};
@@ -8,8 +8,8 @@ use crate::files::{Failed, Stage};
 use sg_base::Memory;
 use std::alloc::Global;
 
-/// The bytes of a part and its name, if it was given one, whether there is such a part at all, the most bytes that one
-/// read takes, how many were taken, and whether it was begun.
+/// The bytes of an input stream and its name, if it was given one, whether there is such an input stream at all, the
+/// most bytes that one read takes, how many were taken, and whether it was begun.
 #[derive(Drop)]
 pub struct MemPart {
     pub bytes: Vec<u8>,

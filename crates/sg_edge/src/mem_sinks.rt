@@ -1,17 +1,17 @@
-//! Two streams in memory, whose writes fail where they are told to, or where the room is used up.
+//! Two streams in memory, with writes that fail at given numbers, or when the room is used up.
 ghost use Rattle.std.specs.Prelude.{◌≡◌, ◌+◌, ◌<◌, ◌≤◌, length, take, not, is_ok, IfOk, OnOk, OnErr};
 ghost use Rattle.sg_edge.specs.Sinks.{gain, one_if, SameBut};
 
+use crate::failing_calls::is_among;
 use crate::files::Failed;
 use crate::mem_stream::MemStream;
-use crate::numbers::is_among;
 use crate::sinks::{Sinks, Stream};
 use sg_base::Memory;
 use std::alloc::Global;
 
 /// Two streams in memory.
 ///
-/// A write fails exactly where its number is among those to fail, or its stream's room is full. Writes to both
+/// A write fails if and only if its number is among those to fail, or its stream's room is full. Writes to both
 /// streams are counted together from 1. A write takes as many bytes as the piece has, one write may take, and the
 /// room holds.
 #[derive(Drop)]
@@ -30,7 +30,7 @@ pub struct MemSinks {
 impl MemSinks {
     ghost use Rattle.sg_edge.specs.MemSinks.{mem_text, StartsEmpty};
 
-    /// Empty streams with so much room, the numbers of the writes that are to fail, and the most that one write
+    /// Makes empty streams with so much room, the numbers of the writes that are to fail, and the most that one write
     /// takes. Their memory is taken here.
     pub fn new(
         alloc: Global,
@@ -52,7 +52,7 @@ impl MemSinks {
         })
     }
 
-    /// What a stream holds.
+    /// Returns what a stream holds.
     pub fn held(&self, to: Stream) -> &[u8]
         ensures { result.now ≡ mem_text self.now to }
     {

@@ -25,7 +25,7 @@ impl MemStream {
         })
     }
 
-    /// Appends at most `piece` bytes of the text; `None` where the room is full.
+    /// Appends at most `piece` bytes of the text; `None` if the room is full.
     pub fn write(&mut self, text: &[u8], piece: usize) -> Option<usize>
         requires some { 0 < length text.now }
         requires piece { 0 < piece }

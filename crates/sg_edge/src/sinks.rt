@@ -12,19 +12,19 @@ pub enum Stream {
     Err,
 }
 
-/// Where the two streams are written to.
+/// The two streams to which output is written.
 ///
-/// An implementation shows contracts what each stream holds, or `None` where nobody can know, and how many writes
-/// have failed, on either stream. The count rises exactly in a write that answers `Failed`. Since no write follows
-/// one that failed, a truth value serves an implementation as its count.
+/// An implementation shows contracts what each stream holds, or `None` if nobody can know, and how many writes have
+/// failed, on either stream. The count rises exactly in a write that returns `Failed`. Since no write follows one that
+/// failed, a truth value serves an implementation as its count.
 pub trait Sinks {
-    /// What each stream holds, where that is told.
+    /// What each stream holds, if that is known.
     ghost contents: { Self → Stream → Option (List ℕ) };
 
     /// How many writes have failed.
     ghost faults: { Self → ℕ };
 
-    /// Appends the first bytes of the piece, at least one, and answers how many.
+    /// Appends the first bytes of the piece, at least one, and returns how many.
     ///
     /// A device that takes nothing fails. A write that fails appends nothing. The other stream stays as it is.
     fn write(&mut self, to: Stream, piece: &[u8]) -> Result<usize, Failed>

@@ -1,4 +1,4 @@
-//! Three parts in memory that never fail.
+//! Three input streams in memory that never fail.
 ghost use Rattle.std.specs.Prelude.{◌≡◌, ◌<◌, ◌≤◌, length, take, min, IsOk, IfOk, OnOk, OnErr};
 ghost use Rattle.sg_edge.specs.declared.files.Stage.TheVariants.{Fresh, Begun};
 ghost use Rattle.sg_edge.specs.Files.{Begins, Breaks, Takes, Only};
@@ -9,8 +9,8 @@ use crate::mem_part::MemPart;
 use sg_base::Memory;
 use std::alloc::Global;
 
-/// Three parts in memory that are all there. No call of them ever fails: each can be begun under any name, and
-/// doesn't tell which.
+/// Three input streams in memory, none of them missing. No call of them ever fails: each can be begun under any name,
+/// and reports none.
 #[derive(Drop)]
 pub struct SureFiles {
     platform: MemPart,
@@ -25,7 +25,7 @@ impl SureFiles {
     ghost use Rattle.sg_edge.specs.Files.{fresh_view};
     ghost use Rattle.sg_edge.specs.SureFiles.{sure_view};
 
-    /// Parts with these bytes.
+    /// Makes input streams with these bytes.
     pub fn new(
         alloc: Global,
         platform: &[u8],

@@ -5,7 +5,7 @@ ghost use Rattle.sg_edge.specs.Sinks.{gain, SameBut};
 use crate::files::Failed;
 use crate::sinks::{Sinks, Stream};
 
-/// Streams that take each piece whole, keep nothing and don't tell. No write to them ever fails.
+/// Streams that take each piece whole, keep nothing and report no contents. No write to them ever fails.
 #[derive(Drop)]
 pub struct SureSinks;
 

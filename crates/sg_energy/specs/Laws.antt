@@ -1,4 +1,4 @@
--- What a meter that is touched only where a power changes comes to.
+-- The energies of a meter that is touched only when a power changes.
 use Rattle.std.specs.Prelude.{◌≡◌, ℕ, ◌+◌, ◌-◌, ◌*◌, ◌≤◌, List, [], ◌∷◌, sum_by}
 use Rattle.sg_energy.specs.Meter.{Metered, energy_at, with_power}
 

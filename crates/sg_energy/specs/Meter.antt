@@ -23,6 +23,6 @@ pub record IsSince (since date : ℕ) : Type 0 where
 abbrev pub energy_at : Metered → ℕ → ℕ
 energy_at m date = m.energy + m.power * (date - m.since)
 
--- with this power from a date on: touched only where it has another
+-- with this power from a date on: touched only if it has another
 abbrev pub with_power : ℕ → ℕ → Metered → Metered
 with_power power date m = if power == m.power then m else record { power = power; since = date; energy = energy_at m date }

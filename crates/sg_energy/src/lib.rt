@@ -1,5 +1,5 @@
-//! What hosts cost in energy, host by host, exactly.
-//! One enters by `Meter`: `set` gives a host another power from a date on, `energy` tells what it used until a date.
+//! The energy that each host uses, exactly.
+//! The type is `Meter`: `set` gives a host another power from a date on, `energy` returns what it used until a date.
 //! It stands on `sg_base`.
 #![tactic(auto)]
 

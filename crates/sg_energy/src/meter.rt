@@ -30,7 +30,7 @@ impl Model for Meter {
     ghost invariant = { λ m. All IsReading m.readings.items };
 }
 
-// Nobody has a power yet.
+// Makes the readings of hosts without power.
 fn first_readings(alloc: Global, hosts: u32) -> Result<Vec<Reading>, Memory>
     ensures { IfOk result (λ readings. readings.items ≡ replicate hosts first_reading) }
 {
@@ -45,7 +45,7 @@ fn first_readings(alloc: Global, hosts: u32) -> Result<Vec<Reading>, Memory>
 }
 
 impl Meter {
-    /// So many hosts, each without power from the date 0 on, and without energy.
+    /// Makes a meter of so many hosts, each without power from the date 0 on, and without energy.
     pub fn new(alloc: Global, hosts: u32) -> Result<Meter, Memory>
         ensures { IfOk result (λ meter. meter ≡ replicate hosts first_meter) }
     {
@@ -54,8 +54,8 @@ impl Meter {
         })
     }
 
-    /// From this date on the host has this power, in milliwatts. Nothing changes where it has it already. The date
-    /// isn't before that at which its power last changed.
+    /// Gives a host this power, in milliwatts, from this date on. Nothing changes if it has it already. The date isn't
+    /// before that at which its power last changed.
     pub fn set(&mut self, host: PointId, power: u64, date: u128)
         requires host { host.0 < length self.old }
         requires power { power ≤ 10 ^ 9 }
@@ -67,8 +67,8 @@ impl Meter {
         self.readings[host] = self.readings[host].with_power(power, date);
     }
 
-    /// The energy that the host used until this date: whole joules, and the milliwatt-nanoseconds below a joule. The
-    /// date isn't before that at which its power last changed.
+    /// Returns the energy that the host used until this date: whole joules, and the milliwatt-nanoseconds below a
+    /// joule. The date isn't before that at which its power last changed.
     pub fn energy(&self, host: PointId, date: u128) -> (u128, u64)
         requires host { host.0 < length self.now }
         requires date { IsSince (meter_of self.now host.0).since date }

@@ -29,8 +29,8 @@ pub(crate) const FIRST: Reading = Reading {
 };
 
 impl Reading {
-    /// The energy until a date in whole joules and a rest. A power times whole seconds is in thousandths of a joule,
-    /// and times what is below a second in milliwatt-nanoseconds: so each product fits.
+    /// Returns the energy until a date in whole joules and a rest. A power times whole seconds is in thousandths of a
+    /// joule, and times what is below a second in milliwatt-nanoseconds: so each product fits.
     pub(crate) fn energy(self, date: u128) -> (u128, u64)
         requires reading { IsReading self }
         requires date { IsSince self.since date }
@@ -45,7 +45,7 @@ impl Reading {
         (joules, rest % JOULE)
     }
 
-    /// The same with another power from a date on; the reading itself, where it has that power.
+    /// Returns the reading with another power from a date on; the reading itself, if it has that power.
     pub(crate) fn with_power(self, power: u64, date: u128) -> Reading
         requires reading { IsReading self }
         requires power { power ≤ 10 ^ 9 }

@@ -1,4 +1,4 @@
--- The Asks of a run never fall, and only its actors make them.
+-- The counts of fetched lines never fall, and only the run's actors fetch.
 use Rattle.std.proofs.Common.{◌≡◌, ◌≤◌, ◌<◌, ◌+◌, ◌∙◌, arith, ap, refl, ℕ, zero, suc, Bool, true, false, cond, eqb, List, [], ◌∷◌, length, Option, None, Some, Result, Ok, Err}
 use Rattle.std.specs.Prelude.{◌&&◌, ◌-◌, ◌==◌, slice_get}
 use Rattle.std.specs.Option.{option_map_or}
@@ -26,7 +26,7 @@ use Rattle.sg_engine.specs.Output.{first_of, scene_of}
 use Rattle.sg_engine.specs.Pace.{first_parts}
 use Rattle.sg_engine.specs.declared.ended.Ended.{Ended}
 use Rattle.sg_engine.specs.declared.ended.Ended.TheVariants as ended
-use Rattle.sg_engine.specs.Run.{Scene, Answering, Progress, at_world, and_then, and_then_by, answer_step, anyone_ready, are_completed, ask_step, call_after, calls_from, created_by, creates, if_call, if_given, in_world, inboxes, is_ask, is_given, mind_after, minds_if, one_call, other_call, round, round_or_pass, run_from, run_of, zip_with}
+use Rattle.sg_engine.specs.Run.{Scene, Answering, Progress, at_world, then_unless_ended, and_then_by, answer_step, anyone_ready, are_completed, ask_step, call_after, calls_from, created_by, creates, if_call, if_given, in_world, inboxes, is_ask, is_given, mind_after, minds_if, one_call, other_call, round, round_or_pass, run_from, run_of, zip_with}
 use Rattle.sg_engine.proofs.Runs.{Keeps}
 use Rattle.sg_engine.proofs.Starting.{length-minds_from}
 
@@ -39,7 +39,7 @@ by_end : (P : World → Type 0) (how : Option Ended) (first : Progress) (next : 
 by_end P None first next before after = after
 by_end P (Some how) first next before after = before
 
--- ---- so many Asks were made
+-- ---- so many lines were fetched
 abbrev pub HasAsks : (ℕ → ℕ) → World → Type 0
 HasAsks asks world = (x : ℕ) → asks x ≤ world.asks x
 
@@ -47,7 +47,7 @@ answer_asks : (setup : Setup) (actor : ℕ) (result : Result (Option Action) Scr
 answer_asks setup actor (Ok action) world = refl
 answer_asks setup actor (Err why) world = refl
 
--- an Ask that was answered or refused was made
+-- a fetch that was answered or refused was made
 pub ask_made : (setup : Setup) (answers : Answering) (actor : ℕ) (world : World) → (world.core.events == setup.budget) ≡ false → (ask_step setup answers actor world).world.asks ≡ one_more actor world.asks
 ask_made setup answers actor world unused =
     let next : World = record world { asks = one_more actor world.asks } in
@@ -138,7 +138,7 @@ run_by zero n at answers world by = by
 run_by (suc parts) n at answers world by =
     let first = round_or_pass at answers world in
     let here : IsAskedBy n first.world = part_by n at answers world by in
-    by_test (IsAskedBy n) (are_completed world.core) (at_world (Some ended.Completed) world) (and_then first (run_from parts at answers)) by
+    by_test (IsAskedBy n) (are_completed world.core) (at_world (Some ended.Completed) world) (then_unless_ended first (run_from parts at answers)) by
     (by_end (IsAskedBy n) first.ended first (run_from parts at answers) here (run_by parts n at answers first.world here))
 
 parts_by : (parts n : ℕ) (at : Scene) (answers : Answering) (world : World) → IsAskedBy n world → IsAskedBy n (parts_from parts at answers world).world
@@ -147,10 +147,10 @@ parts_by zero n at answers world by = by
 parts_by (suc parts) n at answers world by =
     let first = round_or_pass at answers world in
     let here : IsAskedBy n first.world = part_by n at answers world by in
-    by_test (IsAskedBy n) (are_completed world.core) (at_world (Some ended.Completed) world) (and_then first (parts_from parts at answers)) by
+    by_test (IsAskedBy n) (are_completed world.core) (at_world (Some ended.Completed) world) (then_unless_ended first (parts_from parts at answers)) by
     (by_end (IsAskedBy n) first.ended first (parts_from parts at answers) here (parts_by parts n at answers first.world here))
 
--- in the first parts of the run of a deployment nobody else asks
+-- in the first parts of the run of a deployment no other actor fetches lines
 pub only_actors_by : (platform : Platform) (deployed : Deployed) (script : Bool) (budget crew parts : ℕ) (answers : Answering) (x : ℕ) → length deployed.actors < x → (first_parts platform deployed script budget crew parts answers).world.asks x ≡ 0
 only_actors_by platform deployed script budget crew parts answers =
     (parts_by parts (length deployed.actors) (scene_of platform deployed script budget) answers (first_of platform deployed budget crew) (record {
@@ -158,7 +158,7 @@ only_actors_by platform deployed script budget crew parts answers =
       asks = λ x past. refl;
     })).asks
 
--- in the run of a deployment nobody else asks
+-- in the run of a deployment no other actor fetches lines
 pub only_actors : (platform : Platform) (deployed : Deployed) (script : Bool) (budget crew : ℕ) (answers : Answering) (x : ℕ) → length deployed.actors < x → (run_of (scene_of platform deployed script budget) (first_of platform deployed budget crew) answers).world.asks x ≡ 0
 only_actors platform deployed script budget crew answers =
     (run_by (budget + 1) (length deployed.actors) (scene_of platform deployed script budget) answers (first_of platform deployed budget crew) (record {

@@ -16,7 +16,7 @@ use Rattle.sg_calls.specs.Known.{Known, after}
 use Rattle.sg_rows.specs.Deployment.{Deployed}
 use Rattle.sg_route.specs.Roads.{Roads}
 use Rattle.sg_script.specs.Answer.{answer_of}
-use Rattle.sg_script.specs.Known.{Known as Names}
+use Rattle.sg_script.specs.Known.{ScriptNames as Names}
 use Rattle.sg_script.specs.declared.script.Script.{Script}
 use Rattle.sg_script.specs.Rest.{GoesOn}
 use Rattle.sg_script.specs.Stands.{Kept, kept_of, IsAsked, IsCut, IsWithinNeed, one_more}
@@ -27,7 +27,7 @@ use Rattle.sg_engine.specs.declared.actor_call.ActorCall.{ActorCall}
 use Rattle.sg_engine.specs.declared.ended.Ended.{Ended}
 use Rattle.sg_engine.specs.declared.ended.Ended.TheVariants as ended
 use Rattle.sg_engine.specs.kept.CallList.{calls_of}
-use Rattle.sg_engine.specs.Run.{Scene, scene, Answering, Progress, at_world, and_then, ended_by, in_world, with_front, ask_step, answer_step, unless_killed}
+use Rattle.sg_engine.specs.Run.{Scene, scene, Answering, Progress, at_world, then_unless_ended, ended_by, in_world, with_front, ask_step, answer_step, unless_killed}
 use Rattle.sg_engine.specs.kept.Moments.{Cast, Moment, moment, moment_of, Fits, StandsFor, IsStretch, LacksMemory, ending, script_part}
 use Rattle.sg_engine.proofs.Asked.{ask_made, asks_rise}
 use Rattle.sg_engine.proofs.Runs.{ask_keeps, calls_keep_behind, contexts_fall}
@@ -74,7 +74,7 @@ used_up names taken cast part kept known world actor begun stands used = record 
       ap (λ (b : Bool). cond b (at_world (Some ended.Budget) world) (answer_step known.setup actor (answer_of names source actor (world.asks actor)) (record world { asks = one_more actor world.asks }))) here;
 }
 
--- the script has answered an Ask
+-- the script has answered a fetch
 abbrev pub asked_to : (names : Names) (taken : List ℕ) (cast : Cast) (part part' : PartView) (kept kept' : Kept) (known : Known) (world : World) (actor : ℕ) (answer : Result (Option Action) ScriptFault) →
     StandsFor names taken cast (moment part kept known) world → (known.core.events == known.setup.budget) ≡ false → IsAsked names taken world.asks actor answer part part' kept' →
     IsStretch world.work names (λ answers. ask_step known.setup answers actor world) (λ answers w. answer_step known.setup actor answer w) taken cast (moment part kept known) (moment part' kept' known)
@@ -99,7 +99,7 @@ asked_to names taken cast part part' kept kept' known world actor answer stands 
       ∙ ap (λ (a : Result (Option Action) ScriptFault). answer_step known.setup actor a next) said;
 }
 
--- and the kernel has told it to the actor
+-- and the kernel has passed it to the actor
 pub told_to : (names : Names) (taken : List ℕ) (cast : Cast) (part part' : PartView) (kept kept' : Kept) (old new : Known) (room : ℕ) (world : World) (actor : ℕ) (action : Option Action) (how : Option Ended) →
     StandsFor names taken cast (moment part kept old) world → (old.core.events == old.setup.budget) ≡ false → IsAsked names taken world.asks actor (Ok action) part part' kept' →
     new ≡ record (after (told old.setup old.core actor action) old) { room = room } → how ≡ option_map ended_by (told old.setup old.core actor action).stop →
@@ -110,7 +110,7 @@ told_to names taken cast part part' kept kept' old new room world actor action h
     reached_then names (λ answers. ask_step old.setup answers actor world) (λ answers w. answer_step old.setup actor (Ok action) w) (ending how) taken cast cast (moment part kept old) (moment part' kept' old) (moment part' kept' new) first
     (stepped names (taken ++ is_asked.piece) cast part' kept' old new room (record world { asks = one_more actor world.asks }) step how is_asked.reads.begun first.stands is ends)
 
--- or memory was wanting for it
+-- or memory ran out for it
 pub cut_asked : (names : Names) (taken : List ℕ) (cast : Cast) (part part' : PartView) (kept kept' : Kept) (known : Known) (world : World) (actor : ℕ) →
     StandsFor names taken cast (moment part kept known) world → (known.core.events == known.setup.budget) ≡ false → IsCut names taken world.asks actor part part' kept' →
     LacksMemory names (λ answers. ask_step known.setup answers actor world) taken cast.contexts part part'
@@ -125,7 +125,7 @@ cut_asked names taken cast part part' kept kept' known world actor stands unused
 }
 
 -- ---- the script
--- what the script is asked leads on in the run, where there is a script
+-- a fetch from the script leads on in the run, if there is a script
 pub script_answers : {E : Type 0} (script : Bool) (names : Names) (whole other : Answering → Progress) (taken : List ℕ) (cast : Cast) (world : World) (part part' : PartView) (reader reader' : Script) (old new : Known) (result : Result (Option Ended) E) →
     script ≡ true → ((answers : Answering) → other answers ≡ whole answers) →
     (StandsFor names taken cast (moment part (kept_of reader) old) world → MatchResult result (λ how. IsStretch world.work names whole (ending how) taken cast (moment part (kept_of reader) old) (moment part' (kept_of reader') new)) (λ _. LacksMemory names whole taken cast.contexts part part')) →
@@ -151,7 +151,7 @@ not_unscripted script is isnt = absurd (let e : true ≡ false = sym is ∙ isnt
 
 -- ---- calls one after another
 calls_more : (at : Scene) (answers : Answering) (calls : List ActorCall) (i : ℕ) (d : ActorCall) (world : World) → i < length calls →
-    calls_of at answers (drop i calls) world ≡ and_then (unless_killed at answers (get_or calls i d).actor.0 (get_or calls i d).call world) (calls_of at answers (drop (i + 1) calls))
+    calls_of at answers (drop i calls) world ≡ then_unless_ended (unless_killed at answers (get_or calls i d).actor.0 (get_or calls i d).call world) (calls_of at answers (drop (i + 1) calls))
 unfolding calls_of
 calls_more at answers calls i d world within = at_drop_more (λ l. calls_of at answers l world) calls i d within
 
@@ -166,7 +166,7 @@ rest_from at calls i answers world = calls_of at answers (drop i calls) world
 abbrev at_place : Scene → ActorCall → World → Answering → Progress
 at_place at made world answers = unless_killed at answers made.actor.0 made.call world
 
--- one more call was answered, and the run goes on
+-- one more call was answered, and the run continues
 pub one_more_call : {spent : ℕ} (names : Names) (whole : Answering → Progress) (roads : Roads) (setup : Setup) (firsts : List Mind) (script : Bool) (calls : List ActorCall) (i : ℕ) (d : ActorCall) (taken : List ℕ) (cast cast' : Cast) (old mid new : Moment) → i < length calls → mid.kernel.setup ≡ setup →
     (first : IsStretch spent names whole (rest_from (scene roads setup firsts script) calls i) taken cast old mid) → IsStretch first.world.work names (λ answers. unless_killed (scene roads mid.kernel.setup firsts script) answers (get_or calls i d).actor.0 (get_or calls i d).call first.world) (ending None) (taken ++ first.piece) cast' mid new →
     IsStretch spent names whole (rest_from (scene roads setup firsts script) calls (i + 1)) taken cast' old new
@@ -195,7 +195,7 @@ pub all_called : {spent : ℕ} (names : Names) (whole : Answering → Progress) 
     IsStretch spent names whole (rest_from at calls i) taken cast old new → IsStretch spent names whole (ending None) taken cast old new
 all_called names whole at calls i taken cast old new past reached = rest_as names whole (rest_from at calls i) (ending None) taken cast old new (λ answers world. calls_none at answers calls i world past) reached
 
--- memory was wanting at a later call
+-- memory ran out at a later call
 pub cut_later : {spent : ℕ} (names : Names) (whole : Answering → Progress) (roads : Roads) (setup : Setup) (firsts : List Mind) (script : Bool) (calls : List ActorCall) (i : ℕ) (d : ActorCall) (taken : List ℕ) (cast : Cast) (left : ℕ) (old mid : Moment) (new : PartView) → i < length calls → mid.kernel.setup ≡ setup →
     (first : IsStretch spent names whole (rest_from (scene roads setup firsts script) calls i) taken cast old mid) → LacksMemory names (λ answers. unless_killed (scene roads mid.kernel.setup firsts script) answers (get_or calls i d).actor.0 (get_or calls i d).call first.world) (taken ++ first.piece) left mid.part new →
     LacksMemory names whole taken left old.part new
@@ -210,9 +210,9 @@ cut_later names whole roads setup firsts script calls i d taken cast left old mi
           let there : GoesOn ((taken ++ first.piece) ++ cut.piece) new.stage source = subst (λ (t : List ℕ). GoesOn t new.stage source) (sym joined) goes in
           let call : Progress = at_place at (get_or calls i d) first.world answers in
           let here : IsWithinNeed names source call.world.asks (length ((taken ++ first.piece) ++ cut.piece)) = subst (λ (s : Setup). IsWithinNeed names source (at_place (scene roads s firsts script) (get_or calls i d) first.world answers).world.asks (length ((taken ++ first.piece) ++ cut.piece))) same (cut.needed source there) in
-          let all : whole answers ≡ with_front first.made (and_then call (calls_of at answers (drop (i + 1) calls))) =
+          let all : whole answers ≡ with_front first.made (then_unless_ended call (calls_of at answers (drop (i + 1) calls))) =
           first.is source (goes_back (taken ++ first.piece) cut.piece mid.part new source cut.reads there) ∙ ap (with_front first.made) (calls_more at answers calls i d first.world within) in
-          let behind : IsWithinNeed names source (and_then call (calls_of at answers (drop (i + 1) calls))).world.asks (length ((taken ++ first.piece) ++ cut.piece)) =
+          let behind : IsWithinNeed names source (then_unless_ended call (calls_of at answers (drop (i + 1) calls))).world.asks (length ((taken ++ first.piece) ++ cut.piece)) =
           within_more names source call.world.asks _ _ (calls_keep_behind asks_rise call at answers (drop (i + 1) calls)) here in
           subst (λ (t : List ℕ). IsWithinNeed names source (whole answers).world.asks (length t)) joined
           (subst (λ (p : Progress). IsWithinNeed names source p.world.asks (length ((taken ++ first.piece) ++ cut.piece))) (sym all) behind);
@@ -222,7 +222,7 @@ cut_later names whole roads setup firsts script calls i d taken cast left old mi
           let there : GoesOn ((taken ++ first.piece) ++ cut.piece) new.stage source = subst (λ (t : List ℕ). GoesOn t new.stage source) (sym joined) goes in
           let call : Progress = at_place at (get_or calls i d) first.world answers in
           let here : call.world.contexts ≤ left = subst (λ (s : Setup). (at_place (scene roads s firsts script) (get_or calls i d) first.world answers).world.contexts ≤ left) same (cut.contexts source there) in
-          let all : whole answers ≡ with_front first.made (and_then call (calls_of at answers (drop (i + 1) calls))) =
+          let all : whole answers ≡ with_front first.made (then_unless_ended call (calls_of at answers (drop (i + 1) calls))) =
           first.is source (goes_back (taken ++ first.piece) cut.piece mid.part new source cut.reads there) ∙ ap (with_front first.made) (calls_more at answers calls i d first.world within) in
           omega (arith, ap (λ (p : Progress). p.world.contexts) all, calls_keep_behind contexts_fall call at answers (drop (i + 1) calls), here);
     }

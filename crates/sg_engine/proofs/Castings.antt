@@ -1,4 +1,4 @@
--- Actors that take their seats.
+-- Actors that take their slots.
 use Rattle.std.proofs.Common.{◌≡◌, ◌∙◌, sym, ap, ap₂, subst, refl, ℕ, zero, suc, ◌+◌, ◌<◌, ◌≤◌, List, [], ◌∷◌, ◌++◌, length, map, take, get_or, Option, None, Some, Bool, true, false, cond, IsTrue, ◌-◌, arith, length-append}
 use Rattle.std.specs.List.{count_by}
 use Rattle.std.specs.Prelude.{All, IfSome}

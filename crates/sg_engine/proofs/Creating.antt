@@ -1,4 +1,4 @@
--- An actor that begins takes a context and its seat.
+-- An actor that begins takes a context and its slot.
 use Rattle.std.proofs.Common.{◌≡◌, ◌≢◌, ◌≤◌, ◌<◌, ◌+◌, ◌-◌, ◌==◌, ◌∙◌, sym, ap, ap₂, subst, refl, ℕ, zero, suc, Bool, true, false, cond, List, [], ◌∷◌, ◌++◌, length, map, get_or, set, option_map, Option, None, Some, Result, Ok, Err, arith}
 use Rattle.std.specs.Option.{option_map_or}
 use Rattle.std.specs.Prelude.{IsTrue, nat_lt, slice_get, ◌&&◌, ◌||◌}
@@ -19,7 +19,7 @@ use Rattle.sg_calls.specs.World.{Core, IsActor, MayCall, state_of}
 use Rattle.sg_calls.specs.declared.stop.Stop.{Stop}
 use Rattle.sg_rows.specs.Deployment.{Deployed, extent_of}
 use Rattle.sg_rows.specs.declared.rows.ActorRow.{ActorRow}
-use Rattle.sg_script.specs.Known.{Known as Names}
+use Rattle.sg_script.specs.Known.{ScriptNames as Names}
 use Rattle.sg_script.specs.Rest.{GoesOn}
 use Rattle.sg_script.specs.Stands.{Kept, IsWithinNeed}
 use Rattle.sg_script.proofs.AllNeeds.{within_more}
@@ -41,7 +41,7 @@ use Rattle.sg_engine.proofs.Merging.{all_placed}
 use Rattle.sg_engine.proofs.Reaching.{reached_as, reached_none}
 use Rattle.sg_engine.proofs.Runs.{creates_keep}
 
--- ---- the seat
+-- ---- the slot
 firsts_at : (me : ℕ) (rows : List ActorRow) (i : ℕ) (d : ActorRow) → i < length rows → slice_get (firsts_from me rows) i ≡ Some (mind_at (me + i) (get_or rows i d))
 firsts_at me [] i d within = absurd (omega (arith, within))
 firsts_at me (row ∷ rows) zero d within = let here : me ≡ me + 0 = omega arith in ap (λ n. Some (mind_at n row)) here
@@ -49,12 +49,12 @@ firsts_at me (row ∷ rows) (suc i) d within =
     let next : me + 1 + i ≡ me + suc i = omega arith in
     firsts_at (me + 1) rows i d (omega (arith, within)) ∙ ap (λ n. Some (mind_at n (get_or rows i d))) next
 
--- a seat that has another actor has its mind
+-- a slot that has another actor has its mind
 pub minds_put : {S : Type 0} (see : S → SeatView) (seats : List S) (i : ℕ) (s : S) (m : Option Mind) → mind_in (see s) ≡ m → minds_of (map see (set seats i s)) ≡ set (minds_of (map see seats)) i m
 minds_put see seats i s m is =
     ap minds_of (map-set see seats i s) ∙ map-set mind_in (map see seats) i (see s) ∙ ap (λ o. set (minds_of (map see seats)) i o) is
 
--- its first one, where it begins
+-- its first one, if it begins
 pub begins_at : {S : Type 0} (see : S → SeatView) (deployed : Deployed) (seats : List S) (actor : ℕ) (s : S) (row : ActorRow) → 0 < actor → actor ≤ length deployed.actors → row ≡ get_or deployed.actors (actor - 1) row → mind_in (see s) ≡ Some (mind_at actor row) →
     minds_of (map see (set seats (actor - 1) s)) ≡ set (minds_of (map see seats)) (actor - 1) (slice_get (firsts_from 1 deployed.actors) (actor - 1))
 begins_at see deployed seats actor s row from to is mind =
@@ -75,7 +75,7 @@ unstopped false actor target core = refl
 isnt_used : (events budget : ℕ) → events ≢ budget → (events == budget) ≡ false
 isnt_used events budget isnt = grind (arith, nat_tests, isnt)
 
--- the cast with an actor that begins, if it is given that
+-- the `Cast` with an actor that begins, if it is given that
 abbrev pub cast_if : Bool → List Mind → ℕ → Cast → Cast
 cast_if given firsts actor cast = record { minds = minds_if given firsts actor cast.minds; contexts = cast.contexts - cond given 1 0 }
 
@@ -103,7 +103,7 @@ created_to names taken cast cast' part kept old new room world firsts actor targ
     (λ answers. same_create names taken cast part kept old world firsts actor target given stands unused is)
     (stepped names taken cast' part kept old new room next call None begun there step (ap (λ (o : Option Stop). option_map ended_by o) (unstopped given actor target old.core)))
 
--- memory is wanting for its context
+-- memory runs out for its context
 pub created_short : (names : Names) (taken : List ℕ) (cast : Cast) (left : ℕ) (part : PartView) (kept : Kept) (old : Known) (world : World) (firsts : List Mind) (actor : ℕ) (target : ActorId) (given : Bool) → part.stage ≢ Fresh →
     StandsFor names taken cast (moment part kept old) world → old.core.events ≢ old.setup.budget → given ≡ given_in target cast old.core → left ≡ cast.contexts - cond given 1 0 →
     LacksMemory names (λ answers. creates firsts old.setup.budget actor target world) taken left part part
@@ -132,7 +132,7 @@ created_used names taken cast part kept old world firsts actor target begun stan
     (λ answers. ap (λ (b : Bool). cond b (at_world (Some ended.Budget) world) (in_world (if_given (is_given target world) firsts target.0 world) (created (is_given target world) actor target world.core))) here)
     (reached_none names (ending (Some ended.Budget)) taken cast (moment part kept old) world (reads_none part begun) stands)
 
--- ---- the crew
+-- ---- the context pool
 both : (a b : Bool) → true ≡ (a && b) → (a ≡ true) × (b ≡ true)
 both true b is = (refl, sym is)
 both false b is = absurd (cc is)
@@ -153,7 +153,7 @@ pub crew_lost : (given : Bool) (core : Core) (before left : ℕ) (target : Actor
 crew_lost true core before left target exists is less = omega (arith, some_unstarted core target.0 exists (both (is_unstarted (state_of core target.0)) (nat_lt 0 before) is).0, less)
 crew_lost false core before left target exists is less = omega (arith, less)
 
--- ---- the call of a round
+-- ---- the call of a scheduling round
 pub free_ended : (state : State) → IsTrue (is_answered state || is_ended state) → is_alive state ≡ false → is_ended state ≡ true
 free_ended Unstarted free dead = absurd (cc free)
 free_ended (Ready answer) free dead = absurd (cc dead)
@@ -189,7 +189,7 @@ pub as_created : (at : Scene) (answers : Answering) (actor : ℕ) (what : Call) 
     unless_killed at answers actor what world ≡ creates at.firsts at.setup.budget actor target world
 as_created at answers actor what target core world same alive is = as_called at answers actor what core world same alive ∙ ap (λ (w : Call). one_call at answers actor w world) is
 
--- an Ask, where there is a script
+-- a fetch, if there is a script
 pub as_asked : (at : Scene) (answers : Answering) (actor : ℕ) (what : Call) (core : Core) (world : World) → core ≡ world.core → is_alive (state_of core actor) ≡ true → at.script ≡ true → what ≡ call.Ask →
     unless_killed at answers actor what world ≡ ask_step at.setup answers actor world
 as_asked at answers actor what core world same alive scripted is =

@@ -1,4 +1,4 @@
--- Contexts that are taken from the end of a crew.
+-- Contexts that are taken from the end of a pool.
 use Rattle.std.proofs.Common.{◌≡◌, ◌≤◌, ◌+◌, ◌-◌, ◌∙◌, sym, ap, subst, refl, ℕ, zero, suc, List, [], ◌∷◌, ◌++◌, length, Bool, true, false, arith}
 use Rattle.std.specs.Prelude.{All, drop, reverse, take}
 use Rattle.std.proofs.lemmas.List.{length-drop, length-reverse, length-take, reverse-append, reverse-reverse, take_all, take-append-drop}
@@ -31,7 +31,7 @@ take_less {X} (suc n) (suc m) (x ∷ xs) le = ap (λ (l : List X). x ∷ l) (tak
 pub front_then : {X : Type 0} (old mid new : List X) → IsFront old mid → IsFront mid new → IsFront old new
 front_then old mid new first second = second ∙ ap (take (length new)) first ∙ take_less (length new) (length mid) old (front_short mid new second)
 
--- all but the last so many
+-- all except the last so many
 pub front_less : {X : Type 0} (old new : List X) (n : ℕ) → new ≡ take (length old - n) old → IsFront old new × (length new ≡ length old - n)
 front_less old new n is =
     let long : length new ≡ length old - n = omega (arith, ap length is, length-take (length old - n) old) in
@@ -40,7 +40,7 @@ front_less old new n is =
 pub front_all : {X : Type 0} (P : X → Type 0) (old new : List X) → IsFront old new → All P old → All P new
 front_all P old new front all = subst (All P) (sym front) (All-take P (length new) old all)
 
--- the other way round, those that aren't taken are the last
+-- reversed, those that aren't taken are the last
 pub front_back : {X : Type 0} (old new : List X) → IsFront (reverse old) new → reverse new ≡ drop (length old - length new) old
 front_back {X} old new front =
     let n = length old - length new in
@@ -58,14 +58,14 @@ crew_then cut old mid new first second = record {
   begun = omega (arith, first.begun, second.begun);
 }
 
--- nobody has taken one
+-- no actor has taken one
 pub crew_same : {A : Type 0} (old new : Simulation A) → new.crew.items ≡ old.crew.items → unstarted new.kernel.core ≤ unstarted old.kernel.core → TakesCrew false old new
 crew_same old new same begun = record {
   front = same ∙ front_same old.crew.items ∙ ap (λ k. take k old.crew.items) (sym (ap length same));
   begun = omega (arith, begun, ap length same);
 }
 
--- behind a cut less is said
+-- after a cut less is said
 pub crew_cut : {A : Type 0} (cut : Bool) (old new : Simulation A) → TakesCrew cut old new → TakesCrew true old new
 crew_cut true old new takes = takes
 crew_cut false old new takes = record { front = takes.front; begun = omega (arith, takes.begun) }
@@ -82,7 +82,7 @@ last_taken deployed how crew rest left starts front most few = record {
   most = omega (arith, starts.number, most, few);
 }
 
--- the other way round
+-- reversed
 pub first_taken : {A : Type 0} (deployed : Deployed) (how : Ended) (old left : List A) → TakesLast deployed how (reverse old) left → TakesFirst deployed how old (reverse left)
 first_taken deployed how old left takes = record {
   taken = length old - length left;

@@ -31,7 +31,7 @@ use Rattle.sg_engine.proofs.Asked.{only_actors}
 use Rattle.sg_engine.proofs.Runs.{contexts_fall, run_keeps}
 use Rattle.sg_engine.proofs.Fronts.{front_more, fronts_out, fronts_behind, all_behind, written_whole}
 
--- the source that a run's part gives goes on from what was read
+-- the source that a run's part gives continues from what was read
 abbrev pub Going : PartView → PartView → Source → Type 0
 Going old new source = (piece : List ℕ) → Reads piece old new → GoesOn piece new.stage source
 
@@ -51,7 +51,7 @@ run_ends start count left platform deployed script budget crew show how result c
     let written : Progress → Type 0 = λ p. Ends (written_of show platform deployed budget crew source p).out (written_of show platform deployed budget crew source p).err (written_of show platform deployed budget crew source p).ended result old new in
     subst written (sym (over.is source (going over.piece over.reads))) all
 
--- the work of a run that has come to its end
+-- the work of a run that has ended
 pub run_work : (start count left : ℕ) (platform : Platform) (deployed : Deployed) (script : Bool) (budget crew : ℕ) (show : Show) (how : Ended) (core : Core) (p0 p1 : PartView) (before after : Option (List ℕ)) (source : Source) → Going p0 p1 source →
     IsOver start count left (known_in deployed) (trace_of show platform deployed) (run_of (scene_of platform deployed script budget) (first_of platform deployed budget crew)) how core p0 p1 before after →
     count ≤ start + (run_output platform deployed script budget crew show source).work
@@ -59,14 +59,14 @@ run_work start count left platform deployed script budget crew show how core p0 
     let spent : Progress → Type 0 = λ p. count ≤ start + p.world.work in
     subst spent (sym (over.is source (going over.piece over.reads))) over.worked
 
--- each actor that starts takes a context of the crew
+-- each actor that starts takes a context of the pool
 crew_first : (platform : Platform) (deployed : Deployed) (script : Bool) (budget crew : ℕ) (answers : Answering) → (run_of (scene_of platform deployed script budget) (first_of platform deployed budget crew) answers).world.contexts ≤ crew - started_number deployed
 crew_first platform deployed script budget crew answers = run_keeps contexts_fall (budget + 1) (scene_of platform deployed script budget) answers (first_of platform deployed budget crew)
 
 crew_most : (platform : Platform) (deployed : Deployed) (script : Bool) (budget crew : ℕ) (answers : Answering) → (run_of (scene_of platform deployed script budget) (first_of platform deployed budget crew) answers).world.contexts ≤ crew
 crew_most platform deployed script budget crew answers = omega (arith, crew_first platform deployed script budget crew answers)
 
--- where memory was wanting for the beginning, no more were taken than that
+-- if memory ran out for the beginning, no more were taken than that
 pub run_left_none : (platform : Platform) (deployed : Deployed) (script : Bool) (budget crew left : ℕ) (show : Show) (source : Source) → started_number deployed ≤ crew → crew ≤ left + started_number deployed → crew ≤ left + (run_output platform deployed script budget crew show source).contexts
 run_left_none platform deployed script budget crew left show source enough most =
     omega (arith, crew_first platform deployed script budget crew (answer_of (known_in deployed) source), enough, most)
@@ -75,7 +75,7 @@ left_by : (b : Bool) (crew left want : ℕ) → crew ≡ left + want → MatchBo
 left_by true crew left want is = omega (arith, is)
 left_by false crew left want is = is
 
--- the contexts of a run that has come to its end
+-- the contexts of a run that has ended
 pub run_left : (start count left : ℕ) (platform : Platform) (deployed : Deployed) (script : Bool) (budget crew : ℕ) (show : Show) (how result : Ended) (core : Core) (p0 p1 : PartView) (before after : Option (List ℕ)) (source : Source) → Going p0 p1 source →
     IsOver start count left (known_in deployed) (trace_of show platform deployed) (run_of (scene_of platform deployed script budget) (first_of platform deployed budget crew)) how core p0 p1 before after →
     TakesContexts (run_output platform deployed script budget crew show source).contexts result crew left
@@ -129,8 +129,8 @@ left_told : (piece : List ℕ) (a b : Option (List ℕ)) → a ≡ before piece 
 left_told piece a None is some = subst IsSome is some
 left_told piece a (Some rest) is some = refl
 
--- ---- the script's part, where there is a script and where there is none
--- a part that tells goes on telling
+-- ---- the script's part, with a script and without one
+-- a part with known contents keeps them known
 pub goes_on_telling : (script : Bool) (piece : List ℕ) (old new : PartView) → Reads piece (script_part script old) (script_part script new) → (script ≡ false → new ≡ old) → KeepsTelling old new
 goes_on_telling true piece old new reads same = left_told piece old.left new.left reads.left
 goes_on_telling false piece old new reads same = λ some. subst (λ (p : PartView). IsSome p.left) (sym (same refl)) some
@@ -144,7 +144,7 @@ pub broken_part : (script : Bool) (piece : List ℕ) (old new : PartView) → Re
 broken_part true piece old new reads broken = (broken, reads.rising, reads.broke broken)
 broken_part false piece old new reads broken = absurd (cc broken)
 
--- nothing is left of a part that has nothing to give
+-- no byte remains of a part that has nothing to give
 none_read : (piece : List ℕ) → Some [] ≡ before piece (Some []) → [] ≡ piece
 none_read piece is = let all : [] ≡ piece ++ [] = cc is in all ∙ append-nil piece
 

@@ -9,7 +9,7 @@ use Rattle.sg_edge.specs.declared.files.Failed.{Failed}
 use Rattle.sg_engine.specs.Gains.{GainsAll, GainsFronts}
 use Rattle.sg_engine.specs.kept.Writing.{Wrote, Broke, IsPut, Tells}
 
--- what is left begins with a text, of which a front was written then
+-- what is left begins with a text, of which a prefix was written then
 written_on : (whole text rest left : List ℕ) (old mid new : Option (List ℕ)) → IsWritten whole (text ++ rest) old mid → IsWritten text left mid new → IsWritten whole (left ++ rest) old new
 written_on whole text rest left old mid new first then = record {
   done = first.done ++ then.done;
@@ -45,14 +45,14 @@ wrote_all whole waiting old mid new z f f' put wrote = record {
   sound = wrote.sound ∙ put.sound;
 }
 
--- a front of a text is a front of a longer one
+-- a prefix of a text is a prefix of a longer one
 pub front_more : (text more : List ℕ) (old new : Option (List ℕ)) → GainsFront text old new → GainsFront (text ++ more) old new
 front_more text more old new front = (
   front.0 ++ more,
   record { done = front.1.done; split = ap (λ (l : List ℕ). l ++ more) front.1.split ∙ append_assoc front.1.done front.0 more; held = front.1.held },
 )
 
--- a front of the second text, behind nothing of the first
+-- a prefix of the second text, after nothing of the first
 pub fronts_err : (text : List ℕ) (old new : Stream → Option (List ℕ)) → GainsFront text (old Err) (new Err) → new Out ≡ old Out → GainsFronts [] text old new
 fronts_err text old new front same = record {
   out_done = [];
@@ -66,7 +66,7 @@ fronts_err text old new front same = record {
   err_held = front.1.held;
 }
 
--- a front of the first text alone
+-- a prefix of the first text alone
 pub fronts_out : (out err : List ℕ) (old new : Stream → Option (List ℕ)) → GainsFront out (old Out) (new Out) → new Err ≡ old Err → GainsFronts out err old new
 fronts_out out err old new front same = record {
   out_done = front.1.done;
@@ -94,7 +94,7 @@ fronts_none out err old new same_out same_err = record {
   err_held = same_err ∙ sym (gain-nil (old Err));
 }
 
--- the first text begins with what waited behind a text that was written
+-- the first text begins with what waited after a text that was written
 pub fronts_behind : (front waiting out err : List ℕ) (old mid new : Stream → Option (List ℕ)) → IsWritten front waiting (old Out) (mid Out) → mid Err ≡ old Err → GainsFronts (waiting ++ out) err mid new → GainsFronts (front ++ out) err old new
 fronts_behind front waiting out err old mid new wrote same f = record {
   out_done = wrote.done ++ f.out_done;
@@ -124,7 +124,7 @@ all_behind front waiting out err old mid new wrote same g = record {
 pub written_whole : (text : List ℕ) (old new : Option (List ℕ)) → new ≡ gain old text → IsWritten text [] old new
 written_whole text old new held = record { done = text; split = sym (append-nil text); held = held }
 
--- a line on Err behind a text that is written
+-- a line on Err after a text that is written
 pub told_behind : (text err : List ℕ) (result : Result (Unit {0}) Failed) (old mid new : Stream → Option (List ℕ)) (z f f' : ℕ) → Wrote text old mid z f → Tells [] err result mid new f f' → Tells text err result old new z f'
 told_behind text err (Ok done) old mid new z f f' wrote told = (
   subst (λ (t : List ℕ). GainsAll t err old new) (append-nil text) (all_behind text [] [] err old mid new (written_whole text (old Out) (mid Out) wrote.out_held) wrote.err_held told.0),

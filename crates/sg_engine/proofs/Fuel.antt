@@ -1,4 +1,4 @@
--- More rounds and passes than a run needs.
+-- More scheduling rounds and time advances than a run needs.
 use Rattle.std.proofs.Common.{◌≡◌, ◌∙◌, ap, refl, ℕ, zero, suc, ◌+◌, Bool, true, false, cond, Option, None, Some, arith}
 use Rattle.std.specs.Prelude.{IsSome}
 use Rattle.sg_engine.specs.World.{World}

@@ -1,4 +1,4 @@
--- Nobody is blocked by the call of another, and nobody goes back to before its beginning.
+-- No actor is blocked by the call of another, and no actor goes back to before its beginning.
 use Rattle.std.proofs.Common.{◌≡◌, ◌≢◌, ◌∙◌, sym, ap, subst, refl, inl, inr, ℕ, zero, suc, ◌+◌, ◌-◌, ◌==◌, ◌<◌, ◌≤◌, Bool, true, false, cond, IsTrue, List, [], ◌∷◌, length, get_or, set, Option, None, Some, Result, Ok, Err, arith}
 use Rattle.std.specs.List.{count_by}
 use Rattle.std.specs.Prelude.{◌||◌, All}
@@ -28,7 +28,7 @@ use Rattle.sg_calls.specs.declared.stop.Stop.{Stop}
 use Rattle.sg_calls.specs.Known.{Known, after, after_call}
 use Rattle.sg_owners.specs.declared.owners.How.{How}
 use Rattle.sg_owners.specs.declared.owners.How.TheVariants as how
-use Rattle.sg_calls.specs.Answers.{answers, answers_by, answers_side, bare_side, finishes, for_receiver, is_on, with_over}
+use Rattle.sg_calls.specs.Answers.{answers, answers_by, answers_side, bare_side, finishes, for_receiver, awaits_side, with_over}
 use Rattle.sg_setup.specs.Setup.{Setup}
 use Rattle.sg_calls.specs.World.{Core, IsActor, extent, host_of, is_suspended, state_of, whose_at, with_suspended}
 use Rattle.sg_states.specs.Actors.{actor_at, blocking_in, is_alive, is_answered, is_ended, is_unstarted, joiners, not_suspended, put_state, put_suspended, state_at}
@@ -36,7 +36,7 @@ use Rattle.sg_calls.specs.Steps.{Step, all_of, at_once, counted, each, follows, 
 use Rattle.sg_calls.specs.Calls.{answered, answered_call, executes, with_execution}
 use Rattle.sg_calls.specs.Locks.{caller_gets, wakes_from, wakes, all_wake, caller_first, caller_last, joiners_wake}
 use Rattle.sg_calls.specs.Kills.{awaited, gives_up, gives_up_by, kill_done, kills, kills_alive, withdrawn}
-use Rattle.sg_calls.specs.Lives.{begins, created, joins_by, leaves}
+use Rattle.sg_calls.specs.Lives.{begins, created, joins_by, with_actor_ended}
 use Rattle.sg_kernel.specs.Passes.{all_fail, changes, core_later, ends, ends_by, ends_in, ends_one, enters_one, entry_stretches, fails, fails_one, next_span, pass_at, pass_of, settled, stretches}
 use Rattle.sg_calls.specs.Suspensions.{held_by, held_if, held_on, suspended_to}
 use Rattle.sg_owners.specs.declared.owners.Whose.{Whose}
@@ -79,7 +79,7 @@ then actor old mid new first second = record {
   begun = omega (arith, first.begun, second.begun);
 }
 
--- where one is put that has begun, no more haven't
+-- if one is put that has begun, no more haven't
 by_length : (actors : List Actor) (i : ℕ) (next : Actor) → length actors ≤ i → set actors i next ≡ actors
 by_length [] zero next past = refl
 by_length [] (suc i) next past = refl
@@ -94,7 +94,7 @@ begun_by actors i next begun = elim (cases_lt i (length actors)) [
   | inr past ↦ omega (arith, ap (count_by has_not_begun) (by_length actors i next past))
 ]
 
--- where one is put in the place of one that hadn't begun, one less hasn't
+-- if one is put in the place of one that hadn't begun, one less hasn't
 pub one_less : (actors : List Actor) (i : ℕ) (d next : Actor) → i < length actors → has_not_begun (get_or actors i d) ≡ true → has_not_begun next ≡ false → count_by has_not_begun (set actors i next) + 1 ≡ count_by has_not_begun actors
 one_less actors i d next within was is =
     let old : ◌≡◌ {A = ℕ} (cond (has_not_begun (get_or actors i d)) 1 0) 1 = ap {B = ℕ} (λ (b : Bool). cond b 1 0) was in
@@ -206,7 +206,7 @@ failing false comer serial bytes core from = taking false comer serial core from
 told : (over : How) (serial : ℕ) (party : Party) (given : Side) (actor : ℕ) (blocking : Option Blocking) (core : Core) → Leaves actor core.actors (answers_by over serial party given blocking core).core.actors
 told over serial party given actor None core = none actor core.actors
 told over serial party given actor (Some blocking) core =
-    unless (is_on serial party blocking.on) actor core.actors _ (goes_on core []) (readied actor given.actor.0 core.actors _) (none actor core.actors)
+    unless (awaits_side serial party blocking.on) actor core.actors _ (goes_on core []) (readied actor given.actor.0 core.actors _) (none actor core.actors)
 
 other_failing : (comer : Comer) (serial : ℕ) (other : Side) (core : Core) → Leaves comer.side.actor.0 core.actors (other_fails comer serial other core).core.actors
 other_failing comer serial other core =
@@ -242,7 +242,7 @@ waiting : (on : Option Await) (actor : ℕ) (core : Core) → 0 < actor → Leav
 waiting None actor core from = own actor core.actors _ from refl
 waiting (Some on) actor core from = until _ actor on _ from
 
--- ---- executions that are held
+-- ---- executions that are suspended
 executing : (held : Bool) (actor serial : ℕ) (core : Core) → Leaves actor core.actors (held_if held serial core).actors
 executing true actor serial core = none actor core.actors
 executing false actor serial core = none actor core.actors
@@ -305,7 +305,7 @@ suspending on actor target core =
     either (is_alive (state_of core target.0)) actor core.actors (held_by on (blocking_in (state_of core target.0)) put_so) core
     (then actor core.actors put_so.actors _ (suspended actor target.0 core.actors on) (holding on (blocking_in (state_of core target.0)) actor put_so)) (none actor core.actors)
 
--- behind that the caller is answered
+-- after that the caller is answered
 answering : (actor : ℕ) (what : Call) (old : List Actor) (core : Core) → 0 < actor → Leaves actor old core.actors → Leaves actor old (at_once actor what 0 answer.Done core).core.actors
 answering actor what old core from before = then actor old core.actors _ before (own actor core.actors _ from refl)
 
@@ -335,12 +335,12 @@ called roads setup core actor (call.Kill target) from = killing actor target (co
 called roads setup core actor (call.Suspend target) from = answering actor (call.Suspend target) core.actors (suspended_to true target (counted core)) from (suspending true actor target (counted core))
 called roads setup core actor (call.Resume target) from = answering actor (call.Resume target) core.actors (suspended_to false target (counted core)) from (suspending false actor target (counted core))
 called roads setup core actor call.Yield from = own actor core.actors _ from refl
-called roads setup core actor call.Exit from = then actor core.actors (leaves actor (counted core)).actors _ (own actor core.actors _ from refl) (woken actor (joiners actor 1 (leaves actor (counted core)).actors) (leaves actor (counted core)))
+called roads setup core actor call.Exit from = then actor core.actors (with_actor_ended actor (counted core)).actors _ (own actor core.actors _ from refl) (woken actor (joiners actor 1 (with_actor_ended actor (counted core)).actors) (with_actor_ended actor (counted core)))
 
 answered_leaves : (roads : Roads) (setup : Setup) (core : Core) (actor : ℕ) (what : Call) → 0 < actor → Leaves actor core.actors (answered roads setup core actor what).core.actors
 answered_leaves roads setup core actor what from = unless (core.events == setup.budget) actor core.actors _ (answered_call roads setup core actor what) (none actor core.actors) (called roads setup core actor what from)
 
--- ---- a pass
+-- ---- a time advance
 entering : (setup : Setup) (row : ℕ) (core : Core) → Leaves 0 core.actors (changes setup row core).core.actors
 entering setup row core =
     unless (core.events == setup.budget) 0 core.actors _ (all_of (entry_stretches setup row) core) (none 0 core.actors)
@@ -392,7 +392,7 @@ created_free given old new actor target room from is =
 pub created_number : (given : Bool) (old new : Known) (actor : ℕ) (target : ActorId) (room : ℕ) → 0 < actor → new ≡ record (after (created given actor target old.core) old) { room = room } → length new.core.actors ≡ length old.core.actors
 created_number given old new actor target room from is = (by_step actor old new (created given actor target old.core) room is (creating given actor target old.core from)).number
 
--- where it is given one more has begun
+-- if it is given one more has begun
 pub created_begun : (old new : Known) (actor : ℕ) (target : ActorId) (room : ℕ) → 0 < actor → IsActor old.core target.0 → is_unstarted (state_of old.core target.0) ≡ true → new ≡ record (after (created true actor target old.core) old) { room = room } →
     unstarted new.core + 1 ≤ unstarted old.core
 created_begun old new actor target room from exists fresh is =
@@ -403,7 +403,7 @@ created_begun old new actor target room from exists fresh is =
 pub created_same : (old new : Known) (actor : ℕ) (target : ActorId) (room : ℕ) → 0 < actor → new ≡ record (after (created false actor target old.core) old) { room = room } → unstarted new.core ≤ unstarted old.core
 created_same old new actor target room from is = (by_step actor old new (created false actor target old.core) room is (creating false actor target old.core from)).begun
 
--- somebody hasn't begun where one hasn't
+-- an actor hasn't begun if one hasn't
 pub some_unstarted : (core : Core) (actor : ℕ) → IsActor core actor → is_unstarted (state_of core actor) ≡ true → 0 < unstarted core
 some_unstarted core actor exists fresh = omega (arith, one_less core.actors (actor - 1) (not_suspended Ended) (not_suspended Ended) (omega (arith, exists.from, exists.to)) fresh refl)
 
@@ -412,7 +412,7 @@ pub answered_fits : (deployed : Deployed) (part : PartView) (kept : Kept) (roads
 answered_fits deployed part kept roads old new actor what room from is fits =
     fits_by deployed part kept actor old new (answered roads old.setup old.core actor what) room is (answered_leaves roads old.setup old.core actor what from) fits
 
--- but for the kernel nothing of the simulation has changed
+-- except for the kernel nothing of the simulation has changed
 room_left : (b : Bool) (old new : Known) (step : Step) → new ≡ after_call b step old → old.room ≤ new.room + 1
 room_left true old new step is = omega (arith, ap (λ (k : Known). k.room) is)
 room_left false old new step is = omega (arith, ap (λ (k : Known). k.room) is)

@@ -1,4 +1,4 @@
--- The calls of a round, with those that weren't made and without.
+-- The calls of a scheduling round, with those that weren't made and without.
 use Rattle.std.proofs.Common.{◌≡◌, ◌≢◌, ◌∙◌, sym, ap, subst, refl, ℕ, zero, suc, ◌+◌, ◌-◌, ◌<◌, ◌≤◌, Bool, true, false, cond, List, [], ◌∷◌, ◌++◌, length, map, get_or, take, Option, None, Some, IsTrue, arith}
 use Rattle.std.specs.Prelude.{All, AllPairs}
 use Rattle.std.proofs.lemmas.List.{get_or_default, take_all}
@@ -18,7 +18,7 @@ use Rattle.sg_engine.specs.World.{World}
 use Rattle.sg_engine.specs.declared.actor_call.ActorCall.{ActorCall}
 use Rattle.sg_engine.specs.declared.ended.Ended.{Ended as Ending}
 use Rattle.sg_engine.specs.kept.CallList.{with_call, call_list, calls_of}
-use Rattle.sg_engine.specs.Run.{Scene, Answering, Progress, with_front, and_then, and_then_by, unless_killed, if_call, calls_from, zip_with, call_after, inboxes}
+use Rattle.sg_engine.specs.Run.{Scene, Answering, Progress, with_front, then_unless_ended, and_then_by, unless_killed, if_call, calls_from, zip_with, call_after, inboxes}
 use Rattle.sg_engine.specs.kept.SeatRules.{call_in}
 
 -- ---- what isn't there is answered by nothing
@@ -27,7 +27,7 @@ then_same None first f g same = ap (with_front first.made) (same first.world)
 then_same (Some how) first f g same = refl
 
 listed_call : (at : Scene) (answers : Answering) (actor : ℕ) (what : Option Call) (rest : List (Option Call)) (world : World) → ((w : World) → calls_of at answers (call_list (actor + 1) rest) w ≡ calls_from at answers (actor + 1) rest w) →
-    calls_of at answers (with_call actor what (call_list (actor + 1) rest)) world ≡ and_then (if_call at answers actor what world) (calls_from at answers (actor + 1) rest)
+    calls_of at answers (with_call actor what (call_list (actor + 1) rest)) world ≡ then_unless_ended (if_call at answers actor what world) (calls_from at answers (actor + 1) rest)
 unfolding calls_of
 listed_call at answers actor None rest world same = same world
 listed_call at answers actor (Some what) rest world same =
@@ -100,7 +100,7 @@ row_short [] ys = omega arith
 row_short (x ∷ xs) [] = omega arith
 row_short (x ∷ xs) (y ∷ ys) = omega (arith, row_short xs ys)
 
--- who has called was ready
+-- an actor that has called was ready
 pub listed_may : (minds : List (Option Mind)) (core : Core) → All (λ (made : ActorCall). MayCall core made.actor.0) (call_list 1 (zip_with call_after minds (inboxes core)))
 listed_may minds core = listed_all (λ (made : ActorCall). MayCall core made.actor.0) 1 (zip_with call_after minds (inboxes core)) (λ i made is. let same : i + 1 ≡ 1 + i = omega arith in subst (MayCall core) same (call_may minds core i made is))
 
@@ -130,7 +130,7 @@ none_listed actor (what ∷ calls) zero none = refl
 none_listed actor (what ∷ calls) (suc c) none =
     ap (λ (o : Option Call). with_call actor o (call_list (actor + 1) (take c calls))) (none 0 (omega arith)) ∙ none_listed (actor + 1) calls c (λ j within. none (suc j) (omega (arith, within)))
 
--- nothing is added where nobody between has called
+-- nothing is added if no actor between has called
 pub skipped_calls : (actor : ℕ) (calls : List (Option Call)) (b c : ℕ) → b ≤ c → ((j : ℕ) → b ≤ j → j < c → get_or calls j None ≡ None) → call_list actor (take b calls) ≡ call_list actor (take c calls)
 unfolding call_list
 skipped_calls actor [] zero zero le none = refl

@@ -1,4 +1,5 @@
--- How far a run has come behind so many rounds and passes, and that its lines are written by then.
+-- How far a run has come after so many scheduling rounds and time advances, and that its lines are
+-- written by then.
 use Rattle.std.proofs.Common.{arith, ◌≡◌, ◌≤◌, ◌+◌, ◌∙◌, sym, ap, subst, refl, ℕ, zero, suc, Bool, true, false, cond, List, [], ◌++◌, length, Option, None, Some, append_assoc}
 use Rattle.std.specs.Prelude.{MatchBool}
 use Rattle.std.specs.List.{list_all}
@@ -16,7 +17,7 @@ use Rattle.sg_states.specs.Actors.{is_over}
 use Rattle.sg_rows.specs.Deployment.{Deployed}
 use Rattle.sg_rows.specs.Platform.{Platform}
 use Rattle.sg_script.specs.Answer.{answer_of}
-use Rattle.sg_script.specs.Known.{Known as Names, known_in}
+use Rattle.sg_script.specs.Known.{ScriptNames as Names, known_in}
 use Rattle.sg_script.specs.Needed.{needed_by}
 use Rattle.sg_script.specs.Rest.{GoesOn}
 use Rattle.sg_script.specs.Stands.{IsWithinNeed, Reads}
@@ -33,7 +34,7 @@ use Rattle.sg_engine.specs.Fuel.{parts_from}
 use Rattle.sg_engine.specs.Gains.{GainsAll, GainsFronts}
 use Rattle.sg_engine.specs.Output.{first_of, scene_of, trace_of}
 use Rattle.sg_engine.specs.Pace.{IsInPace, first_parts, pace_of}
-use Rattle.sg_engine.specs.Run.{Scene, Answering, Progress, are_completed, at_world, and_then, and_then_by, round_or_pass, with_front}
+use Rattle.sg_engine.specs.Run.{Scene, Answering, Progress, are_completed, at_world, then_unless_ended, and_then_by, round_or_pass, with_front}
 use Rattle.sg_engine.specs.kept.Moments.{AreNeededBy, Cast, moment, script_part}
 use Rattle.sg_engine.specs.kept.Stretches.{Trace, Advances, CutsOff, IsPaced}
 use Rattle.sg_engine.proofs.Asked.{asks_rise, only_actors_by}
@@ -43,7 +44,7 @@ use Rattle.sg_engine.proofs.Runs.{parts_keep, then_keeps}
 use Rattle.sg_engine.proofs.Simulating.{SoFar, trace_none}
 use Rattle.sg_engine.proofs.Waiting.{gains_then}
 
--- ---- one round or pass more
+-- ---- one scheduling round or time advance more
 -- the last stretch of all changes nothing
 then_none : (how : Option Ended) (world : World) (made : List Record) → and_then_by how (record { world = world; made = made; ended = how }) (at_world None) ≡ record { world = world; made = made; ended = how }
 then_none None world made = ap (λ (l : List Record). record { world = world; made = l; ended = None }) (append-nil made)
@@ -55,34 +56,34 @@ front_then : (how : Option Ended) (front made : List Record) (world : World) (ne
 front_then None front made world next = ap (λ (l : List Record). record (next world) { made = l }) (sym (append_assoc front made (next world).made))
 front_then (Some how) front made world next = refl
 
--- a stretch, another, and one more, where the other with one more is that
-then_then : (how : Option Ended) (world : World) (made : List Record) (next more : World → Progress) (last : World → Progress) → next world ≡ and_then (more world) last →
-    and_then_by how (record { world = world; made = made; ended = how }) next ≡ and_then (and_then_by how (record { world = world; made = made; ended = how }) more) last
+-- a stretch, another, and one more, if the other with one more is that
+then_then : (how : Option Ended) (world : World) (made : List Record) (next more : World → Progress) (last : World → Progress) → next world ≡ then_unless_ended (more world) last →
+    and_then_by how (record { world = world; made = made; ended = how }) next ≡ then_unless_ended (and_then_by how (record { world = world; made = made; ended = how }) more) last
 then_then None world made next more last same =
     ap (with_front made) same ∙ front_then (more world).ended made (more world).made (more world).world last
 then_then (Some how) world made next more last same = refl
 
-unless_done : (b : Bool) (over x y : Progress) (last : World → Progress) → over ≡ and_then over last → x ≡ and_then y last → cond b over x ≡ and_then (cond b over y) last
+unless_done : (b : Bool) (over x y : Progress) (last : World → Progress) → over ≡ then_unless_ended over last → x ≡ then_unless_ended y last → cond b over x ≡ then_unless_ended (cond b over y) last
 unless_done true over x y last first then = first
 unless_done false over x y last first then = then
 
 -- one more of these is the last of them
-parts_more : (n : ℕ) (at : Scene) (answers : Answering) (world : World) → parts_from (suc n) at answers world ≡ and_then (parts_from n at answers world) (parts_from 1 at answers)
+parts_more : (n : ℕ) (at : Scene) (answers : Answering) (world : World) → parts_from (suc n) at answers world ≡ then_unless_ended (parts_from n at answers world) (parts_from 1 at answers)
 unfolding parts_from
 parts_more zero at answers world = refl
 parts_more (suc n) at answers world =
     let first = round_or_pass at answers world in
-    unless_done (are_completed world.core) (at_world (Some ended.Completed) world) (and_then first (parts_from (suc n) at answers)) (and_then first (parts_from n at answers)) (parts_from 1 at answers) refl
+    unless_done (are_completed world.core) (at_world (Some ended.Completed) world) (then_unless_ended first (parts_from (suc n) at answers)) (then_unless_ended first (parts_from n at answers)) (parts_from 1 at answers) refl
     (then_then first.ended first.world first.made (parts_from (suc n) at answers) (parts_from n at answers) (parts_from 1 at answers) (parts_more n at answers first.world))
 
--- one where somebody hasn't ended
+-- one if an actor hasn't ended
 one_part : (at : Scene) (answers : Answering) (world : World) → list_all is_over world.core.actors ≡ false → parts_from 1 at answers world ≡ round_or_pass at answers world
 unfolding parts_from
 one_part at answers world some =
     let first = round_or_pass at answers world in
-    ap (λ (b : Bool). cond b (at_world (Some ended.Completed) world) (and_then first (at_world None))) some ∙ then_none first.ended first.world first.made
+    ap (λ (b : Bool). cond b (at_world (Some ended.Completed) world) (then_unless_ended first (at_world None))) some ∙ then_none first.ended first.world first.made
 
--- behind nothing
+-- after nothing
 pub parts_none : (n : ℕ) (at : Scene) (answers : Answering) (world : World) → n ≡ 0 → parts_from n at answers world ≡ record { world = world; made = []; ended = None }
 unfolding parts_from
 parts_none n at answers world none = ap (λ (k : ℕ). parts_from k at answers world) none
@@ -93,10 +94,10 @@ pub part_next : (n m : ℕ) (at : Scene) (answers : Answering) (first world : Wo
 part_next n m at answers first world made more some here =
     ap (λ (k : ℕ). parts_from k at answers first) more
     ∙ parts_more n at answers first
-    ∙ ap (λ (p : Progress). and_then p (parts_from 1 at answers)) here
+    ∙ ap (λ (p : Progress). then_unless_ended p (parts_from 1 at answers)) here
     ∙ ap (with_front made) (one_part at answers world some)
 
--- the Asks of the parts so far are among those with one more
+-- the fetches of the parts so far are among those with one more
 part_rises : (n m : ℕ) (at : Scene) (answers : Answering) (first : World) → m ≡ suc n → (x : ℕ) → (parts_from n at answers first).world.asks x ≤ (parts_from m at answers first).world.asks x
 part_rises n m at answers first more x =
     let here = parts_from n at answers first in
@@ -182,7 +183,7 @@ run_paced platform deployed script budget crew show old new mid text before afte
           (most names source (length deployed.actors) next.world.asks (length paced.piece) (only_actors_by platform deployed script budget crew (paced.number + 1) (answer_of names source)) (paced.needed source goes));
     }
 
--- where nothing was done
+-- if nothing was done
 pub none_paced : (platform : Platform) (deployed : Deployed) (script : Bool) (budget crew : ℕ) (show : Show) (old new : Stream → Option (List ℕ)) (before after : Part → PartView) (source : Source) → new Out ≡ old Out → after Script ≡ before Script → IsInPace (pace_of platform deployed script budget crew show source) old new before after
 none_paced platform deployed script budget crew show old new before after source same_out same_part =
     let none : (first_parts platform deployed script budget crew 0 (answer_of (known_in deployed) source)).made ≡ [] =

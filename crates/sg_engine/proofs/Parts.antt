@@ -1,4 +1,4 @@
--- Rounds, by the turns that they take and the calls that they answer.
+-- Scheduling rounds, by the turns that they take and the calls that they answer.
 use Rattle.std.proofs.Common.{◌≡◌, ◌≤◌, ◌∙◌, sym, ap, ap₂, subst, ℕ, ◌<◌, List, length, map, Option, Result, arith}
 use Rattle.std.specs.Prelude.{All, AllPairs, MatchResult}
 use Rattle.std.proofs.lemmas.List.{length-map}
@@ -13,7 +13,7 @@ use Rattle.sg_engine.specs.kept.Invariant.{places_in, HasRoom, IsKept}
 use Rattle.sg_setup.specs.Setup.{Setup}
 use Rattle.sg_calls.specs.World.{Core, MayCall, extent}
 use Rattle.sg_engine.specs.World.{World}
-use Rattle.sg_script.specs.Known.{Known as Names}
+use Rattle.sg_script.specs.Known.{ScriptNames as Names}
 use Rattle.sg_engine.specs.declared.actor_call.ActorCall.{ActorCall}
 use Rattle.sg_engine.specs.declared.ended.Ended.{Ended}
 use Rattle.sg_engine.specs.kept.CallList.{call_list, calls_of}
@@ -23,7 +23,7 @@ use Rattle.sg_engine.specs.kept.SeatRules.{mind_in, minds_of, IsSeated}
 use Rattle.sg_engine.proofs.Listing.{calls_listed, listed_may, listed_rises, listed_short, row_short}
 use Rattle.sg_engine.proofs.Reaching.{matched_as}
 
--- ---- the calls of a round
+-- ---- the calls of a scheduling round
 pub calls_may : (minds : List (Option Mind)) (core : Core) (extent : Extent) (calls : List ActorCall) → calls ≡ call_list 1 (zip_with call_after minds (inboxes core)) → All (λ (made : ActorCall). IsCall extent made.call) calls → All (λ (made : ActorCall). MayCall core made.actor.0 × IsCall extent made.call) calls
 calls_may minds core extent calls are limited =
     let may = subst (All (λ (made : ActorCall). MayCall core made.actor.0)) (sym are) (listed_may minds core) in
@@ -37,7 +37,7 @@ calls_few see seats core calls n are few =
     let places = map see seats in
     omega (arith, ap length are, listed_short 1 (zip_with call_after (minds_of places) (inboxes core)), row_short (minds_of places) (inboxes core), length-map places mind_in, length-map seats see, few)
 
--- behind a reserve there is room for a round
+-- after a reserve there is room for a scheduling round
 pub room_for : {A : Type 0} {mind : A → Option Mind} {deployed : Deployed} {part : PartView} {sim : Simulation A} (mid : Known) → IsKept mind deployed part sim → mid ≡ record sim.kernel { room = mid.room } → length sim.seats.items ≤ mid.room → HasRoom mind (record sim { kernel = mid })
 room_for {A} {mind} {deployed} {part} {sim} mid kept same room =
     let actors : length mid.core.actors ≡ length deployed.actors = ap (λ (k : Known). length k.core.actors) same ∙ kept.fits.actors in
@@ -52,7 +52,7 @@ room_for {A} {mind} {deployed} {part} {sim} mid kept same room =
       room = room;
     }
 
--- ---- the whole of a round
+-- ---- the whole of a scheduling round
 pub round_as : {E : Type 0} (result : Result (Option Ended) E) (names : Names) (at : Scene) (taken : List ℕ) (had mid new : Cast) (calls : List ActorCall) (world : World) (old then : Moment) → StandsFor names taken had old world →
     mid.minds ≡ zip_with mind_after had.minds (inboxes old.kernel.core) → mid.contexts ≡ had.contexts → calls ≡ call_list 1 (zip_with call_after had.minds (inboxes old.kernel.core)) →
     ((next : World) → StandsFor names taken mid old next → MatchResult result (λ how. IsStretch next.work names (λ answers. calls_of at answers calls next) (ending how) taken new old then) (λ _. LacksMemory names (λ answers. calls_of at answers calls next) taken new.contexts old.part then.part)) →
@@ -66,6 +66,6 @@ round_as result names at taken had mid new calls world old then stands turned le
     λ answers. sym (ap (λ (l : List ActorCall). calls_of at answers l next) are ∙ calls_listed at answers 1 (zip_with call_after world.minds (inboxes world.core)) next) in
     matched_as world.work result names (λ answers. calls_of at answers calls next) (λ answers. calls_from at answers 1 (zip_with call_after world.minds (inboxes world.core)) next) taken new old then whole (step next (record { script = stands.script; core = stands.core; cast = cast }))
 
--- the same seats, where the setup is the same
+-- the same slots, if the setup is the same
 pub seated_as : (old new : Setup) (places : List SeatView) → new ≡ old → All (IsSeated (extent old)) places → All (IsSeated (extent new)) places
 seated_as old new places same seated = subst (λ (s : Setup). All (IsSeated (extent s)) places) (sym same) seated

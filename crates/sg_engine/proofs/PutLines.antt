@@ -28,7 +28,7 @@ pub line_broke : (whole buffer line left rest : List ℕ) (old mid new : Stream 
 line_broke whole buffer line left rest old mid new z f f' first put broke =
     broke_on whole (buffer ++ line) rest old mid new z f f' (put_as whole (buffer ++ left) (buffer ++ line ++ rest) old mid z f (ap (λ (l : List ℕ). buffer ++ l) first ∙ sym (append_assoc buffer line rest)) put) broke
 
--- nothing is left
+-- no line remains
 pub none_left : (whole buffer left : List ℕ) (old new : Stream → Option (List ℕ)) (z f : ℕ) → left ≡ [] → IsPut whole (buffer ++ left) old new z f → IsPut whole buffer old new z f
 none_left whole buffer left old new z f none put = put_as whole (buffer ++ left) buffer old new z f (ap (λ (l : List ℕ). buffer ++ l) none ∙ append-nil buffer) put
 
@@ -91,7 +91,7 @@ energy_more platform deployed energies rows i row within is =
 pub energy_none : (platform : Platform) (deployed : Deployed) (energies : List ℕ) (rows : List HostRow) (i : ℕ) → length rows ≤ i → energy_lines platform deployed energies i (drop i rows) ≡ []
 energy_none platform deployed energies rows i past = at_drop_all (λ l. energy_lines platform deployed energies i l) rows i past
 
--- what is told of an energy, by its whole joules and their rest
+-- the parts of an energy: its whole joules and their rest
 pub parts_of : (whole rest energy : ℕ) → whole * 10 ^ 12 + rest ≡ energy → rest < 10 ^ 12 → (energy / 10 ^ 12 ≡ whole) × (energy % 10 ^ 12 ≡ rest)
 parts_of whole rest energy is less = (omega (arith, is, less), omega (arith, is, less))
 

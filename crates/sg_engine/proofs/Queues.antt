@@ -32,7 +32,7 @@ not_early states queue (suc k) m j d is less long from id =
       | inr at ↦ let same : m ≡ k = omega (arith, less, at) in absurd (omega (arith, id, last, read, ap (λ n. (get_or queue n d).0) same))
     ]
 
--- those behind the first so many have ids above c
+-- those after the first so many have ids above c
 none_between : (states : List Actor) (queue : List ActorId) (k c j : ℕ) → IsQueue states queue → k ≤ length queue → ((m : ℕ) (d : ActorId) → k ≤ m → m < length queue → c < (get_or queue m d).0) → last_id queue k ≤ j → j < c → is_ready (get_or states j (not_suspended Ended)) ≡ false
 none_between states queue k c j is within above from to = not_true (is_ready (get_or states j (not_suspended Ended))) (λ ready.
     let back : j + 1 - 1 ≡ j = omega arith in
@@ -73,12 +73,12 @@ above_here queue k m d rises from le within =
       | inr at ↦ let same : k ≡ m = omega (arith, le, at) in omega (arith, from, read, ap (λ n. (get_or queue n d).0) same)
     ]
 
--- nobody before this place, and behind the one before it, is ready
+-- no actor before this place, and after the one before it, is ready
 pub quiet : (states : List Actor) (queue : List ActorId) (k j : ℕ) → IsQueue states queue → k < length queue → last_id queue k ≤ j → j < (get_or queue k (record { 0 = 0 })).0 - 1 → is_ready (get_or states j (not_suspended Ended)) ≡ false
 quiet states queue k j is within from to =
     none_between states queue k ((get_or queue k (record { 0 = 0 })).0 - 1) j is (omega (arith, within)) (λ m d le less. above_here queue k m d is.rises (is.ids k (record { 0 = 0 }) within).0 le less) from to
 
--- and nobody behind the last one
+-- and no actor after the last one
 pub quiet_end : (states : List Actor) (queue : List ActorId) (k j : ℕ) → IsQueue states queue → k ≤ length queue → length queue ≤ k → last_id queue k ≤ j → j < length states → is_ready (get_or states j (not_suspended Ended)) ≡ false
 quiet_end states queue k j is within past from to =
     none_between states queue k (length states) j is within (λ m d le less. absurd (omega (arith, le, less, past))) from to

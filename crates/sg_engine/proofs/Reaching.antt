@@ -7,15 +7,15 @@ use Rattle.sg_edge.specs.Sources.{Source}
 use Rattle.sg_edge.specs.Files.{PartView}
 use Rattle.sg_engine.specs.World.{World}
 use Rattle.sg_script.specs.Answer.{answer_of}
-use Rattle.sg_script.specs.Known.{Known as Names}
+use Rattle.sg_script.specs.Known.{ScriptNames as Names}
 use Rattle.sg_script.specs.Stands.{IsWithinNeed, Reads}
 use Rattle.sg_script.specs.Rest.{GoesOn}
 use Rattle.sg_script.proofs.Chains.{may_back, reads_then}
 use Rattle.sg_engine.specs.declared.ended.Ended.{Ended}
-use Rattle.sg_engine.specs.Run.{Answering, Progress, with_front, and_then}
+use Rattle.sg_engine.specs.Run.{Answering, Progress, with_front, then_unless_ended}
 use Rattle.sg_engine.specs.kept.Moments.{AreNeededBy, Cast, LacksMemory, LeavesContexts, Moment, StandsFor, IsStretch, ending}
 
--- a source that goes on from a later moment goes on from an earlier one
+-- a source that continues from a later moment continues from an earlier one
 pub goes_back : (taken piece : List ℕ) (old new : PartView) (source : Source) → Reads piece old new → GoesOn (taken ++ piece) new.stage source → GoesOn taken old.stage source
 goes_back taken piece old new source reads goes = record {
   rest = piece ++ goes.rest;
@@ -66,7 +66,7 @@ reached_as names whole other rest taken cast old new same reached = record {
   is = λ source goes. same (answer_of names source) ∙ reached.is source goes;
 }
 
--- so it is where memory was wanting
+-- so it is if memory ran out
 lacks_as : (names : Names) (whole other : Answering → Progress) (taken : List ℕ) (left : ℕ) (old new : PartView) → ((answers : Answering) → other answers ≡ whole answers) → LacksMemory names whole taken left old new → LacksMemory names other taken left old new
 lacks_as names whole other taken left old new same cut = record {
   piece = cut.piece;
@@ -99,7 +99,7 @@ rest_as names whole rest other taken cast old new same reached = record {
 
 -- a first stretch that doesn't end the run
 abbrev pub goes_on_to : {spent : ℕ} (names : Names) (first : Answering → Progress) (next : Answering → World → Progress) (taken : List ℕ) (cast : Cast) (old new : Moment) →
-    IsStretch spent names first (ending None) taken cast old new → IsStretch spent names (λ answers. and_then (first answers) (next answers)) next taken cast old new
+    IsStretch spent names first (ending None) taken cast old new → IsStretch spent names (λ answers. then_unless_ended (first answers) (next answers)) next taken cast old new
 goes_on_to names first next taken cast old new reached = record {
   piece = reached.piece;
   reads = reached.reads;
@@ -111,13 +111,13 @@ goes_on_to names first next taken cast old new reached = record {
   records = reached.records;
   is = λ source goes.
       let answers = answer_of names source in
-      ap (λ (p : Progress). and_then p (next answers)) (reached.is source goes)
+      ap (λ (p : Progress). then_unless_ended p (next answers)) (reached.is source goes)
       ∙ ap (λ (l : List Record). with_front l (next answers reached.world)) (append-nil reached.made);
 }
 
 -- a first stretch that ends the run
 abbrev pub ends_at : {spent : ℕ} (names : Names) (first : Answering → Progress) (next : Answering → World → Progress) (how : Ended) (taken : List ℕ) (cast : Cast) (old new : Moment) →
-    IsStretch spent names first (ending (Some how)) taken cast old new → IsStretch spent names (λ answers. and_then (first answers) (next answers)) (ending (Some how)) taken cast old new
+    IsStretch spent names first (ending (Some how)) taken cast old new → IsStretch spent names (λ answers. then_unless_ended (first answers) (next answers)) (ending (Some how)) taken cast old new
 ends_at names first next how taken cast old new reached = record {
   piece = reached.piece;
   reads = reached.reads;
@@ -127,7 +127,7 @@ ends_at names first next how taken cast old new reached = record {
   work = reached.work;
   made = reached.made;
   records = reached.records;
-  is = λ source goes. ap (λ (p : Progress). and_then p (next (answer_of names source))) (reached.is source goes);
+  is = λ source goes. ap (λ (p : Progress). then_unless_ended p (next (answer_of names source))) (reached.is source goes);
 }
 
 -- nothing has happened yet

@@ -1,4 +1,4 @@
--- What holds from the first world of a stretch of a run to its last, where each step keeps it.
+-- What holds from the first world of a stretch of a run to its last, if each step keeps it.
 use Rattle.std.proofs.Common.{◌≤◌, ◌+◌, ◌-◌, ℕ, zero, suc, Bool, true, false, cond, List, [], ◌∷◌, Option, None, Some, Result, Ok, Err, arith}
 use Rattle.std.specs.Prelude.{◌&&◌, ◌==◌}
 use Rattle.std.specs.Option.{option_map_or}
@@ -21,7 +21,7 @@ use Rattle.sg_engine.specs.declared.ended.Ended.{Ended}
 use Rattle.sg_engine.specs.declared.ended.Ended.TheVariants as ended
 use Rattle.sg_engine.specs.Fuel.{parts_from}
 use Rattle.sg_engine.specs.kept.CallList.{calls_of}
-use Rattle.sg_engine.specs.Run.{Scene, Answering, Progress, at_world, and_then, and_then_by, answer_step, anyone_ready, are_completed, ask_step, call_after, calls_from, created_by, creates, if_call, if_given, in_world, inboxes, is_ask, is_given, mind_after, minds_if, one_call, other_call, round, round_or_pass, run_from, unless_killed, zip_with}
+use Rattle.sg_engine.specs.Run.{Scene, Answering, Progress, at_world, then_unless_ended, and_then_by, answer_step, anyone_ready, are_completed, ask_step, call_after, calls_from, created_by, creates, if_call, if_given, in_world, inboxes, is_ask, is_given, mind_after, minds_if, one_call, other_call, round, round_or_pass, run_from, unless_killed, zip_with}
 
 -- a relation of worlds that each step keeps
 pub record Keeps (R : World → World → Type 0) : Type 0 where
@@ -42,7 +42,7 @@ by_end P None first next before after = after
 by_end P (Some how) first next before after = before
 
 -- one stretch, and then another
-pub then_keeps : {R : World → World → Type 0} → Keeps R → (first : Progress) (next : World → Progress) (world : World) → R world first.world → ((mid : World) → R mid (next mid).world) → R world (and_then first next).world
+pub then_keeps : {R : World → World → Type 0} → Keeps R → (first : Progress) (next : World → Progress) (world : World) → R world first.world → ((mid : World) → R mid (next mid).world) → R world (then_unless_ended first next).world
 then_keeps {R} keeps first next world before after =
     by_end (R world) first.ended first next before (keeps.then world first.world (next first.world).world before (after first.world))
 
@@ -94,8 +94,8 @@ made_keep keeps at answers [] world = keeps.same world
 made_keep keeps at answers (made ∷ rest) world =
     then_keeps keeps (unless_killed at answers made.actor.0 made.call world) (calls_of at answers rest) world (call_keeps keeps at answers made.actor.0 made.call world) (λ mid. made_keep keeps at answers rest mid)
 
--- from behind one call on
-pub calls_keep_behind : {R : World → World → Type 0} → Keeps R → (first : Progress) (at : Scene) (answers : Answering) (calls : List ActorCall) → R first.world (and_then first (calls_of at answers calls)).world
+-- from after one call on
+pub calls_keep_behind : {R : World → World → Type 0} → Keeps R → (first : Progress) (at : Scene) (answers : Answering) (calls : List ActorCall) → R first.world (then_unless_ended first (calls_of at answers calls)).world
 calls_keep_behind keeps first at answers calls = then_keeps keeps first (calls_of at answers calls) first.world (keeps.same first.world) (λ mid. made_keep keeps at answers calls mid)
 
 round_keeps : {R : World → World → Type 0} → Keeps R → (at : Scene) (answers : Answering) (world : World) → R world (round at answers world).world
@@ -115,18 +115,18 @@ pub run_keeps : {R : World → World → Type 0} → Keeps R → (n : ℕ) (at :
 unfolding run_from
 run_keeps keeps zero at answers world = keeps.same world
 run_keeps {R} keeps (suc n) at answers world =
-    by_test (R world) (are_completed world.core) (at_world (Some ended.Completed) world) (and_then (round_or_pass at answers world) (run_from n at answers)) (keeps.same world)
+    by_test (R world) (are_completed world.core) (at_world (Some ended.Completed) world) (then_unless_ended (round_or_pass at answers world) (run_from n at answers)) (keeps.same world)
     (then_keeps keeps (round_or_pass at answers world) (run_from n at answers) world (part_keeps keeps at answers world) (λ mid. run_keeps keeps n at answers mid))
 
 pub parts_keep : {R : World → World → Type 0} → Keeps R → (n : ℕ) (at : Scene) (answers : Answering) (world : World) → R world (parts_from n at answers world).world
 unfolding parts_from
 parts_keep keeps zero at answers world = keeps.same world
 parts_keep {R} keeps (suc n) at answers world =
-    by_test (R world) (are_completed world.core) (at_world (Some ended.Completed) world) (and_then (round_or_pass at answers world) (parts_from n at answers)) (keeps.same world)
+    by_test (R world) (are_completed world.core) (at_world (Some ended.Completed) world) (then_unless_ended (round_or_pass at answers world) (parts_from n at answers)) (keeps.same world)
     (then_keeps keeps (round_or_pass at answers world) (parts_from n at answers) world (part_keeps keeps at answers world) (λ mid. parts_keep keeps n at answers mid))
 
--- from behind one part on
-pub run_keeps_behind : {R : World → World → Type 0} → Keeps R → (n : ℕ) (first : Progress) (at : Scene) (answers : Answering) → R first.world (and_then first (run_from n at answers)).world
+-- from after one part on
+pub run_keeps_behind : {R : World → World → Type 0} → Keeps R → (n : ℕ) (first : Progress) (at : Scene) (answers : Answering) → R first.world (then_unless_ended first (run_from n at answers)).world
 run_keeps_behind keeps n first at answers = then_keeps keeps first (run_from n at answers) first.world (keeps.same first.world) (λ mid. run_keeps keeps n at answers mid)
 
 -- ---- no context is given back

@@ -1,4 +1,4 @@
--- What a round does, place by place.
+-- What a scheduling round does, slot by slot.
 use Rattle.std.proofs.Common.{◌≡◌, ◌∙◌, sym, ap, ap₂, refl, ℕ, zero, suc, ◌<◌, Bool, true, false, cond, List, [], ◌∷◌, map, length, get_or, Option, None, Some, IsSome, IsTrue, arith, subst}
 use Rattle.std.specs.Prelude.{All, IfSome, not, option_map, ◌&&◌}
 use Rattle.std.specs.Option.{is_some}
@@ -107,7 +107,7 @@ all_after_queued places actors queued j place within ready =
 pub all_after_limited : (extent : Extent) (places : List SeatView) → ((place : SeatView) → KeepsLimits extent place → KeepsLimits extent (after place)) → All (KeepsLimits extent) places → All (KeepsLimits extent) (map after places)
 all_after_limited extent places law limited = All-map (KeepsLimits extent) after places (λ k d within. law _ (limited k d within))
 
--- who isn't ready stays as it is
+-- an actor that isn't ready stays as it is
 pub idle_stays : (place : SeatView) → place.ready ≡ false → after place ≡ place
 idle_stays place rests = ap (λ (b : Bool). cond b (with_turn place place.mind) place) rests
 
@@ -118,7 +118,7 @@ idle_calls place rests = ap (λ (b : Bool). cond b (Some place.outbox) None) res
 pub idle_rests : (place : SeatView) → place.ready ≡ false → at_rest place ≡ place
 idle_rests place rests = ap (λ (b : Bool). record place { ready = b }) (sym rests)
 
--- ---- the whole of a round
+-- ---- the whole of a scheduling round
 turned_mind : (place : SeatView) (m : Option Mind) → place.mind ≡ m → (with_turn place m).mind ≡ option_map (λ mind. (turn mind place.inbox).mind) m
 turned_mind place None is = is
 turned_mind place (Some m) is = refl
@@ -159,7 +159,7 @@ calls_round extent (place ∷ places) (answer ∷ answers) seated =
 pub all_rested : (extent : Extent) (places : List SeatView) → All (KeepsLimits extent) places → All (IsSeated extent) (map at_rest places)
 all_rested extent places limited = All-map (IsSeated extent) at_rest places (λ k d within. record { limited = limited k d within; rests = refl })
 
--- ---- its steps: the places at first, with answers offered, behind the turns, and at rest
+-- ---- its steps: the places at first, with answers offered, after the turns, and at rest
 all_rest : (extent : Extent) (places : List SeatView) → All (IsSeated extent) places → All Rests places
 all_rest extent places seated = λ k d within. (seated k d within).rests
 

@@ -22,7 +22,7 @@ use Rattle.sg_route.specs.Roads.{Roads}
 use Rattle.sg_rows.specs.Deployment.{Deployed}
 use Rattle.sg_rows.specs.Platform.{Platform}
 use Rattle.sg_script.specs.Answer.{answer_of}
-use Rattle.sg_script.specs.Known.{Known as Names}
+use Rattle.sg_script.specs.Known.{ScriptNames as Names}
 use Rattle.sg_script.specs.Rest.{GoesOn}
 use Rattle.sg_script.specs.Stands.{IsWithinNeed, Kept, kept_of}
 use Rattle.sg_script.proofs.AllNeeds.{within_more}
@@ -32,7 +32,7 @@ use Rattle.sg_engine.specs.declared.ended.Ended.TheVariants as ended
 use Rattle.sg_engine.specs.declared.plan.Plan.{Plan}
 use Rattle.sg_engine.specs.RunContract.{is_cut}
 use Rattle.sg_engine.specs.kept.Moments.{Cast, Moment, moment, Fits, StandsFor, IsStretch, LacksMemory, ending, cuts}
-use Rattle.sg_engine.specs.Run.{Scene, scene, Answering, Progress, at_world, with_front, and_then, and_then_by, round_or_pass, run_from, work_behind}
+use Rattle.sg_engine.specs.Run.{Scene, scene, Answering, Progress, at_world, with_front, then_unless_ended, and_then_by, round_or_pass, run_from, work_behind}
 use Rattle.sg_engine.specs.declared.show.Show.{Show}
 use Rattle.sg_engine.specs.declared.show.Show.TheVariants as show
 use Rattle.sg_engine.specs.Output.{trace_of}
@@ -49,7 +49,7 @@ use Rattle.sg_engine.proofs.Waiting.{front_behind, gains_then}
 use Rattle.sg_engine.proofs.Working.{run_rises_behind}
 
 -- ---- one part
--- the records of a stretch stand behind others that were cleared since, and there is other room
+-- the records of a stretch stand after others that were cleared since, and there is other room
 abbrev pub with_records : {spent : ℕ} (names : Names) (whole : Answering → Progress) (rest : Answering → World → Progress) (taken : List ℕ) (cast : Cast) (part part' : PartView) (kept kept' : Kept) (old new old' new' : Known) (front : List Record) →
     (reached : IsStretch spent names whole rest taken cast (moment part kept old) (moment part' kept' new)) → old'.records ≡ front → old'.setup ≡ old.setup → new'.core ≡ new.core → new'.setup ≡ new.setup → new'.records ≡ front ++ reached.made →
     IsStretch spent names whole rest taken cast (moment part kept old') (moment part' kept' new')
@@ -96,7 +96,7 @@ cuts_off_at names trace whole how taken cast part part' kept kept' mid new befor
       subst (λ (l : List Record). GainsFront (trace l) before after) made front;
 }
 
--- memory was wanting, and nothing was written
+-- memory ran out, and nothing was written
 pub cuts_off_by : (names : Names) (trace : Trace) (whole : Answering → Progress) (taken : List ℕ) (left : ℕ) (part part' : PartView) (before after : Option (List ℕ)) → LacksMemory names whole taken left part part' → after ≡ before → CutsOff names trace whole taken left part part' before after
 cuts_off_by names trace whole taken left part part' before after cut same = record {
   piece = cut.piece;
@@ -119,7 +119,7 @@ lacks_room names at taken cast now world begun stands = record {
   contexts = λ source goes. omega (arith, part_keeps contexts_fall at (answer_of names source) world, ap (λ (c : Cast). c.contexts) stands.cast);
 }
 
--- memory was wanting in a scene whose setup is the same
+-- memory ran out in a scene whose setup is the same
 pub lacks_scene : (names : Names) (roads : Roads) (firsts : List Mind) (script : Bool) (setup setup' : Setup) (taken : List ℕ) (left : ℕ) (world : World) (old new : PartView) → setup' ≡ setup →
     LacksMemory names (λ answers. round_or_pass (scene roads setup' firsts script) answers world) taken left old new → LacksMemory names (λ answers. round_or_pass (scene roads setup firsts script) answers world) taken left old new
 lacks_scene names roads firsts script setup setup' taken left world old new same lacks = subst (λ (s : Setup). LacksMemory names (λ answers. round_or_pass (scene roads s firsts script) answers world) taken left old new) same lacks
@@ -137,11 +137,11 @@ part_is names trace whole how taken cast old new before after uncut advances = r
 pub part_kept : {A : Type 0} (mind : A → Option Mind) (plan : Plan) (how : Option Ended) (shows : Part → PartView) (old new : Simulation A) → cuts how ≡ false → TakesCrew false old new → new.kernel.setup ≡ old.kernel.setup → Holds mind plan shows new → StaysKept mind plan how shows old new
 part_kept mind plan how shows old new uncut crew setup kept = record { crew = rw uncut crew; setup = setup; kept = rw uncut kept }
 
--- behind a part for which memory was wanting nothing is kept but the setup
+-- after a part for which memory ran out only the setup is kept
 pub short_kept : {A : Type 0} (mind : A → Option Mind) (plan : Plan) (how : Ended) (shows : Part → PartView) (old new : Simulation A) → is_cut how ≡ true → TakesCrew true old new → new.kernel.setup ≡ old.kernel.setup → StaysKept mind plan (Some how) shows old new
 short_kept mind plan how shows old new cut crew setup = record { crew = rw cut crew; setup = setup; kept = rw cut tt }
 
--- what a simulation keeps behind a part whose records are in lines and cleared
+-- what a simulation keeps after a part whose records are in lines and cleared
 pub kept_on : {A : Type 0} (mind : A → Option Mind) (deployed : Deployed) (part : PartView) (sim : Simulation A) (known : Known) → Fits deployed (moment part (kept_of sim.script) known) → sim.kernel ≡ record known { records = [] } → length known.setup.homes ≡ length deployed.actors →
     All (IsSeated (extent known.setup)) (places_in mind sim) → length sim.seats.items ≡ length deployed.actors → length deployed.actors ≤ vec_capacity sim.calls → length deployed.actors ≤ 65536 → AreBlank mind sim.crew.items → sim.buffer ≡ [] → IsKept mind deployed part sim
 kept_on mind deployed part sim known fits is homes seated number calls few blank empty = record {
@@ -162,20 +162,20 @@ kept_on mind deployed part sim known fits is homes seated number calls few blank
   empty = empty;
 }
 
--- ---- rounds and passes one after another
+-- ---- scheduling rounds and time advances one after another
 pub run_done : (n m : ℕ) (at : Scene) (answers : Answering) (world : World) → n ≡ suc m → list_all is_over world.core.actors ≡ true → run_from n at answers world ≡ at_world (Some ended.Completed) world
 unfolding run_from
-run_done n m at answers world more all = ap (λ (k : ℕ). run_from k at answers world) more ∙ ap (λ (b : Bool). cond b (at_world (Some ended.Completed) world) (and_then (round_or_pass at answers world) (run_from m at answers))) all
+run_done n m at answers world more all = ap (λ (k : ℕ). run_from k at answers world) more ∙ ap (λ (b : Bool). cond b (at_world (Some ended.Completed) world) (then_unless_ended (round_or_pass at answers world) (run_from m at answers))) all
 
-pub run_goes : (n m : ℕ) (at : Scene) (answers : Answering) (world : World) → n ≡ suc m → list_all is_over world.core.actors ≡ false → run_from n at answers world ≡ and_then (round_or_pass at answers world) (run_from m at answers)
+pub run_goes : (n m : ℕ) (at : Scene) (answers : Answering) (world : World) → n ≡ suc m → list_all is_over world.core.actors ≡ false → run_from n at answers world ≡ then_unless_ended (round_or_pass at answers world) (run_from m at answers)
 unfolding run_from
-run_goes n m at answers world more some = ap (λ (k : ℕ). run_from k at answers world) more ∙ ap (λ (b : Bool). cond b (at_world (Some ended.Completed) world) (and_then (round_or_pass at answers world) (run_from m at answers))) some
+run_goes n m at answers world more some = ap (λ (k : ℕ). run_from k at answers world) more ∙ ap (λ (b : Bool). cond b (at_world (Some ended.Completed) world) (then_unless_ended (round_or_pass at answers world) (run_from m at answers))) some
 
 pub run_out : (n : ℕ) (at : Scene) (answers : Answering) (world : World) → n ≡ 0 → run_from n at answers world ≡ at_world (Some ended.Budget) world
 unfolding run_from
 run_out n at answers world none = ap (λ (k : ℕ). run_from k at answers world) none
 
--- what is left of a run, after so many rounds and passes
+-- what remains of a run, after so many scheduling rounds and time advances
 abbrev pub rest_of : ℕ → Scene → Answering → World → Progress
 rest_of n at answers world = run_from n at answers world
 
@@ -186,7 +186,7 @@ worked_as start spent count n is worked = omega arith
 pub work_more : (start count later spent work mine its : ℕ) → count ≤ start + spent → work ≡ spent → mine ≡ its → later ≤ count + mine → later ≤ start + (work + its)
 work_more start count later spent work mine its worked is same more = omega arith
 
--- the run has come to its end
+-- the run has ended
 abbrev pub over_by : {spent : ℕ} (start count : ℕ) (names : Names) (trace : Trace) (whole : Answering → Progress) (how : Ended) (cast : Cast) (p0 p1 : PartView) (q0 q1 : Kept) (k0 k1 : Known) (core : Core) (before after : Option (List ℕ)) →
     (reached : IsStretch spent names whole (ending (Some how)) [] cast (moment p0 q0 k0) (moment p1 q1 k1)) → core ≡ k1.core → after ≡ gain before (trace reached.made) → count ≤ start + spent → IsOver start count cast.contexts names trace whole how core p0 p1 before after
 over_by {spent} start count names trace whole how cast p0 p1 q0 q1 k0 k1 core before after reached same printed worked = record {
@@ -221,7 +221,7 @@ completed start count names trace whole n m at cast p0 p1 q0 q1 k0 k1 core befor
       is = λ source goes. reached.is source goes ∙ ap (with_front reached.made) (run_done n m at (answer_of names source) reached.world more all_here);
     }) same printed worked
 
--- no round and no pass is left
+-- no scheduling round and no time advance remains
 pub used_up : {spent : ℕ} (start count : ℕ) (names : Names) (trace : Trace) (whole : Answering → Progress) (n : ℕ) (at : Scene) (cast : Cast) (p0 p1 : PartView) (q0 q1 : Kept) (k0 k1 : Known) (core : Core) (before after : Option (List ℕ)) →
     (reached : IsStretch spent names whole (rest_of n at) [] cast (moment p0 q0 k0) (moment p1 q1 k1)) → n ≡ 0 → core ≡ k1.core → after ≡ gain before (trace reached.made) → count ≤ start + spent → IsOver start count cast.contexts names trace whole ended.Budget core p0 p1 before after
 used_up start count names trace whole n at cast p0 p1 q0 q1 k0 k1 core before after reached none same printed worked =
@@ -237,7 +237,7 @@ used_up start count names trace whole n at cast p0 p1 q0 q1 k0 k1 core before af
       is = λ source goes. reached.is source goes ∙ ap (with_front reached.made) (run_out n at (answer_of names source) reached.world none);
     }) same printed worked
 
--- one part more, and the run goes on
+-- one part more, and the run continues
 abbrev pub part_on : {spent next : ℕ} (names : Names) (trace : Trace) (whole : Answering → Progress) (n m : ℕ) (at : Scene) (cast cast' : Cast) (p0 p1 p2 : PartView) (q0 q1 q2 : Kept) (k0 k1 k1' k2 : Known) (before after : Option (List ℕ)) →
     (reached : IsStretch spent names whole (rest_of n at) [] cast (moment p0 q0 k0) (moment p1 q1 k1')) → n ≡ suc m → k1'.core ≡ k1.core → k1'.setup ≡ k1.setup → list_all is_over k1.core.actors ≡ false → k0.records ≡ [] →
     (part : Advances next names trace (λ answers. round_or_pass at answers reached.world) None reached.piece cast' (moment p1 q1 k1) (moment p2 q2 k2) before after) → k1.records ≡ [] →
@@ -249,7 +249,7 @@ part_on {next} names trace whole n m at cast cast' p0 p1 p2 q0 q1 q2 k0 k1 k1' k
     let shifted : IsStretch next names (λ answers. round_or_pass at answers reached.world) (ending None) reached.piece cast' (moment p1 q1 k1') (moment p2 q2 (record k2 { records = reached.made ++ part.records })) =
     with_records names (λ answers. round_or_pass at answers reached.world) (ending None) reached.piece cast' p1 p2 q1 q2 k1 (record k2 { records = part.records }) k1' (record k2 { records = reached.made ++ part.records }) reached.made part.reached here same refl refl (ap (λ (l : List Record). reached.made ++ l) made) in
     reached_then names whole (rest_of n at) (rest_of m at) [] cast cast' (moment p0 q0 k0) (moment p1 q1 k1') (moment p2 q2 (record k2 { records = reached.made ++ part.records })) reached
-    (reached_as names (λ answers. and_then (round_or_pass at answers reached.world) (rest_of m at answers)) (λ answers. rest_of n at answers reached.world) (rest_of m at) reached.piece cast' (moment p1 q1 k1') (moment p2 q2 (record k2 { records = reached.made ++ part.records }))
+    (reached_as names (λ answers. then_unless_ended (round_or_pass at answers reached.world) (rest_of m at answers)) (λ answers. rest_of n at answers reached.world) (rest_of m at) reached.piece cast' (moment p1 q1 k1') (moment p2 q2 (record k2 { records = reached.made ++ part.records }))
     (λ answers. run_goes n m at answers reached.world more some_here)
     (goes_on_to names (λ answers. round_or_pass at answers reached.world) (rest_of m at) reached.piece cast' (moment p1 q1 k1') (moment p2 q2 (record k2 { records = reached.made ++ part.records })) shifted))
 
@@ -265,7 +265,7 @@ part_last {next} names trace whole how n m at cast cast' p0 p1 p2 q0 q1 q2 k0 k1
     let shifted : IsStretch next names (λ answers. round_or_pass at answers reached.world) (ending (Some how)) reached.piece cast' (moment p1 q1 k1') (moment p2 q2 (record k2 { records = reached.made ++ part.records })) =
     with_records names (λ answers. round_or_pass at answers reached.world) (ending (Some how)) reached.piece cast' p1 p2 q1 q2 k1 (record k2 { records = part.records }) k1' (record k2 { records = reached.made ++ part.records }) reached.made part.reached here same refl refl (ap (λ (l : List Record). reached.made ++ l) made) in
     reached_then names whole (rest_of n at) (ending (Some how)) [] cast cast' (moment p0 q0 k0) (moment p1 q1 k1') (moment p2 q2 (record k2 { records = reached.made ++ part.records })) reached
-    (reached_as names (λ answers. and_then (round_or_pass at answers reached.world) (rest_of m at answers)) (λ answers. rest_of n at answers reached.world) (ending (Some how)) reached.piece cast' (moment p1 q1 k1') (moment p2 q2 (record k2 { records = reached.made ++ part.records }))
+    (reached_as names (λ answers. then_unless_ended (round_or_pass at answers reached.world) (rest_of m at answers)) (λ answers. rest_of n at answers reached.world) (ending (Some how)) reached.piece cast' (moment p1 q1 k1') (moment p2 q2 (record k2 { records = reached.made ++ part.records }))
     (λ answers. run_goes n m at answers reached.world more some_here)
     (ends_at names (λ answers. round_or_pass at answers reached.world) (rest_of m at) how reached.piece cast' (moment p1 q1 k1') (moment p2 q2 (record k2 { records = reached.made ++ part.records })) shifted))
 
@@ -301,7 +301,7 @@ part_cut names trace appends whole n m at cast left p0 p1 p2 q0 q1 k0 k1 start b
       let answers = answer_of names source in
       let first = round_or_pass at answers reached.world in
       let some_here : list_all is_over reached.world.core.actors ≡ false = ap (λ (c : Core). list_all is_over c.actors) (sym reached.stands.core) ∙ some in
-      let all : whole answers ≡ with_front reached.made (and_then first (rest_of m at answers)) =
+      let all : whole answers ≡ with_front reached.made (then_unless_ended first (rest_of m at answers)) =
       reached.is source (goes_back reached.piece cut.piece p1 p2 source cut.reads goes) ∙ ap (with_front reached.made) (run_goes n m at answers reached.world more some_here) in
       subst (λ (p : Progress). IsWithinNeed names source p.world.asks (length (reached.piece ++ cut.piece))) (sym all)
       (within_more names source first.world.asks _ _ (run_keeps_behind asks_rise m first at answers) (cut.needed source goes));
@@ -309,7 +309,7 @@ part_cut names trace appends whole n m at cast left p0 p1 p2 q0 q1 k0 k1 start b
       let answers = answer_of names source in
       let first = round_or_pass at answers reached.world in
       let some_here : list_all is_over reached.world.core.actors ≡ false = ap (λ (c : Core). list_all is_over c.actors) (sym reached.stands.core) ∙ some in
-      let all : (whole answers).world.contexts ≡ (and_then first (rest_of m at answers)).world.contexts =
+      let all : (whole answers).world.contexts ≡ (then_unless_ended first (rest_of m at answers)).world.contexts =
       ap (λ (p : Progress). p.world.contexts) (reached.is source (goes_back reached.piece cut.piece p1 p2 source cut.reads goes) ∙ ap (with_front reached.made) (run_goes n m at answers reached.world more some_here)) in
       omega (arith, all, run_keeps_behind contexts_fall m first at answers, cut.contexts source goes);
   front = λ source goes.
@@ -336,7 +336,7 @@ cut_off from later names trace appends whole n m at cast left p0 p1 p2 q0 q1 k0 
   worked = λ source goes.
       let answers = answer_of names source in
       let some_here : list_all is_over reached.world.core.actors ≡ false = ap (λ (c : Core). list_all is_over c.actors) (sym reached.stands.core) ∙ some in
-      let all : (whole answers).world.work ≡ (and_then (round_or_pass at answers reached.world) (rest_of m at answers)).world.work =
+      let all : (whole answers).world.work ≡ (then_unless_ended (round_or_pass at answers reached.world) (rest_of m at answers)).world.work =
       ap (λ (p : Progress). p.world.work) (reached.is source (goes_back reached.piece cut.piece p1 p2 source cut.reads goes) ∙ ap (with_front reached.made) (run_goes n m at answers reached.world more some_here)) in
       omega (arith, all, worked, run_rises_behind m at answers reached.world);
 }
@@ -372,7 +372,7 @@ far_first start names trace whole rest parts cast part kept known held world beg
   counted = λ source goes. first (answer_of names source);
 }
 
--- the lines of a part stand behind those of the run so far
+-- the lines of a part stand after those of the run so far
 far_printed : (trace : Trace) → Appends trace → (so_far records made : List Record) (start before after : Option (List ℕ)) → records ≡ made → before ≡ gain start (trace so_far) → after ≡ gain before (trace records) → after ≡ gain start (trace (so_far ++ made))
 far_printed trace appends so_far records made start before after same first then =
     let text : trace so_far ++ trace records ≡ trace (so_far ++ made) = ap (λ (l : List Record). trace so_far ++ trace l) same ∙ sym (appends so_far made) in

@@ -100,7 +100,7 @@ is_first mind platform deployed budget crew part sim new queues begun waiting st
       };
     }
 
--- the beginning of a run, where the actors that start have taken their contexts from the whole crew
+-- the beginning of a run, when the actors that start have taken their contexts from the whole pool
 pub begins_with : {A : Type 0} (mind : A → Option Mind) (plan : Plan) (shows : Part → PartView) (router : Roads) (crew : List A) (sim : Simulation A) → IsFirst mind plan.platform.now plan.deployment.now plan.terms.budget (length crew) (script_in plan shows) sim →
     StartsFrom plan.deployment.now crew sim.crew.items → AreRoadsOf plan.platform.now router → IsBeginning mind plan shows router sim
 begins_with mind plan shows router crew sim first starts roads = record {
@@ -115,7 +115,7 @@ first_taken_in_all mind platform deployed budget how part crew old new first sta
     let begun : unstarted old.kernel.core + started_number deployed ≡ length deployed.actors = omega (arith, ap unstarted first.stands.core, first_unstarted deployed.actors) in
     last_taken deployed how crew old.crew.items new.crew.items starts_from takes.front (omega (arith, takes.most, begun)) (omega (arith, begun))
 
--- a run with the whole crew is one with the contexts that are left and those that were taken
+-- a run with the whole pool is one with the contexts that remain and those that were taken
 pub same_run : (plan : Plan) (source : Source) (how : Ended) (old new : Stream → Option (List ℕ)) (crew whole left rest start count : ℕ) (before after : Part → PartView) → whole ≡ crew → rest ≡ left →
     IsRun (planned_output plan crew source) how old new crew left start count before after → IsRun (planned_output plan whole source) how old new whole rest start count before after
 same_run plan source how old new crew whole left rest start count before after same same_left run = rw (same, same_left) run

@@ -27,11 +27,11 @@ use Rattle.sg_engine.proofs.SeatSteps.{length-zip_with, inbox_at, idle_calls, id
 abbrev pub id_at : List ActorId → ℕ → ℕ
 id_at queue k = (get_or queue k (record { 0 = 0 })).0
 
--- a place of nobody
+-- a slot without an actor
 abbrev pub no_place : SeatView
 no_place = record { mind = None; inbox = Start; outbox = Ask; ready = false }
 
--- who isn't ready stays
+-- an actor that isn't ready stays
 abbrev pub IdleStay : {X : Type 0} → List Actor → List X → List X → X → Type 0
 IdleStay states new old d = (j : ℕ) → j < length states → is_ready (get_or states j (not_suspended Ended)) ≡ false → get_or new j d ≡ get_or old j d
 
@@ -111,7 +111,7 @@ turned_on states queue k to now new old d is less within number ready stay inv m
     ∙ ap (λ (n : ℕ). merged n (map after old) old) (sym (last_at queue to (omega (arith, less))))
 
 -- ---- calls
--- who isn't ready has made no call
+-- an actor that isn't ready has made no call
 abbrev pub IdleCall : List Actor → List (Option Call) → Type 0
 IdleCall states row = (j : ℕ) → j < length states → is_ready (get_or states j (not_suspended Ended)) ≡ false → get_or row j None ≡ None
 
@@ -132,7 +132,7 @@ row_end row states queue k is within past same none =
     skipped_calls 1 row (last_id queue k) (length states) (last_within states queue k is within) (λ j from to. none j to (quiet_end states queue k j is within past from to))
     ∙ all_listed row (length states) (omega (arith, same))
 
--- those that lie in the seats
+-- those that are in the slots
 none_called : (places : List SeatView) (states : List Actor) (d : SeatView) → AreQueued places states → length places ≡ length states → IdleCall states (map call_in places)
 none_called places states d ready same j within idle =
     get_or-map call_in places j d None (omega (arith, within, same)) ∙ idle_calls (get_or places j d) (idle_at places states j d ready same within idle)
@@ -148,7 +148,7 @@ pub all_called : (places : List SeatView) (states : List Actor) (queue : List Ac
     call_list 1 (take (last_id queue k) (map call_in places)) ≡ call_list 1 (map call_in places)
 all_called places states queue k is within past ready same = row_end (map call_in places) states queue k is within past (length-map places call_in ∙ same) (none_called places states no_place ready same)
 
--- ---- as the loops have it, where a seat is read and then written
+-- ---- as the loops have it, which read a slot and then write it
 pub answer_next : {S : Type 0} (see : S → SeatView) (f : SeatView → Option Answer → SeatView) → ((place : SeatView) → f place None ≡ place) → (old now : List S) (states : List Actor) (queue : List ActorId) (k : ℕ) (r s : S) (answer : Option Answer) → IsQueue states queue → k < length queue → length old ≡ length states →
     map see now ≡ merged (last_id queue k) (zip_with f (map see old) (map inbox_of states)) (map see old) → answer ≡ inbox_of (get_or states (id_at queue k - 1) (not_suspended Ended)) → see s ≡ f (see (get_or now (id_at queue k - 1) r)) answer →
     map see (set now (id_at queue k - 1) s) ≡ merged (last_id queue (k + 1)) (zip_with f (map see old) (map inbox_of states)) (map see old)
@@ -190,7 +190,7 @@ changes_end see f stays old now states queue k is within past number ready inv =
     let long : length places ≡ length states = length-map old see ∙ number in
     inv ∙ all_stepped states queue k (map f places) places no_place is within past long (length-map places f) (mapped_stay f stays places states no_place ready long)
 
--- what such a seat shows when its turn comes
+-- what such a slot shows when its turn comes
 pub change_was : {S : Type 0} (see : S → SeatView) (f : SeatView → SeatView) → ((place : SeatView) → place.ready ≡ false → f place ≡ place) → (old now : List S) (states : List Actor) (queue : List ActorId) (k : ℕ) (r : S) → IsQueue states queue → k < length queue → length old ≡ length states → AreQueued (map see old) states →
     map see now ≡ merged (last_id queue k) (map f (map see old)) (map see old) → see (get_or now (id_at queue k - 1) r) ≡ get_or (map see old) (id_at queue k - 1) (see r)
 change_was see f stays old now states queue k r is within number ready inv =
@@ -198,7 +198,7 @@ change_was see f stays old now states queue k r is within number ready inv =
     let long : length places ≡ length states = length-map old see ∙ number in
     was_at see states queue k now (map f places) places r is within long (length-map places f) (mapped_stay f stays places states (see r) ready long) inv
 
--- several seats in one go
+-- several slots in one go
 pub turns_next : {S : Type 0} (see : S → SeatView) (old now new : List S) (states : List Actor) (queue : List ActorId) (k to : ℕ) → IsQueue states queue → k < to → to ≤ length queue → length old ≡ length states → AreQueued (map see old) states →
     map see now ≡ merged (last_id queue k) (map after (map see old)) (map see old) →
     map see new ≡ take (id_at queue k - 1) (map see now) ++ (map after (drop (id_at queue k - 1) (take (id_at queue (to - 1)) (map see now))) ++ drop (id_at queue (to - 1)) (map see now)) →

@@ -21,6 +21,6 @@ not_write how uncut is = uncut_not (is_cut how) (ap is_cut is) uncut
 pub not_memory : (how : Ended) → is_cut how ≡ false → how ≡ ended.Memory → ⊥
 not_memory how uncut is = uncut_not (is_cut how) (ap is_cut is) uncut
 
--- want of memory tells no fault
+-- running out of memory reports no fault
 pub memory_cause : (faults : ℕ) (broke : Type 0) → HasCause (Some ended.Memory ≡ Some ended.WriteFault) (Some ended.Memory ≡ Some ended.ReadFault) faults faults broke
 memory_cause faults broke = record { write = λ is. cc is; sound = λ isnt. refl; read = λ is. cc is }

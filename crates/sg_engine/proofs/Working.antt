@@ -18,7 +18,7 @@ use Rattle.sg_script.specs.declared.fault.ScriptFault.{ScriptFault}
 use Rattle.sg_engine.specs.World.{World}
 use Rattle.sg_engine.specs.declared.ended.Ended.{Ended}
 use Rattle.sg_engine.specs.declared.ended.Ended.TheVariants as ended
-use Rattle.sg_engine.specs.Run.{Scene, Answering, Progress, at_world, and_then, and_then_by, answer_step, anyone_ready, are_completed, ask_step, call_after, calls_from, created_by, creates, if_call, if_given, in_world, inboxes, is_ask, is_given, mind_after, one_call, other_call, round, round_or_pass, run_from, work_behind, zip_with}
+use Rattle.sg_engine.specs.Run.{Scene, Answering, Progress, at_world, then_unless_ended, and_then_by, answer_step, anyone_ready, are_completed, ask_step, call_after, calls_from, created_by, creates, if_call, if_given, in_world, inboxes, is_ask, is_given, mind_after, one_call, other_call, round, round_or_pass, run_from, work_behind, zip_with}
 
 -- ---- calls leave the work as it is
 work_by : (b : Bool) (x y : Progress) (n : ℕ) → x.world.work ≡ n → y.world.work ≡ n → (cond b x y).world.work ≡ n
@@ -68,7 +68,7 @@ calls_work at answers actor (what ∷ rest) world =
 round_work : (at : Scene) (answers : Answering) (world : World) → (round at answers world).world.work ≡ world.work
 round_work at answers world = calls_work at answers 1 (zip_with call_after world.minds (inboxes world.core)) (record world { minds = zip_with mind_after world.minds (inboxes world.core) })
 
--- ---- a pass adds what its rates may take
+-- ---- a time advance adds what its rates may take
 part_by : (b : Bool) (at : Scene) (answers : Answering) (world : World) →
     (cond b (round at answers world) (in_world (record world { work = world.work + work_of world.core.under }) (pass_of at.setup world.core))).world.work ≡ world.work + cond b 0 (work_of world.core.under)
 part_by true at answers world = round_work at answers world ∙ sym (add-zero world.work)
@@ -92,11 +92,11 @@ run_rises zero at answers world = omega arith
 run_rises (suc n) at answers world =
     let first = round_or_pass at answers world in
     let here : first.world.work ≡ work_behind world = part_work at answers world in
-    rises_by (are_completed world.core) (at_world (Some ended.Completed) world) (and_then first (run_from n at answers)) world.work (omega arith)
+    rises_by (are_completed world.core) (at_world (Some ended.Completed) world) (then_unless_ended first (run_from n at answers)) world.work (omega arith)
     (rises_then first.ended first (run_from n at answers) world.work (omega (arith, here)) (omega (arith, here, run_rises n at answers first.world)))
 
 -- a run has at least the work of the part with which it begins
-pub run_rises_behind : (n : ℕ) (at : Scene) (answers : Answering) (world : World) → work_behind world ≤ (and_then (round_or_pass at answers world) (run_from n at answers)).world.work
+pub run_rises_behind : (n : ℕ) (at : Scene) (answers : Answering) (world : World) → work_behind world ≤ (then_unless_ended (round_or_pass at answers world) (run_from n at answers)).world.work
 run_rises_behind n at answers world =
     let first = round_or_pass at answers world in
     let here : first.world.work ≡ work_behind world = part_work at answers world in

@@ -9,7 +9,7 @@ pub record GainsAll (out err : List ℕ) (old new : Stream → Option (List ℕ)
   pub out_held : new Out ≡ gain (old Out) out
   pub err_held : new Err ≡ gain (old Err) err
 
--- fronts of the texts were appended, and a byte of the second only behind the whole first
+-- prefixes of the texts were appended, and a byte of the second only after the whole first
 pub record GainsFronts (out err : List ℕ) (old new : Stream → Option (List ℕ)) : Type 0 where
   pub out_done : List ℕ
   pub out_rest : List ℕ

@@ -33,25 +33,25 @@ use Rattle.sg_engine.specs.World.{World}
 abbrev pub scene_of : Platform → Deployed → Bool → ℕ → Scene
 scene_of platform deployed script budget = scene (roads_of platform) (setup_of platform deployed budget) (firsts_of deployed) script
 
--- the world in which it begins, with a crew of so many contexts, of which each actor that starts takes one
+-- the world in which it begins, with so many contexts in the pool, of which each actor that starts takes one
 abbrev pub first_of : Platform → Deployed → ℕ → ℕ → World
 first_of platform deployed budget crew = first_world (first_minds deployed) (crew - started_number deployed) (capacities_in platform) (setup_of platform deployed budget)
 
--- a trace line for each record, where all is shown
+-- a trace line for each record, if all is shown
 abbrev pub trace_of : Show → Platform → Deployed → List Record → List ℕ
 trace_of show.All platform deployed records = flat_map (λ r. line_of r platform deployed) records
 trace_of other platform deployed records = []
 
--- how many actors and events there were, where that is shown
+-- how many actors and events there were, if that is shown
 abbrev pub summary_line : Show → Platform → Deployed → ℕ → List ℕ
 summary_line show.Summary platform deployed events = ending_of (last.Summary (length deployed.actors) events) platform deployed
 summary_line other platform deployed events = []
 
--- the line of what is told, if anything is
+-- the text of a line, if there is one
 abbrev pub line_if : Platform → Deployed → Option Last → List ℕ
 line_if platform deployed told = option_map_or (λ what. ending_of what platform deployed) told []
 
--- what is told of an actor for which the run can't go on: that it is suspended, or else on what it is blocked
+-- the line for an actor that can't continue: that it is suspended, or else on what it is blocked
 abbrev pub stuck_last : ℕ → Actor → Option Last
 stuck_last id actor =
     if actor.suspended && is_alive actor.state then Some (last.Suspended (record { 0 = id }))
@@ -62,7 +62,7 @@ abbrev pub stuck_lines : Platform → Deployed → ℕ → List Actor → List �
 stuck_lines platform deployed id [] = []
 stuck_lines platform deployed id (actor ∷ more) = line_if platform deployed (stuck_last id actor) ++ stuck_lines platform deployed (id + 1) more
 
--- what is told of the energy that a host with power has used: whole joules, and the rest in 10^-12 J
+-- the line for the energy that a host with power has used: whole joules, and the rest in 10^-12 J
 abbrev pub energy_last : ℕ → HostRow → ℕ → Option Last
 energy_last host row energy = option_map (λ power. last.Energy (record { 0 = host }) (energy / 10 ^ 12) (energy % 10 ^ 12)) row.power
 
@@ -72,10 +72,11 @@ energy_lines platform deployed energies host [] = []
 energy_lines platform deployed energies host (row ∷ rows) =
     line_if platform deployed (energy_last host row (slice_index_or energies host 0)) ++ energy_lines platform deployed energies (host + 1) rows
 
+-- the energy that each host with power has used at the end of the run, a line each
 abbrev pub all_energy : Platform → Deployed → Core → List ℕ
 all_energy platform deployed core = energy_lines platform deployed core.under.energy 0 platform.hosts
 
--- how the run has ended, and for whom it can't go on
+-- how the run has ended, and which actors can't continue
 abbrev pub how_lines : Show → Platform → Deployed → ℕ → Core → Ended → List ℕ
 how_lines show platform deployed budget core ended.Completed = summary_line show platform deployed core.events ++ ending_of (last.Time core.under.date) platform deployed
 how_lines show platform deployed budget core ended.Deadlock = ending_of (last.Deadlock core.under.date) platform deployed ++ stuck_lines platform deployed 1 core.actors
@@ -83,7 +84,7 @@ how_lines show platform deployed budget core ended.Starved = ending_of (last.Sta
 how_lines show platform deployed budget core ended.Budget = ending_of (last.Budget budget core.under.date) platform deployed
 how_lines show platform deployed budget core other = []
 
--- the energies are told where no fault has ended the run
+-- the energies are reported if no fault has ended the run
 abbrev pub tells_energy : Ended → Bool
 tells_energy ended.Completed = true
 tells_energy ended.Deadlock = true
@@ -91,7 +92,7 @@ tells_energy ended.Starved = true
 tells_energy ended.Budget = true
 tells_energy other = false
 
--- what stands on Out behind the trace lines
+-- what stands on Out after the trace lines
 abbrev pub last_lines : Show → Platform → Deployed → ℕ → Core → Ended → List ℕ
 last_lines show platform deployed budget core how = how_lines show platform deployed budget core how ++ (if tells_energy how then all_energy platform deployed core else [])
 
@@ -103,7 +104,8 @@ fault_line platform (ended.TooLong from to) = too_long_line platform from to
 fault_line platform ended.ReadFault = codes "cannot read the script\n"
 fault_line platform other = []
 
--- What a run writes, how it ends, how many contexts its actors take, at how many uses its passes may look, and how many bytes of its script its Asks need.
+-- What a run writes, how it ends, how many contexts its actors take, how many visits to uses its time advances may
+-- make, and how many bytes of its script its fetches need.
 pub record Output : Type 0 where
   pub out : List ℕ
   pub err : List ℕ
@@ -116,6 +118,7 @@ pub record Output : Type 0 where
 abbrev pub end_of : Progress → Ended
 end_of progress = unwrap_or progress.ended ended.Budget
 
+-- what a run writes and uses, by the world and the records at its end
 abbrev pub written_of : Show → Platform → Deployed → ℕ → ℕ → Source → Progress → Output
 written_of show platform deployed budget crew source progress = record {
   out = trace_of show platform deployed progress.made ++ last_lines show platform deployed budget progress.world.core (end_of progress);
@@ -126,7 +129,7 @@ written_of show platform deployed budget crew source progress = record {
   need = needed_by (known_in deployed) source (length deployed.actors) progress.world.asks;
 }
 
--- what a run writes and how it ends, with a crew of so many contexts, with or without a script, by what that gives
+-- what a run writes and how it ends, with so many contexts in the pool, with or without a script, by what that gives
 abbrev pub run_output : Platform → Deployed → Bool → ℕ → ℕ → Show → Source → Output
 run_output platform deployed script budget crew show source =
     written_of show platform deployed budget crew source (run_of (scene_of platform deployed script budget) (first_of platform deployed budget crew) (answer_of (known_in deployed) source))

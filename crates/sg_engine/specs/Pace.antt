@@ -18,7 +18,7 @@ use Rattle.sg_engine.specs.Output.{first_of, scene_of, trace_of}
 use Rattle.sg_engine.specs.Run.{Answering, Progress}
 use Rattle.sg_engine.specs.RunContract.{ForSources, IsReadOnDemand}
 
--- how far a run has come: the trace lines that it has made, and how many bytes of its script its Asks need
+-- how far a run has come: the trace lines that it has made, and how many bytes of its script its fetches need
 pub record Pace : Type 0 where
   pub out : List ℕ
   pub need : ℕ
@@ -29,7 +29,7 @@ pace_at platform deployed show source progress = record {
   need = needed_by (known_in deployed) source (length deployed.actors) progress.world.asks;
 }
 
--- the first so many rounds and passes of a run with so many contexts, by what its script answers
+-- the first so many scheduling rounds and time advances of a run with so many contexts, by what its script answers
 abbrev pub first_parts : Platform → Deployed → Bool → ℕ → ℕ → ℕ → Answering → Progress
 first_parts platform deployed script budget crew parts answers = parts_from parts (scene_of platform deployed script budget) answers (first_of platform deployed budget crew)
 
@@ -37,16 +37,16 @@ first_parts platform deployed script budget crew parts answers = parts_from part
 abbrev pub pace_of : Platform → Deployed → Bool → ℕ → ℕ → Show → Source → ℕ → Pace
 pace_of platform deployed script budget crew show source parts = pace_at platform deployed show source (first_parts platform deployed script budget crew parts (answer_of (known_in deployed) source))
 
--- However a run has ended, also by a failed write: the lines of its first rounds and passes, so many, are all on Out, and of
--- the script no more was taken than these and the next one need, and less than a piece of 4,096 bytes. Since any write
--- may be one that fails, no line waits while more is read than that.
+-- However a run has ended, even by a failed write: the lines of its first scheduling rounds and time advances, so many,
+-- are all on Out. Of the script no more was taken than these and the next one need, and less than a piece of 4,096
+-- bytes. Since any write may fail, no line waits while more is read than that.
 pub record IsInPace (pace : ℕ → Pace) (old new : Stream → Option (List ℕ)) (before after : Part → PartView) : Type 0 where
   pub parts : ℕ
   pub behind : List ℕ
   pub written : new Out ≡ gain (old Out) ((pace parts).out ++ behind)
   pub read : IsReadOnDemand (pace (parts + 1)).need before after
 
--- so it is for each source that the script's part may have given
+-- a run keeps pace for each source that the script's part may have given
 abbrev pub KeepsPace : Bool → (Source → ℕ → Pace) → (Stream → Option (List ℕ)) → (Stream → Option (List ℕ)) → (Part → PartView) → (Part → PartView) → Type 0
 KeepsPace script pace old new before after = ForSources script before after (λ source. IsInPace (pace source) old new before after)
 

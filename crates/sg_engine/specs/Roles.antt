@@ -21,21 +21,24 @@ role_of me (Churn seed next prev steps) = role.Churn seed steps (actor_of me) ne
 abbrev pub mind_at : ℕ → ActorRow → Mind
 mind_at me row = mind_of (role_of me row.function)
 
--- the minds with which the actors of these rows begin, where the first row is this actor's
+-- the minds with which the actors of these rows begin, if the first row is this actor's
 abbrev pub firsts_from : ℕ → List ActorRow → List Mind
 firsts_from me [] = []
 firsts_from me (row ∷ rows) = mind_at me row ∷ firsts_from (me + 1) rows
 
+-- the mind with which each actor of a deployment begins, whenever it begins
 abbrev pub firsts_of : Deployed → List Mind
 firsts_of deployed = firsts_from 1 deployed.actors
 
--- what it has in mind at first: nothing yet where it doesn't start
+-- what it has in mind at first: nothing yet if it doesn't start
 abbrev pub first_mind : ℕ → ActorRow → Option Mind
 first_mind me row = if row.start then Some (mind_at me row) else None
 
+-- what the actors of these rows have in mind at first, if the first row is this actor's
 abbrev pub minds_from : ℕ → List ActorRow → List (Option Mind)
 minds_from me [] = []
 minds_from me (row ∷ rows) = first_mind me row ∷ minds_from (me + 1) rows
 
+-- what each actor has in mind at the start of the run; none: it begins later or never
 abbrev pub first_minds : Deployed → List (Option Mind)
 first_minds deployed = minds_from 1 deployed.actors

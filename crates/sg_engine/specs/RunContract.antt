@@ -17,13 +17,13 @@ use Rattle.sg_engine.specs.Gains.{GainsAll, GainsFronts}
 use Rattle.sg_engine.specs.Output.{Output, run_output}
 use Rattle.sg_rows.specs.Deployment.{Deployed, started_number}
 
--- a failed write or want of memory cuts the run off
+-- a failed write or running out of memory cuts the run off
 abbrev pub is_cut : Ended → Bool
 is_cut ended.WriteFault = true
 is_cut ended.Memory = true
 is_cut other = false
 
--- the run ended so and both texts are written, or it was cut off and fronts of them are
+-- the run ended so and both texts are written, or it was cut off and prefixes of them are
 abbrev pub Ends : List ℕ → List ℕ → Ended → Ended → (Stream → Option (List ℕ)) → (Stream → Option (List ℕ)) → Type 0
 Ends out err want how old new = MatchBool (is_cut how) (GainsFronts out err old new) ((want ≡ how) × GainsAll out err old new)
 
@@ -31,16 +31,16 @@ Ends out err want how old new = MatchBool (is_cut how) (GainsFronts out err old 
 abbrev pub IsBroken : PartView → PartView → Type 0
 IsBroken old new = (new.stage ≡ Broken) × (old.faults ≤ new.faults) × ((old.stage ≡ Broken) ⊎ (old.faults < new.faults))
 
--- where so many bytes are needed, less than a piece of 4,096 bytes more of the script was taken
+-- if so many bytes are needed, less than a piece of 4,096 bytes more of the script was taken
 abbrev pub IsReadOnDemand : ℕ → (Part → PartView) → (Part → PartView) → Type 0
 IsReadOnDemand need old new = TakesUpTo (need + 4095) (old Script) (new Script)
 
--- of a crew of so many contexts so many are left: its run took all that it takes, or was cut off and took no more
+-- of so many contexts in the pool so many remain: its run took all that it takes, or was cut off and took no more
 abbrev pub TakesContexts : ℕ → Ended → ℕ → ℕ → Type 0
 TakesContexts want how crew left = MatchBool (is_cut how) (crew ≤ left + want) (crew ≡ left + want)
 
--- What was written is this, and the end, and so many contexts of the crew are left; the count went on by its work at most,
--- and the script was read on demand, also where the run was cut off.
+-- What was written is this, and the end, and so many contexts remain in the pool. The count rose by its work at most,
+-- and the script was read on demand, even if the run was cut off.
 pub record IsRun (want : Output) (how : Ended) (old new : Stream → Option (List ℕ)) (crew left start count : ℕ) (before after : Part → PartView) : Type 0 where
   pub ends : Ends want.out want.err want.ended how old new
   pub contexts : TakesContexts want.contexts how crew left
@@ -52,13 +52,13 @@ pub record IsRun (want : Output) (how : Ended) (old new : Stream → Option (Lis
 abbrev pub IsRunCause : Ended → ℕ → ℕ → (Part → PartView) → (Part → PartView) → Type 0
 IsRunCause how had faults old new = HasCause (how ≡ ended.WriteFault) (how ≡ ended.ReadFault) had faults (IsBroken (old Script) (new Script))
 
--- the crew has a blank context for each actor that starts, and maybe more
+-- the pool has a blank context for each actor that starts, and maybe more
 pub record HasContexts {A : Type 0} (mind : A → Option Mind) (crew : List A) (deployed : Deployed) : Type 0 where
   pub blank : All (λ context. mind context ≡ None) crew
   pub enough : started_number deployed ≤ length crew
 
--- Of the crew the first contexts were taken: one for each actor that starts, where memory wasn't wanting, and one at most
--- for each actor.
+-- Of the pool the first contexts were taken: one for each actor that starts, unless memory ran out, and one at most for
+-- each actor.
 pub record TakesFirst {A : Type 0} (deployed : Deployed) (how : Ended) (old new : List A) : Type 0 where
   pub taken : ℕ
   pub least : how ≢ ended.Memory → started_number deployed ≤ taken
@@ -66,16 +66,16 @@ pub record TakesFirst {A : Type 0} (deployed : Deployed) (how : Ended) (old new 
   pub within : taken ≤ length old
   pub left : new ≡ drop taken old
 
--- of all files only the script's part was read, and without a script none; it keeps its name, and where it tells its
--- bytes, it still does
+-- of all files only the script's part was read, and without a script none; it keeps its name, and its bytes stay known
+-- if they were
 pub record TakesScript {F : Type 0} (shows : F → Part → PartView) (script : Bool) (old new : F) : Type 0 where
   pub others : Only Script (shows old) (shows new)
   pub unscripted : script ≡ false → new ≡ old
   pub name : (shows new Script).name ≡ (shows old Script).name
   pub telling : KeepsTelling (shows old Script) (shows new Script)
 
--- How a run has ended: why a write or a read failed, that want of memory leaves Err as it was, and that of all files only
--- the script's part was read.
+-- How a run has ended: why a write or a read failed, that running out of memory leaves Err as it was, and that of all
+-- files only the script's part was read.
 pub record IsEnding {F : Type 0} (shows : F → Part → PartView) (script : Bool) (how : Ended) (before after : F) (old new : Stream → Option (List ℕ)) (had faults : ℕ) : Type 0 where
   pub cause : IsRunCause how had faults (shows before) (shows after)
   pub memory : how ≡ ended.Memory → new Err ≡ old Err

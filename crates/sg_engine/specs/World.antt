@@ -3,7 +3,9 @@ use Rattle.std.specs.Prelude.{ℕ, List, Option}
 use Rattle.sg_base.specs.Mind.{Mind}
 use Rattle.sg_calls.specs.World.{Core}
 
--- The core; of each actor its mind, if it has begun, and how many Asks it has made; how many contexts of the crew are left; and the work so far: the sum of the looks that the rates of each pass may take. The records are what its steps make, one after another.
+-- The core; of each actor its mind, if it has begun, and how many lines it has fetched; how many contexts remain in the
+-- pool; and the work so far: the sum of the visits that the rates of each time advance may take. The records are what
+-- its steps make, one after another.
 pub record World : Type 0 where
   pub minds : List (Option Mind)
   pub asks : ℕ → ℕ

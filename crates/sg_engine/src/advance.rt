@@ -16,8 +16,8 @@ use sg_route::Router;
 use std::sync::ledger::Ledger;
 use std::thread::Threads;
 
-/// Makes a round, or a pass where nobody is ready, and writes the lines of its records. The answer is how the run ended,
-/// if it did. No line waits before it or behind it, so that none waits while the script is read.
+/// Makes a scheduling round, or a time advance if no actor is ready, and writes the lines of its records. Returns how
+/// the run ended, if it did. No line waits before or after it, so that none waits while the script is read.
 pub fn advance<R: Threads + Sync, F: Files, O: Sinks, L: Ledger>(
     engine: &Engine<'_, '_, R>,
     router: &mut Router,

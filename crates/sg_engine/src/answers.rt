@@ -1,4 +1,4 @@
-//! The answers of a round: its calls are answered in rising id.
+//! The answers of a scheduling round: its calls are answered by rising id.
 ghost use Rattle.std.specs.Prelude.{◌≡◌, ◌≢◌, ◌+◌, ◌<◌, ◌≤◌, IfOk, None, Ok, Some, length, All, AllPairs, false};
 ghost use Rattle.std.specs.Result.{is_err};
 ghost use Rattle.sg_base.specs.Limits.{IsActorIn, IsCall};
@@ -23,7 +23,7 @@ use sg_kernel::Kernel;
 use sg_route::Router;
 use sg_script::{Script, ScriptFault};
 
-// Answers an Ask: with the actor's next line, or by the end of the run.
+// Answers an actor that fetches its next line: with that line, or by the end of the run.
 fn answer_ask<F: Files>(
     plan: &Plan<'_>,
     kernel: &mut Kernel,
@@ -57,7 +57,7 @@ fn answer_ask<F: Files>(
     }
 }
 
-// Answers a create that is given or refused: where it is given, its actor takes a context and its seat first.
+// Answers a create that is given or refused: if given, its actor takes a context and its slot first.
 fn create(
     plan: &Plan<'_>,
     sim: &mut Simulation,
@@ -114,7 +114,7 @@ fn answer_create(
     }
 }
 
-// Answers a call, but that of an actor that was killed in this round.
+// Answers a call, except that of an actor that was killed in this scheduling round.
 fn answer_one<F: Files>(
     plan: &Plan<'_>,
     router: &mut Router,
@@ -146,7 +146,7 @@ fn answer_one<F: Files>(
     }
 }
 
-/// Answers the calls of a round in rising id.
+/// Answers the calls of a scheduling round by rising id.
 pub fn answer_calls<F: Files>(
     plan: &Plan<'_>,
     router: &mut Router,

@@ -11,8 +11,8 @@ use std::marker::Model;
 /// How many bytes wait at most. A line has at most 512.
 const ROOM: usize = 65536;
 
-/// Bytes for Out that wait, so that the lines of one round or pass take one write. None waits from one to the next. It
-/// takes no memory once it is made.
+/// Bytes for Out that wait, so that the lines of one scheduling round or time advance take one write. None waits from
+/// one to the next. It takes no memory once it is made.
 #[derive(Drop)]
 pub struct Buffer {
     bytes: Vec<u8>,
@@ -27,7 +27,7 @@ impl Model for Buffer {
 }
 
 impl Buffer {
-    /// An empty buffer.
+    /// Makes an empty buffer.
     pub fn new(alloc: Global) -> Result<Buffer, Memory>
         ensures { IfOk result (λ buffer. buffer ≡ []) }
     {
@@ -35,7 +35,7 @@ impl Buffer {
         Ok(Buffer { bytes })
     }
 
-    /// Adds a line. Where there is no room for it, what waits is written first.
+    /// Adds a line. If there is no room for it, what waits is written first.
     pub fn put<O: Sinks>(&mut self, line: &[u8], out: &mut O) -> Result<(), Failed>
         requires line { length line.now ≤ 512 }
         requires sound { O.faults out.old ≡ 0 }

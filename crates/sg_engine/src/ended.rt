@@ -14,9 +14,9 @@ use sg_script::LineFault;
 pub enum Ended {
     /// All actors have ended.
     Completed,
-    /// Nobody was ready, and nothing was under way.
+    /// No actor was ready, and no activity was running.
     Deadlock,
-    /// Nobody was ready, and nothing that was under way would ever be over.
+    /// No actor was ready, and no running activity would ever end.
     Starved,
     /// An event was next, and the budget was used up.
     Budget,
@@ -34,17 +34,17 @@ pub enum Ended {
         from: PointId,
         to: PointId,
     },
-    /// An Ask met the bad line of this number.
+    /// A fetch met the bad line of this number.
     Script(u64, LineFault),
-    /// An Ask met the end of a script that could not be read further.
+    /// A fetch met the end of a script that could not be read further.
     ReadFault,
     /// A write failed. What was written is a prefix.
     WriteFault,
-    /// There was no memory left. What was written is a prefix.
+    /// Memory ran out. What was written is a prefix.
     Memory,
 }
 
-/// The end of the run that a stop of the kernel is.
+/// Returns the end of the run for a stop of the kernel.
 pub fn end_of(stopped: Result<(), Stop>) -> Option<Ended>
     ensures is { (stop : Option Stop) → stopped ≡ result_of stop →
         result ≡ option_map ended_by stop }

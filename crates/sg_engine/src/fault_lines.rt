@@ -28,7 +28,7 @@ fn fault_text(kind: LineFault) -> &'static str
     }
 }
 
-/// The line that tells a bad script line.
+/// Returns the line that reports a bad script line.
 pub fn script_fault_line(number: u64, kind: LineFault) -> Line
     ensures { result.bytes ≡ script_line number kind }
 {
@@ -77,7 +77,7 @@ fn child_name(platform: &PlatformText, child: Child) -> &str
     }
 }
 
-// Two names, and " to " between them.
+// Adds two names, and " to " between them.
 fn push_pair(line: &mut Line, from: &str, to: &str)
     requires from { length from.now ≤ 64 }
     requires to { length to.now ≤ 64 }
@@ -90,7 +90,7 @@ fn push_pair(line: &mut Line, from: &str, to: &str)
     line.push_str(to);
 }
 
-/// The line that tells a missing route.
+/// Returns the line that reports a missing route.
 pub fn no_route_line(
     platform: &PlatformText,
     from: PointId,
@@ -116,7 +116,7 @@ pub fn no_route_line(
     line
 }
 
-/// The line that tells a route that is too long.
+/// Returns the line that reports a route that is too long.
 pub fn too_long_line(platform: &PlatformText, from: PointId, to: PointId) -> Line
     ensures { result.bytes ≡ too_long_line_spec platform.now from to }
 {

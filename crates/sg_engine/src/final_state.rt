@@ -1,4 +1,4 @@
-//! What the lines at the end of a run tell of.
+//! What the lines at the end of a run report.
 ghost use Rattle.sg_engine.specs.kept.Invariant.{IsOfSetup};
 
 use crate::plan::Plan;

@@ -16,7 +16,7 @@ use crate::show::Show;
 use sg_edge::{Failed, Sinks, Stream, write_all};
 use sg_trace::Last;
 
-// Puts the last lines of a run that was completed into the buffer: where a summary is shown, it stands before the date.
+// Puts the last lines of a run that was completed into the buffer: if a summary is shown, it stands before the date.
 fn put_completed<O: Sinks>(
     end: &Final<'_, '_>,
     buffer: &mut Buffer,
@@ -38,7 +38,7 @@ fn put_completed<O: Sinks>(
     }
 }
 
-// Puts the lines of the end, but those of energies, into the buffer.
+// Puts the lines of the end, except those of energies, into the buffer.
 fn put_how<O: Sinks>(
     end: &Final<'_, '_>,
     how: Ended,
@@ -67,7 +67,7 @@ fn put_how<O: Sinks>(
     }
 }
 
-// Whether the energies of hosts are told behind the lines of the end.
+// Returns whether the energies of hosts follow the lines of the end.
 fn tells_energy(how: Ended) -> bool
     ensures { result ≡ tells_energy_spec how }
 {
@@ -148,7 +148,7 @@ fn print_fault<O: Sinks>(plan: &Plan<'_>, how: Ended, out: &mut O) -> Result<(),
     }
 }
 
-// Writes what stands behind the trace lines of a run that ended so: all of Out before Err gets a byte.
+// Writes what stands after the trace lines of a run that ended so: all of Out before Err gets a byte.
 fn print_end<O: Sinks>(
     end: &Final<'_, '_>,
     how: Ended,
@@ -171,8 +171,8 @@ fn print_end<O: Sinks>(
     print_fault(&end.plan, how, out)
 }
 
-/// Writes what stands behind the trace lines of a run that ended so and wasn't cut off. It takes no memory, so that an
-/// end that was reached is told.
+/// Writes what follows the trace lines of a run that ended so and wasn't cut off. It takes no memory, so that an end
+/// that was reached is reported.
 pub fn finish<O: Sinks>(end: &Final<'_, '_>, how: Ended, buffer: &mut Buffer, out: &mut O) -> Ended
     requires uncut { is_cut how ≡ false }
     requires sound { O.faults out.old ≡ 0 }

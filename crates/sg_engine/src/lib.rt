@@ -1,6 +1,6 @@
-//! The run of a simulation: a crew that takes its seats, rounds of turns and passes over the kernel, the script read on
-//! demand, and the lines that are written.
-//! One enters by `run`, with a `Setup` and `Terms`, and is told how the run `Ended`.
+//! The run of a simulation: a context pool for its slots, scheduling rounds and time advances over the kernel, the
+//! script read on demand, and the lines that are written.
+//! One enters by `run`, with a `Setup` and `Terms`, and gets back how the run `Ended`.
 //! It stands on `sg_actor` for turns, `sg_kernel` for what calls do, `sg_script` for actions, `sg_trace` for lines, and
 //! what is below these.
 #![tactic(auto)]

@@ -16,14 +16,14 @@ pub struct Terms {
     ghost few: { budget ≤ 1000000000 },
 }
 
-/// What is run, and how: a setup but its router, by which calls alone are answered, and the terms.
+/// What is run, and how: a setup without its router, which is used only to answer calls, and the terms.
 #[derive(Clone, Copy)]
 pub struct Plan<'a> {
     /// Where memory is taken.
     pub alloc: Global,
     pub platform: &'a PlatformText,
     pub deployment: &'a Deployment,
-    /// Without one each Ask is refused.
+    /// Without one each fetch of a line is refused.
     pub script: bool,
     pub terms: Terms,
     ghost deployed: { IsDeployedOn platform.now deployment.now },

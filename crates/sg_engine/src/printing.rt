@@ -1,4 +1,5 @@
-//! The lines on Out. They are put into the buffer, and those of a round or a pass are written together.
+//! The lines on Out. They are put into the buffer, and those of a scheduling round or a time advance are written
+//! together.
 ghost use Rattle.std.specs.Prelude.{◌≡◌, ◌<◌, ◌++◌, [], slice_index_or, IfSome, OnOk};
 ghost use Rattle.sg_states.specs.Actors.{actor_at};
 ghost use Rattle.sg_states.specs.Records.{AreRecords, IsRecord};
@@ -61,7 +62,7 @@ fn put_records<O: Sinks>(
     Ok(())
 }
 
-// Puts a trace line for each record into the buffer where all is shown.
+// Puts a trace line for each record into the buffer if all is shown.
 fn put_trace<O: Sinks>(
     plan: &Plan<'_>,
     records: &[Record],
@@ -80,8 +81,8 @@ fn put_trace<O: Sinks>(
     put_records(plan, records, buffer, out)
 }
 
-/// Writes a trace line for each record of a round or a pass where all is shown: in one write, but where they are more
-/// than the buffer holds.
+/// Writes a trace line for each record of a scheduling round or a time advance, if all is shown: in one write, unless
+/// they exceed the buffer.
 pub fn write_trace<O: Sinks>(
     plan: &Plan<'_>,
     records: &[Record],
@@ -139,7 +140,7 @@ pub fn put_two<O: Sinks>(
     put_last(plan, second, buffer, out)
 }
 
-// What is told of an actor for which the run can't go on.
+// Returns the line for an actor that can't continue.
 fn stuck(end: &Final<'_, '_>, actor: ActorId) -> Option<Last>
     requires { IsActor end.now.kernel.now.core actor.0 }
     ensures is { result ≡ stuck_last actor.0 (actor_at end.now.kernel.now.core.actors actor.0) }
@@ -156,7 +157,7 @@ fn stuck(end: &Final<'_, '_>, actor: ActorId) -> Option<Last>
     }
 }
 
-// Puts a line into the buffer, if there is one to be told.
+// Puts a line into the buffer, if there is one.
 fn put_if<O: Sinks>(
     plan: &Plan<'_>,
     told: Option<Last>,
@@ -195,7 +196,7 @@ fn put_all_stuck<O: Sinks>(
     Ok(())
 }
 
-/// Puts a last line into the buffer, and behind it one for each actor that is suspended or blocked, in rising id.
+/// Puts a last line into the buffer, and after it one for each actor that is suspended or blocked, in rising id.
 pub fn put_stuck<O: Sinks>(
     end: &Final<'_, '_>,
     last: Last,
@@ -215,7 +216,7 @@ pub fn put_stuck<O: Sinks>(
     put_all_stuck(end, buffer, out)
 }
 
-// What is told of the energy of a host, where it has power.
+// Returns the line for the energy of a host, if it has power.
 fn energy(kernel: &Kernel, host: PointId, row: &HostRow) -> Option<Last>
     requires { host.0 < kernel.now.setup.hosts }
     ensures { result ≡ energy_last host.0 row.now

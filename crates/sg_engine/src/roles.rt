@@ -7,7 +7,7 @@ use sg_base::{ActorId, Ids, Memory};
 use sg_rows::Function;
 use std::alloc::Global;
 
-/// What an actor is to be, by what its row says.
+/// Returns what an actor is to be, by what its row says.
 pub fn role(alloc: Global, me: ActorId, function: &Function) -> Result<Role, Memory>
     ensures { IfOk result (λ role. role ≡ role_of me.0 function.now) }
 {

@@ -1,4 +1,4 @@
-//! The parts of a run: rounds, and passes where nobody is ready.
+//! The parts of a run: scheduling rounds, and time advances if no actor is ready.
 ghost use Rattle.std.specs.Prelude.{◌≡◌, ◌+◌, ◌≤◌, false};
 ghost use Rattle.sg_engine.specs.kept.Invariant.{CanPlay, GoesOn, LeadsTo};
 ghost use Rattle.sg_engine.specs.kept.Moments.{part_at, round_at};
@@ -16,7 +16,7 @@ use sg_route::Router;
 use std::sync::ledger::Ledger;
 use std::thread::Threads;
 
-// A round.
+// Makes a scheduling round.
 fn round<R: Threads + Sync, F: Files>(
     engine: &Engine<'_, '_, R>,
     router: &mut Router,
@@ -36,7 +36,7 @@ fn round<R: Threads + Sync, F: Files>(
     answer_calls(&engine.plan, router, sim, files)
 }
 
-/// A round, or a pass where nobody is ready. It takes no memory but for lines of the script.
+/// Makes a scheduling round, or a time advance if no actor is ready. It takes no memory except for lines of the script.
 pub fn round_or_pass<R: Threads + Sync, F: Files, L: Ledger>(
     engine: &Engine<'_, '_, R>,
     router: &mut Router,

@@ -1,4 +1,4 @@
-//! Actors take their seats, each in a context of the crew.
+//! Actors take their slots, each in a context of the pool.
 ghost use Rattle.std.specs.Prelude.{◌≡◌, ◌-◌, if◌then◌else◌, length, take, true, All, Some, IfOk, OnErr, OnOk};
 ghost use Rattle.std.specs.Option.{option_and_then};
 ghost use Rattle.sg_base.specs.Limits.{Extent, IsActorIn};
@@ -18,7 +18,7 @@ use sg_base::{ActorId, Answer, Call, Memory};
 use sg_rows::{ActorRow, Deployment, Function};
 use std::alloc::Global;
 
-// The next context of a crew, its last one, cast in the role of an actor. Without memory it is lost.
+// Takes the next context, the pool's last one, and binds it to the role of an actor. If memory runs out, it is lost.
 fn take_context(
     alloc: Global,
     crew: &mut Vec<Box<dyn Actor + Send>>,
@@ -39,7 +39,7 @@ fn take_context(
     Ok(actor)
 }
 
-// The actor of a row, where it starts.
+// Makes the actor of a row, if it starts.
 fn starter(
     alloc: Global,
     crew: &mut Vec<Box<dyn Actor + Send>>,
@@ -60,7 +60,7 @@ fn starter(
     }
 }
 
-// The seat of the actor of a row.
+// Makes the slot of the actor of a row.
 fn seat(
     alloc: Global,
     crew: &mut Vec<Box<dyn Actor + Send>>,
@@ -85,7 +85,7 @@ fn seat(
     })
 }
 
-/// There is a seat for each actor of a deployment. One that starts takes the next context of the crew, and is cast in
+/// Makes a slot for each actor of a deployment. One that starts takes the next context of the pool, which is bound to
 /// its role.
 pub fn seat_all(
     alloc: Global,
@@ -108,7 +108,7 @@ pub fn seat_all(
     Ok(seats)
 }
 
-// An actor that begins takes the next context of the crew, and its seat. Without memory the context is lost.
+// Gives an actor that begins the next context of the pool, and its slot. If memory runs out, the context is lost.
 fn take_seat(
     plan: &Plan<'_>,
     crew: &mut Vec<Box<dyn Actor + Send>>,
@@ -132,7 +132,7 @@ fn take_seat(
     Ok(())
 }
 
-/// The same, if the actor is given its beginning; else all stays as it is.
+/// Does the same if the actor is given its beginning; else all stays as it is.
 pub fn seat_if(
     plan: &Plan<'_>,
     crew: &mut Vec<Box<dyn Actor + Send>>,

@@ -15,7 +15,7 @@ pub struct Setup {
     pub platform: PlatformText,
     pub deployment: Deployment,
     pub router: Router,
-    /// Without one each Ask is refused.
+    /// Without one each fetch of a line is refused.
     pub script: bool,
     ghost deployed: { IsDeployedOn platform deployment },
     ghost roads: { router ≡ roads_of platform },
@@ -23,7 +23,7 @@ pub struct Setup {
 }
 
 impl Setup {
-    /// The setup of these, where the router has the routes of the platform.
+    /// Makes the setup of these, if the router has the routes of the platform.
     pub fn new(
         platform: PlatformText,
         deployment: Deployment,

@@ -7,7 +7,7 @@ pub enum Show {
     All,
     /// The lines of the end.
     Quiet,
-    /// The lines of the end; where all actors have ended, a line before them says how many there were, and how many
+    /// The lines of the end; if all actors have ended, a line before them says how many there were, and how many
     /// events.
     Summary,
 }

@@ -5,7 +5,7 @@ use sg_actor::{Actor, Seat};
 use sg_kernel::Kernel;
 use sg_script::Script;
 
-/// The seats of all actors, the contexts that are left, the kernel, the script's reader, the calls that aren't answered
+/// The slots of all actors, the remaining contexts, the kernel, the script's reader, the calls that aren't answered
 /// yet, and the lines that aren't written yet.
 #[derive(Drop)]
 pub struct Simulation<A = Box<dyn Actor + Send>> {

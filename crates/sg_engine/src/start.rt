@@ -15,8 +15,8 @@ use sg_kernel::Kernel;
 use sg_script::Script;
 use std::mem;
 
-/// The simulation of a plan, in which nothing has happened yet, with the whole crew: the actors that start have taken
-/// contexts from its end. Without memory the crew keeps those that aren't taken.
+/// Makes the simulation of a plan, in which nothing has happened yet, with the whole context pool: the actors that
+/// start have taken contexts from its end. If memory runs out, the pool keeps those that aren't taken.
 pub fn start(plan: &Plan<'_>, crew: &mut Vec<Box<dyn Actor + Send>>) -> Result<Simulation, Memory>
     requires { HasContexts (λ b. mind b) crew.old.items plan.now.deployment.now }
     ensures first { IfOk result (λ sim. (part : PartView) → part.stage ≢ Fresh →

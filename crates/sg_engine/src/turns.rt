@@ -1,4 +1,4 @@
-//! The turns of a round.
+//! The turns of a scheduling round.
 ghost use Rattle.std.specs.Prelude.{◌≡◌, ◌+◌, ◌<◌, ◌≤◌, ◌++◌, [], length, map, take, drop, All, vec_capacity};
 ghost use Rattle.std.specs.Option.{is_some};
 ghost use Rattle.sg_actor.specs.Seats.{after, CanTurn, KeepsLimits, seat_view, seat_views};
@@ -14,7 +14,7 @@ use sg_base::{ActorId, Answer, Call};
 use sg_kernel::Kernel;
 use std::thread::Threads;
 
-// Whether somebody sits there who has begun.
+// Returns whether a slot has an actor that has begun.
 fn has_mind<A: Actor>(seat: &Seat<A>) -> bool
     ensures { result ≡ is_some (seat_view A.mind seat.now).mind }
 {
@@ -24,7 +24,7 @@ fn has_mind<A: Actor>(seat: &Seat<A>) -> bool
     }
 }
 
-// Puts an answer into a seat, if there is one and the seat's actor has begun.
+// Puts an answer into a slot, if there is one and the slot's actor has begun.
 fn offer_one<A: Actor>(seat: &mut Seat<A>, answer: Option<Answer>)
     ensures { seat_view A.mind seat.new ≡ with_answer (seat_view A.mind seat.old) answer }
 {
@@ -39,7 +39,7 @@ fn offer_one<A: Actor>(seat: &mut Seat<A>, answer: Option<Answer>)
     }
 }
 
-// Puts the answers of the kernel into the seats of their actors. Only who is in its queue is asked.
+// Puts the answers of the kernel into the slots of their actors. Only the actors in its queue are asked.
 fn offer<A: Actor>(kernel: &Kernel, seats: &mut [Seat<A>])
     requires number { length seats.old ≡ length kernel.now.core.actors }
     requires limited { All (KeepsLimits (extent kernel.now.setup)) (seat_views A.mind seats.old) }
@@ -53,7 +53,7 @@ fn offer<A: Actor>(kernel: &Kernel, seats: &mut [Seat<A>])
     }
 }
 
-// The turns of those who sit from one place to another.
+// Makes the turns of the slots from one place to another.
 fn turn_some<R: Threads + Sync>(rt: &R, seats: &mut [Seat], from: usize, to: usize, workers: u32)
     requires workers { 0 < workers }
     requires range { (from ≤ to) × (to ≤ length seats.old) }
@@ -66,7 +66,7 @@ fn turn_some<R: Threads + Sync>(rt: &R, seats: &mut [Seat], from: usize, to: usi
     run_round(rt, some, workers);
 }
 
-// Where the run of neighbours ends that begins at this place of a queue.
+// Returns where the run of neighbours ends that begins at this place of a queue.
 fn end_of_run(queue: &[ActorId], from: usize) -> usize
     requires { from < length queue.now }
     ensures { (from < result) × (result ≤ length queue.now) }
@@ -79,7 +79,7 @@ fn end_of_run(queue: &[ActorId], from: usize) -> usize
     queue.len()
 }
 
-// How far one round of seats reaches that begins at this place of a queue.
+// Returns how far one run of slots reaches that begins at this place of a queue.
 fn end_of_turns(queue: &[ActorId], from: usize, workers: u32) -> usize
     requires { from < length queue.now }
     ensures { (from < result) × (result ≤ length queue.now) }
@@ -91,9 +91,9 @@ fn end_of_turns(queue: &[ActorId], from: usize, workers: u32) -> usize
     }
 }
 
-// The turns of all who are ready. One worker is lent each run of neighbours in the queue, one run after the other, so
-// that the seats between cost nothing; more are lent all seats from the first in the queue to the last, so that turns
-// can run side by side.
+// Makes the turns of all ready actors. One worker is lent each run of neighbours in the queue, one run after the other,
+// so that the slots between cost nothing; more workers are lent all slots from the first in the queue to the last, so
+// that turns can run side by side.
 fn turn_all<R: Threads + Sync>(rt: &R, kernel: &Kernel, seats: &mut [Seat], workers: u32)
     requires workers { 0 < workers }
     requires number { length seats.old ≡ length kernel.now.core.actors }
@@ -112,7 +112,7 @@ fn turn_all<R: Threads + Sync>(rt: &R, kernel: &Kernel, seats: &mut [Seat], work
     }
 }
 
-// Keeps a call, where there is one.
+// Keeps a call, if there is one.
 fn keep(calls: &mut Vec<ActorCall>, actor: ActorId, call: Option<Call>)
     requires room { length calls.old.items < vec_capacity calls.old }
     ensures items { calls.new.items ≡ calls.old.items ++ with_call actor.0 call [] }
@@ -124,7 +124,7 @@ fn keep(calls: &mut Vec<ActorCall>, actor: ActorId, call: Option<Call>)
     }
 }
 
-// The call of a seat whose actor has taken its turn, and which rests then.
+// Takes the call out of a slot whose actor has taken its turn, and which rests then.
 fn collect_one<A: Actor>(seat: &mut Seat<A>) -> Option<Call>
     ensures seat { seat_view A.mind seat.new ≡ at_rest (seat_view A.mind seat.old) }
     ensures call { result ≡ call_in (seat_view A.mind seat.old) }
@@ -136,7 +136,7 @@ fn collect_one<A: Actor>(seat: &mut Seat<A>) -> Option<Call>
     Some(seat.outbox)
 }
 
-// The calls that were made take the place of those before, and their actors rest.
+// Collects the calls that were made, in the place of those before; their actors rest.
 fn collect<A: Actor>(kernel: &Kernel, seats: &mut [Seat<A>], calls: &mut Vec<ActorCall>)
     requires number { length seats.old ≡ length kernel.now.core.actors }
     requires queued { AreQueued (seat_views A.mind seats.old) kernel.now.core.actors }
@@ -153,9 +153,9 @@ fn collect<A: Actor>(kernel: &Kernel, seats: &mut [Seat<A>], calls: &mut Vec<Act
     }
 }
 
-/// Each ready actor takes its turn on the answer that it has. Their calls take the place of those before, in rising
-/// id. The answers lie in the seats first, then turns are taken there, and then the calls are collected. It costs the
-/// actors in the kernel's queue, and with one worker not the others.
+/// Makes each ready actor take its turn on the answer that it has. Their calls replace those before, by rising id. The
+/// answers are put into the slots first, then turns are taken there, and then the calls are collected. The cost grows
+/// with the actors in the kernel's queue, and with one worker not with the others.
 pub fn take_turns<R: Threads + Sync>(
     rt: &R,
     kernel: &Kernel,

@@ -26,7 +26,7 @@ use std::mem;
 use std::sync::ledger::Ledger;
 use std::thread::Threads;
 
-// Simulates to the end of the run. All trace lines are written where the run wasn't cut off.
+// Simulates to the end of the run. All trace lines are written if the run wasn't cut off.
 fn simulate<R: Threads + Sync, F: Files, O: Sinks, L: Ledger>(
     engine: &Engine<'_, '_, R>,
     router: &mut Router,
@@ -120,7 +120,7 @@ fn run_from<R: Threads + Sync, F: Files, O: Sinks, L: Ledger>(
     }
 }
 
-// Runs the actors of a plan to the end of the run. They take contexts from the end of the crew.
+// Runs the actors of a plan to the end of the run. They take contexts from the end of the pool.
 fn run_plan<R: Threads + Sync, F: Files, O: Sinks, L: Ledger>(
     engine: &Engine<'_, '_, R>,
     router: &mut Router,
@@ -157,17 +157,18 @@ fn run_plan<R: Threads + Sync, F: Files, O: Sinks, L: Ledger>(
 
 /// Runs the actors of a setup to the end of the run, and writes its lines.
 ///
-/// Each actor that starts takes a context of the crew, the first one the first, and each that is created the next; the
-/// crew has those that aren't taken afterwards. Each round takes its turns by up to so many workers at once; how many
-/// can't be seen in anything that is written. The script is read while the run goes on, and only as far as an actor asks
-/// for its lines. `budget` is the most events that there may be, and `steps` counts the looks at uses of hosts and
-/// links. What the setup stands for stays as it was.
+/// Each actor that starts takes a context of the pool, the first one the first, and each that is created the next;
+/// those that aren't taken stay in the pool. Each scheduling round takes its turns by up to so many workers at once;
+/// how many can't be seen in the output. The script is read during the run, and only as far as an actor fetches its
+/// lines. `budget` is the most events that there may be, and `steps` counts the visits to uses of hosts and links. What
+/// the setup stands for stays as it was.
 ///
-/// What is written, the end, and how many contexts are taken, are those of the definition, for what the script's part
-/// gives, and the looks are at most as many as its passes may take. Of the script at most 4,095 bytes more are taken than
-/// the Asks of the run need. The lines of each round and each pass are written behind it: where a write fails, no more of
-/// the script was taken than the rounds and passes up to that write need, and 4,095 bytes. Memory is taken at the
-/// beginning, before each round, for actors that are created and for lines of the script, and none once the run has ended.
+/// What is written, the end, and how many contexts are taken are those of the definition, for what the script's part
+/// gives, and there are at most as many visits as its time advances may take. Of the script at most 4,095 bytes more
+/// are taken than the fetches of the run need. The lines of each scheduling round and each time advance are written
+/// after it: if a write fails, no more of the script was taken than these need up to that write, and 4,095 bytes.
+/// Memory is taken at the beginning, before each scheduling round, for actors that are created and for lines of the
+/// script, and none once the run has ended.
 pub fn run<R: Threads + Sync, F: Files, O: Sinks, L: Ledger>(
     rt: &R,
     alloc: Global,
@@ -208,7 +209,7 @@ pub fn run<R: Threads + Sync, F: Files, O: Sinks, L: Ledger>(
         },
     };
     let engine = Engine { rt, plan };
-    // The next context stands last while the run goes on.
+    // The next context is the last one during the run.
     crew.reverse();
     let how = run_plan(&engine, &mut setup.router, crew, files, out, steps);
     crew.reverse();

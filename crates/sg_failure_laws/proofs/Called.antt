@@ -1,7 +1,8 @@
--- Who is told a failure by a call.
+-- Whose calls fail by a call.
 use Rattle.std.proofs.Common.{◌≡◌, ℕ, ◌==◌, ◌||◌, Bool, true, false, cond, Option, None, Some, Result, Ok, Err, List, [], ◌∷◌, ◌++◌, refl, sym, ap, subst}
 use Rattle.std.specs.List.{All}
 use Rattle.std.proofs.lemmas.List.Elements.{All-nil, All-cons, All-append}
+use Rattle.sg_base.specs.Turn.{actor_of}
 use Rattle.sg_base.specs.declared.awaits.Await.{Await}
 use Rattle.sg_base.specs.declared.awaits.Party.{Party}
 use Rattle.sg_base.specs.declared.awaits.Party.TheVariants.{Sender, Receiver}
@@ -29,10 +30,10 @@ use Rattle.sg_owners.specs.declared.owners.Whose.{Whose}
 use Rattle.sg_owners.specs.declared.owners.Whose.TheVariants.{Over, Alone, Posted, Pair}
 use Rattle.sg_calls.specs.declared.stop.Stop.{Stop}
 use Rattle.sg_calls.specs.declared.stop.Stop.TheVariants.{Budget}
-use Rattle.sg_calls.specs.Answers.{answers_by, answers_side, for_receiver, is_on, side_of, with_over}
-use Rattle.sg_calls.specs.Calls.{actor_of, answered_call, executes}
+use Rattle.sg_calls.specs.Answers.{answers_by, answers_side, for_receiver, awaits_side, side_of, with_over}
+use Rattle.sg_calls.specs.Calls.{answered_call, executes}
 use Rattle.sg_calls.specs.Kills.{awaited, kill_stretches, withdrawn}
-use Rattle.sg_calls.specs.Lives.{joins_by, leaves}
+use Rattle.sg_calls.specs.Lives.{joins_by, with_actor_ended}
 use Rattle.sg_calls.specs.Locks.{all_wake, caller_first, caller_gets, caller_last, wakes, wakes_from, with_objects}
 use Rattle.sg_calls.specs.Meetings.{answer_of_over, both_fail, comer_fails, comes, comes_by, fails_with, joined, joins_over, joins_with, other_fails, posts_at, receiver_of, receives_by, route_between, sender_of, sends_by, takes_part, takes_part_failed, waits_by, waits_until}
 use Rattle.sg_calls.specs.Steps.{Step, stops, counted, follows, and_then, each, all_of, at_once}
@@ -150,7 +151,7 @@ call_well roads setup core actor (call.Kill n) e spared =
 call_well roads setup core actor (call.Suspend n) e spared = just GoesWell _ refl
 call_well roads setup core actor (call.Resume n) e spared = just GoesWell _ refl
 call_well roads setup core actor call.Yield e spared = just GoesWell _ refl
-call_well roads setup core actor call.Exit e spared = each_all GoesWell wakes wakes_well (joiners actor 1 (leaves actor core).actors) (leaves actor (counted core))
+call_well roads setup core actor call.Exit e spared = each_all GoesWell wakes wakes_well (joiners actor 1 (with_actor_ended actor core).actors) (with_actor_ended actor (counted core))
 
 -- ---- what fails
 or_true : (b : Bool) → (b || true) ≡ true
@@ -162,14 +163,14 @@ side_told serial party given core = by (blocking_in (state_of core given.actor.0
   where
     by : (found : Option Blocking) → All TellsIt (answers_by how.Failed serial party given found core).made
     by None = All-nil TellsIt
-    by (Some blocking) = cond_all TellsIt (is_on serial party blocking.on) _ _ (just TellsIt _ (or_true (only_posts blocking.what))) (All-nil TellsIt)
+    by (Some blocking) = cond_all TellsIt (awaits_side serial party blocking.on) _ _ (just TellsIt _ (or_true (only_posts blocking.what))) (All-nil TellsIt)
 
 other_told : (comer : Comer) (serial : ℕ) (other : Side) (core : Core) → All TellsIt (other_fails comer serial other core).made
 other_told comer serial other core =
     cond_all TellsIt comer.sends (answers_side how.Failed serial Receiver (for_receiver comer.side other) core) (answers_side how.Failed serial Sender other core)
     (side_told serial Receiver (for_receiver comer.side other) core) (side_told serial Sender other core)
 
--- a side that doesn't wait comes by a call that only posts
+-- an endpoint that doesn't wait arrives by a call that only posts
 abbrev IsFit : Comer → Type 0
 IsFit comer = comer.waits ≡ false → only_posts comer.what ≡ true
 
@@ -236,7 +237,7 @@ call_told roads setup core actor (call.Resume n) e = absurd (cc e)
 call_told roads setup core actor call.Yield e = absurd (cc e)
 call_told roads setup core actor call.Exit e = absurd (cc e)
 
--- ---- the caller is told
+-- ---- the caller's answer
 first_told : (actor : ℕ) (what : Call) (since bytes date : ℕ) (after : List Record) → TellsCaller actor what (record_of actor what since bytes answer.Failed date ∷ after)
 first_told actor what since bytes date after = record { before = []; own = record_of actor what since bytes answer.Failed date; after = after; among = refl; caller = refl; call = refl; fails = refl }
 

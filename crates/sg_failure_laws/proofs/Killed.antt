@@ -1,4 +1,4 @@
--- Who is told what by a kill.
+-- Who is answered what by a kill.
 use Rattle.std.proofs.Common.{◌≡◌, ◌≢◌, ℕ, zero, suc, ◌+◌, ◌-◌, ◌<◌, ◌==◌, Bool, true, false, cond, inl, inr, Option, None, Some, List, [], ◌∷◌, length, set, get_or, refl, sym, ap, subst, ◌∙◌, arith}
 use Rattle.std.specs.List.{All, Contains}
 use Rattle.std.proofs.lemmas.List.Elements.{All-nil, All-cons, All-append, All-head, All-tail, All-contains_itself}
@@ -21,7 +21,7 @@ use Rattle.sg_owners.specs.declared.owners.How.TheVariants as how
 use Rattle.sg_owners.specs.declared.owners.Whose.{Whose}
 use Rattle.sg_owners.specs.declared.owners.Whose.TheVariants.{Over, Alone, Posted, Pair}
 use Rattle.sg_calls.specs.declared.stop.Stop.{Stop}
-use Rattle.sg_calls.specs.Answers.{answer_to, answers, answers_by, answers_side, bare_side, finishes, for_receiver, is_on, tells_bytes, with_over}
+use Rattle.sg_calls.specs.Answers.{answer_to, answers, answers_by, answers_side, bare_side, finishes, for_receiver, awaits_side, tells_bytes, with_over}
 use Rattle.sg_calls.specs.Kills.{awaited, gives_up, gives_up_by, kill_done, kill_stretches, kills, withdrawn}
 use Rattle.sg_calls.specs.Locks.{joiners_wake, wakes, wakes_from}
 use Rattle.sg_calls.specs.Steps.{Step, goes_on, counted, follows, and_then, each, all_of, at_once, readied, replied}
@@ -32,7 +32,8 @@ use Rattle.sg_failure_laws.specs.Laws.{TellsJoiner, TellsKill, TellsKiller, Tell
 use Rattle.sg_failure_laws.proofs.Passed.{Awaits, all_so, awaits, just, put_there, ready_after, set_there}
 
 -- ---- what stays so in a kill
--- who is blocked was so before, and isn't the killed one; what isn't over wasn't so before, and what is somebody's alone was so before
+-- an actor that is blocked was so before, and isn't the killed one; what hasn't ended hadn't before, and what is an
+-- actor's alone was so before
 pub record Since (target : ActorId) (before now : Core) : Type 0 where
   pub blocked : (actor since : ℕ) (what : Call) (on : Option Await) → state_of now actor ≡ Blocked what since on → (state_of before actor ≡ Blocked what since on) × (actor ≢ target.0)
   pub goes : (serial : ℕ) → is_over (whose_at now serial) ≡ false → is_over (whose_at before serial) ≡ false
@@ -89,7 +90,7 @@ more_goes P target before first rest core one more = both P target before (first
 so_goes : (P Q : Record → Type 0) (target : ActorId) (before : Core) (step : Step) → ((told : Record) → P told → Q told) → Goes P target before step → Goes Q target before step
 so_goes P Q target before step so s = record { since = s.since; told = all_so P Q so step.made s.told }
 
--- ---- the other sides of what the killed one awaited
+-- ---- the other endpoints of what the killed one awaited
 other_tells : (target : ActorId) (before : Core) (serial : ℕ) (side : Party) (given : Side) (core : Core) → Contains (awaited target before) serial → is_over (whose_at before serial) ≡ false → Since target before core → Goes (TellsOther target before) target before (answers_side how.Failed serial side given core)
 other_tells target before serial side given core within live s = by (blocking_in (state_of core given.actor.0)) refl
   where
@@ -115,7 +116,7 @@ other_tells target before serial side given core within live s = by (blocking_in
     by : (found : Option Blocking) → blocking_in (state_of core given.actor.0) ≡ found → Goes (TellsOther target before) target before (answers_by how.Failed serial side given found core)
     by None e = stays (TellsOther target before) target before core s
     by (Some blocking) e =
-        either (TellsOther target before) target before (is_on serial side blocking.on) (reply blocking) (goes_on core [])
+        either (TellsOther target before) target before (awaits_side serial side blocking.on) (reply blocking) (goes_on core [])
         (λ there. replies blocking e (awaits serial side blocking.on there)) (λ there. stays (TellsOther target before) target before core s)
 
 pub gives_up_tells : (target : ActorId) (before : Core) (serial : ℕ) (core : Core) → Contains (awaited target before) serial → Since target before core → Goes (TellsOther target before) target before (gives_up serial core)
@@ -209,7 +210,7 @@ joiners_all P target id (a ∷ rest) d one = by (joins target a.state) refl (joi
     by true e more = All-cons P (record { 0 = id }) (joiners target (id + 1) rest) (here e) more
     by false e more = more
 
--- who joins it now did so before
+-- an actor that joins it now did so before
 joined_before : (target : ActorId) (before core : Core) (actor : ℕ) → Since target before core → joins target.0 (state_of core actor) ≡ true → joins target.0 (state_of before actor) ≡ true
 joined_before target before core actor s is = by (state_of core actor) refl is
   where

@@ -3,3 +3,7 @@ pub mod Killed
 pub mod Reached
 pub mod Called
 pub mod Others
+pub mod Cut
+pub mod Given
+pub mod Between
+pub mod Answers

@@ -1,4 +1,4 @@
--- No other call is told a failure.
+-- No other call is answered as failed.
 use Rattle.std.proofs.Common.{◌≡◌, ℕ, zero, suc, ◌+◌, ◌-◌, ◌*◌, ◌<◌, ◌≤◌, ◌==◌, ◌&&◌, nat_lt, Bool, true, false, cond, inl, inr, Option, None, Some, option_map, option_to_list, Result, Ok, Err, List, [], ◌∷◌, ◌++◌, length, map, replicate, set, get_or, refl, sym, ap, subst, ◌∙◌, arith}
 use Rattle.std.proofs.lemmas.Bool.{cases_eq, cases_lt}
 use Rattle.std.proofs.lemmas.List.{get_or-set_same, get_or-set_other, get_or_past, get_or_append_left, get_or-append-add, get_or-replicate, length-set, length-append, length-map, length-replicate}
@@ -21,7 +21,8 @@ use Rattle.sg_lives.specs.declared.kinds.PhaseKind.TheVariants as phase
 use Rattle.sg_activity.specs.Links.{Capacities, Switches, is_off}
 use Rattle.sg_lives.specs.Slots.{passes, serials}
 use Rattle.sg_activity.specs.Task.{Place, Task, exec_of, is_cut, is_hit, next_phase, nowhere, on_host, over, phase_after, rekinded, task_at, timer_of, uses_off}
-use Rattle.sg_activity.specs.Underway.{Underway, due_in, gone_on, held, hits, is_computing, is_kept, passed, turned}
+use Rattle.sg_activity.specs.Underway.{Underway, due_in, gone_on, held, hits, is_computing, is_kept, passed, with_phase_kind}
+use Rattle.sg_base.specs.Turn.{actor_of}
 use Rattle.sg_mailbox.specs.declared.sides.Post.{Post}
 use Rattle.sg_mailbox.specs.declared.sides.Side.{Side}
 use Rattle.sg_mailbox.specs.Posts.{is_other, partner}
@@ -46,10 +47,10 @@ use Rattle.sg_owners.specs.declared.owners.Whose.{Whose}
 use Rattle.sg_owners.specs.declared.owners.Whose.TheVariants.{Over, Alone, Posted, Pair}
 use Rattle.sg_calls.specs.declared.stop.Stop.{Stop}
 use Rattle.sg_calls.specs.declared.stop.Stop.TheVariants.{Budget}
-use Rattle.sg_calls.specs.Answers.{answer_to, answers, answers_by, answers_side, bare_side, finishes, for_receiver, is_on, party_eq, side_of, tells_bytes, with_over}
-use Rattle.sg_calls.specs.Calls.{actor_of, alone, answer_of_ask, answered, answered_call, blocks_on, computes, executed, executes, told, with_execution, with_sleep}
+use Rattle.sg_calls.specs.Answers.{answer_to, answers, answers_by, answers_side, bare_side, finishes, for_receiver, awaits_side, party_eq, side_of, tells_bytes, with_over}
+use Rattle.sg_calls.specs.Calls.{await_alone, answer_of_ask, answered, answered_call, blocks_on, computes, executed, executes, told, with_execution, with_sleep}
 use Rattle.sg_calls.specs.Kills.{awaited, blocked_on, gives_up, gives_up_by, kill_done, kill_stretches, kills, withdrawn}
-use Rattle.sg_calls.specs.Lives.{begins, creates, created, exits, joins_by, joins_one, leaves}
+use Rattle.sg_calls.specs.Lives.{begins, answers_create, created, exits, joins_by, joins_one, with_actor_ended}
 use Rattle.sg_calls.specs.Locks.{all_wake, caller_first, caller_gets, caller_last, joiners_wake, wakes, wakes_from, with_objects}
 use Rattle.sg_calls.specs.Meetings.{answer_of_over, asks_for, await, both_fail, comer_fails, comes, comes_by, fails_with, joined, joins_on, joins_over, joins_with, other_fails, posted, posts_at, receiver_of, receives_by, route_between, sender_of, sends_by, takes_part, takes_part_failed, waits_by, waits_until, way_with}
 use Rattle.sg_kernel.specs.Passes.{all_fail, changes, core_later, ends, ends_by, ends_in, ends_one, enters_one, entry_stretches, fails, fails_one, next_span, pass_at, settled, stretches}
@@ -136,7 +137,7 @@ suits_any tasks whose on call.Yield e = e
 suits_any tasks whose on call.Exit e = e
 
 -- ---- what activities become
--- an activity that was made, and is nobody's alone
+-- an activity that was made, and is no actor's alone
 record IsShared (whose : List Whose) (serial : ℕ) : Type 0 where
   made : serial - 1 < length whose
   shared : (owner : ActorId) → get_or whose (serial - 1) (Over how.Done) ≡ Alone owner → ⊥
@@ -167,7 +168,7 @@ fit_lasts actors tasks later whose after requests lasts fit = record {
   asked = λ actor. all_own whose after actor (lasts.owns actor) (queue_at requests actor) (fit.asked actor);
 }
 
--- one becomes another's, and is nobody's alone
+-- one becomes another's, and is no actor's alone
 lasts_set : (tasks : List (Option Task)) (whose : List Whose) (place : ℕ) (slot : Option Task) (w : Whose) → length whose ≡ length tasks → ((owner : ActorId) → w ≡ Alone owner → ⊥) → Lasts tasks whose (set tasks place slot) (set whose place w)
 lasts_set tasks whose place slot w even shared = record {
   numbered = length-set whose place w ∙ even ∙ sym (length-set tasks place slot);
@@ -237,7 +238,7 @@ lasts_map change like tasks whose even = record {
 }
 
 -- ---- what actors do
--- who is blocked on an activity was so before
+-- an actor that is blocked on an activity was so before
 fit_fewer : (old new : List Actor) (tasks : List (Option Task)) (whose : List Whose) (requests : List (List Await)) → ((actor since : ℕ) (what : Call) (on : Await) → state_at new actor ≡ Blocked what since (Some on) → state_at old actor ≡ Blocked what since (Some on)) → AreFit old tasks whose requests → AreFit new tasks whose requests
 fit_fewer old new tasks whose requests so fit = record {
   numbered = fit.numbered;
@@ -345,34 +346,34 @@ failed_is (end.Done ns) e = absurd (cc e)
 failed_is end.Refused e = absurd (cc e)
 failed_is end.Failed e = refl
 
-few_side : (manner : How) (serial : ℕ) (side : Party) (given : Side) (core : Core) → IsFit core → ((since : ℕ) (what : Call) (on : Await) → state_of core given.actor.0 ≡ Blocked what since (Some on) → is_on serial side (Some on) ≡ true → manner ≡ how.Failed → may_fail what ≡ true) → TellsFew (answers_side manner serial side given core)
+few_side : (manner : How) (serial : ℕ) (side : Party) (given : Side) (core : Core) → IsFit core → ((since : ℕ) (what : Call) (on : Await) → state_of core given.actor.0 ≡ Blocked what since (Some on) → awaits_side serial side (Some on) ≡ true → manner ≡ how.Failed → may_fail what ≡ true) → TellsFew (answers_side manner serial side given core)
 few_side manner serial side given core fit may = by (blocking_in (state_of core given.actor.0)) refl
   where
     reply : (blocking : Blocking) → Step
     reply blocking = replied given.actor.0 blocking.what blocking.since (cond (tells_bytes blocking.what) given.bytes 0) (answer_to manner blocking.what given.msg) core
 
-    on : (blocking : Blocking) → blocking_in (state_of core given.actor.0) ≡ Some blocking → (b : Bool) → is_on serial side blocking.on ≡ b → TellsFew (cond b (reply blocking) (goes_on core []))
+    on : (blocking : Blocking) → blocking_in (state_of core given.actor.0) ≡ Some blocking → (b : Bool) → awaits_side serial side blocking.on ≡ b → TellsFew (cond b (reply blocking) (goes_on core []))
     on blocking e true there =
         let at : Awaits serial blocking.on = awaits serial side blocking.on there in
         let state = blocking_is (state_of core given.actor.0) blocking e ∙ ap (λ o. Blocked blocking.what blocking.since o) at.is in
         few_replied core given.actor.0 blocking.since _ blocking.what _ fit
-        (λ failed. may blocking.since blocking.what at.side state (ap (is_on serial side) (sym at.is) ∙ there)
+        (λ failed. may blocking.since blocking.what at.side state (ap (awaits_side serial side) (sym at.is) ∙ there)
         (sym (answer_tells manner blocking.what given.msg (core.under.date - blocking.since)) ∙ failed_is _ failed))
     on blocking e false there = few_still core None fit
 
     by : (found : Option Blocking) → blocking_in (state_of core given.actor.0) ≡ found → TellsFew (answers_by manner serial side given found core)
     by None e = few_still core None fit
-    by (Some blocking) e = on blocking e (is_on serial side blocking.on) refl
+    by (Some blocking) e = on blocking e (awaits_side serial side blocking.on) refl
 
 both_true : (a b : Bool) → (a && b) ≡ true → b ≡ true
 both_true true b e = e
 both_true false b e = absurd (cc e)
 
--- who waits for a side of a communication doesn't sleep
+-- whoever waits for an endpoint of a communication doesn't sleep
 few_party : (manner : How) (serial : ℕ) (side : Party) (given : Side) (core : Core) → party_eq party.Alone side ≡ false → IsFit core → TellsFew (answers_side manner serial side given core)
 few_party manner serial side given core apart fit = few_side manner serial side given core fit by
   where
-    by : (since : ℕ) (what : Call) (on : Await) → state_of core given.actor.0 ≡ Blocked what since (Some on) → is_on serial side (Some on) ≡ true → manner ≡ how.Failed → may_fail what ≡ true
+    by : (since : ℕ) (what : Call) (on : Await) → state_of core given.actor.0 ≡ Blocked what since (Some on) → awaits_side serial side (Some on) ≡ true → manner ≡ how.Failed → may_fail what ≡ true
     by since what on e there failed =
         suits_awake core.under.tasks core.whose on
         (λ s. absurd (cc (sym apart ∙ ap (λ p. party_eq p side) (sym s.alone) ∙ both_true (on.serial.0 == serial) (party_eq on.party side) there)))
@@ -382,9 +383,9 @@ fit_over : (manner : How) (serial : ℕ) (core : Core) → IsFit core → IsFit 
 fit_over manner serial core fit =
     fit_lasts core.actors core.under.tasks _ core.whose _ core.requests (lasts_set core.under.tasks core.whose (serial - 1) None (Over manner) fit.numbered (λ owner e. absurd (cc e))) fit
 
--- what somebody waits for alone by a call that may fail, where it fails
+-- what an actor waits for alone by a call that may fail, if it fails
 abbrev IsLone : How → ℕ → Core → Type 0
-IsLone manner serial core = (owner : ActorId) → whose_at core serial ≡ Alone owner → (since : ℕ) (what : Call) (on : Await) → state_of core owner.0 ≡ Blocked what since (Some on) → is_on serial party.Alone (Some on) ≡ true → manner ≡ how.Failed → may_fail what ≡ true
+IsLone manner serial core = (owner : ActorId) → whose_at core serial ≡ Alone owner → (since : ℕ) (what : Call) (on : Await) → state_of core owner.0 ≡ Blocked what since (Some on) → awaits_side serial party.Alone (Some on) ≡ true → manner ≡ how.Failed → may_fail what ≡ true
 
 lone_used : (manner : How) (serial : ℕ) (core : Core) → (manner ≡ how.Failed → is_nowhere (task_at core.under.tasks serial) ≡ false) → IsFit core → IsLone manner serial core
 lone_used manner serial core used fit owner e since what on state there failed =
@@ -469,7 +470,7 @@ few_other comer serial other core fit =
     few_cond comer.sends (answers_side how.Failed serial party.Receiver (for_receiver comer.side other) core) (answers_side how.Failed serial party.Sender other core)
     (few_party how.Failed serial party.Receiver (for_receiver comer.side other) core refl fit) (few_party how.Failed serial party.Sender other core refl fit)
 
--- whose activities are stays, as one side is answered
+-- the waiters of activities stay as one endpoint is answered
 side_owners : (manner : How) (serial : ℕ) (side : Party) (given : Side) (core : Core) → (answers_side manner serial side given core).core.whose ≡ core.whose
 side_owners manner serial side given core = by (blocking_in (state_of core given.actor.0))
   where
@@ -479,7 +480,7 @@ side_owners manner serial side given core = by (blocking_in (state_of core given
 
     by : (found : Option Blocking) → (answers_by manner serial side given found core).core.whose ≡ core.whose
     by None = refl
-    by (Some blocking) = cases (is_on serial side blocking.on) _ _ refl refl
+    by (Some blocking) = cases (awaits_side serial side blocking.on) _ _ refl refl
 
 other_owners : (comer : Comer) (serial : ℕ) (other : Side) (core : Core) → (other_fails comer serial other core).core.whose ≡ core.whose
 other_owners comer serial other core = by comer.sends
@@ -550,7 +551,7 @@ few_waits actor core (Some on) e fit = until (answer_of_over (whose_at core on.s
     until None = few_still _ None (fit_blocked rest actor call.Wait on refl (oldest_own (IsOwn core.whose actor) (queue_at core.requests actor) on e (fit.asked actor)) fit_rest)
 
 -- a new activity is the caller's alone, which is blocked on it
-fit_begins : (slot : Task) (actor : ℕ) (what : Call) (core : Core) → Suits (core.under.tasks ++ Some slot ∷ []) (core.whose ++ Alone (actor_of actor) ∷ []) what (alone (length core.under.tasks + 1)) → IsFit core → IsFit (blocks_on slot actor what core)
+fit_begins : (slot : Task) (actor : ℕ) (what : Call) (core : Core) → Suits (core.under.tasks ++ Some slot ∷ []) (core.whose ++ Alone (actor_of actor) ∷ []) what (await_alone (length core.under.tasks + 1)) → IsFit core → IsFit (blocks_on slot actor what core)
 fit_begins slot actor what core suits fit =
     fit_blocked_in core.actors (core.under.tasks ++ Some slot ∷ []) after core.requests actor core.under.date what on suits own
     (fit_lasts core.actors core.under.tasks _ core.whose _ core.requests (lasts_push core.under.tasks core.whose (Some slot) (Alone (actor_of actor)) fit.numbered) fit)
@@ -559,7 +560,7 @@ fit_begins slot actor what core suits fit =
     after = core.whose ++ Alone (actor_of actor) ∷ []
 
     on : Await
-    on = alone (length core.under.tasks + 1)
+    on = await_alone (length core.under.tasks + 1)
 
     place : length core.under.tasks + 1 - 1 ≡ length core.whose + 0
     place = omega (arith, fit.numbered)
@@ -576,8 +577,8 @@ fit_begins slot actor what core suits fit =
       own = λ owner e. by owner (sym last ∙ e);
     }
 
--- ---- executions that are held
-fit_turned : (kind : PhaseKind) (serial : ℕ) (core : Core) → IsFit core → IsFit (record core { under = turned kind serial core.under })
+-- ---- executions that are suspended
+fit_turned : (kind : PhaseKind) (serial : ℕ) (core : Core) → IsFit core → IsFit (record core { under = with_phase_kind kind serial core.under })
 fit_turned kind serial core fit =
     fit_lasts core.actors core.under.tasks _ core.whose core.whose core.requests
     (lasts_next core.under.tasks core.whose (serial - 1) _ fit.numbered (nowhere_mapped (rekinded kind) (λ task. refl) (task_at core.under.tasks serial))) fit
@@ -639,7 +640,7 @@ few_sleeps actor ns core fit = few_still (with_sleep actor ns core) None (fit_be
     place : length core.under.tasks + 1 - 1 ≡ length core.under.tasks + 0
     place = omega arith
 
-    sleep : IsSleep later after (alone (length core.under.tasks + 1))
+    sleep : IsSleep later after (await_alone (length core.under.tasks + 1))
     sleep = record {
       alone = refl;
       made = omega (arith, fit.numbered, length-append core.whose (Alone (actor_of actor) ∷ []));
@@ -654,7 +655,7 @@ few_joined : (ended : Bool) (actor : ℕ) (target : ActorId) (core : Core) → I
 few_joined true actor target core fit = few_replied core actor core.under.date 0 (call.Join target) answer.Done fit (λ e. absurd (cc e))
 few_joined false actor target core fit = few_still (blocked_by actor (call.Join target) None core) None (fit_put core.actors core.under.tasks core.whose core.requests actor (Blocked (call.Join target) core.under.date None) (λ since other on e. absurd (cc e)) fit)
 
-few_creates : (given : Bool) (actor : ℕ) (target : ActorId) (core : Core) → IsFit core → TellsFew (creates given actor target core)
+few_creates : (given : Bool) (actor : ℕ) (target : ActorId) (core : Core) → IsFit core → TellsFew (answers_create given actor target core)
 few_creates true actor target core fit = few_replied (begins target core) actor core.under.date 0 (call.Create target) answer.Done (fit_ready core target.0 answer.Start fit) (λ e. absurd (cc e))
 few_creates false actor target core fit = few_replied core actor core.under.date 0 (call.Create target) answer.Refused fit (λ e. absurd (cc e))
 
@@ -678,7 +679,7 @@ unfolding rising_numbers
 rising_all P [] all = All-nil P
 rising_all P (n ∷ more) all = entered_all P n (rising_numbers more) (All-head P n more all) (rising_all P more (All-tail P n more all))
 
--- what is somebody's alone and the target awaits is the target's own
+-- what is an actor's alone and the target awaits is the target's own
 abbrev IsOwnAt : ActorId → Core → ℕ → Type 0
 IsOwnAt target core serial = (owner : ActorId) → whose_at core serial ≡ Alone owner → owner.0 - 1 ≡ target.0 - 1
 
@@ -795,7 +796,7 @@ few_call roads setup core actor (call.Kill n) fit = few_kills actor n (counted c
 few_call roads setup core actor (call.Suspend n) fit = few_replied (suspended_to true n (counted core)) actor _ 0 (call.Suspend n) answer.Done (fit_suspended_to true n (counted core) fit) (λ e. absurd (cc e))
 few_call roads setup core actor (call.Resume n) fit = few_replied (suspended_to false n (counted core)) actor _ 0 (call.Resume n) answer.Done (fit_suspended_to false n (counted core) fit) (λ e. absurd (cc e))
 few_call roads setup core actor call.Exit fit =
-    few_joiners actor (leaves actor (counted core)) (fit_put core.actors core.under.tasks core.whose core.requests actor Ended (λ since what on e. absurd (cc e)) fit)
+    few_joiners actor (with_actor_ended actor (counted core)) (fit_put core.actors core.under.tasks core.whose core.requests actor Ended (λ since what on e. absurd (cc e)) fit)
 
 few_answered : (roads : Roads) (setup : Setup) (core : Core) (actor : ℕ) (what : Call) → IsFit core → TellsFew (answered roads setup core actor what)
 few_answered roads setup core actor what fit = few_cond (core.events == setup.budget) (stops core [] Budget) (answered_call roads setup core actor what) (few_still core (Some Budget) fit) (few_call roads setup core actor what fit)
@@ -806,7 +807,7 @@ few_told setup core actor action fit =
     (few_still _ None (fit_ready (counted core) actor (answer_of_ask action) fit))
 
 -- ---- failures
--- the first that passes a test does so where it stands
+-- the first that meets a condition meets it at its place
 pub record IsThere {X : Type 0} (test : X → Bool) (n serial : ℕ) (xs : List (Option X)) : Type 0 where
   pub from : n ≤ serial
   pub there : passes test (get_or xs (serial - n) None) ≡ true
@@ -886,7 +887,7 @@ few_ends setup serial core fit = by (task_at core.under.tasks serial) refl
     by None at = few_still core None fit
     by (Some task) at = few_cond (core.events == setup.budget) (stops core [] Budget) (ends_one serial core) (few_still core (Some Budget) fit) (one task at)
 
--- ---- a pass
+-- ---- a time advance
 few_pass : (setup : Setup) (core : Core) (span : Option ℕ) → IsFit core → TellsFew (pass_at setup core span)
 few_pass setup core None fit = few_still core (Some _) fit
 few_pass setup core (Some span) fit =
@@ -896,14 +897,14 @@ few_pass setup core (Some span) fit =
     (fit_lasts core.actors core.under.tasks _ core.whose core.whose core.requests (lasts_map (passed core.under span) (λ task. refl) core.under.tasks core.whose fit.numbered) fit))
     (few_each (ends setup) (few_ends setup) (due_in span core.under)))
 
--- nobody is blocked at first
+-- no actor is blocked at first
 pub none_blocked : (starts : List Bool) (i since : ℕ) (what : Call) (on : Await) → (get_or (map first_actor starts) i (not_suspended Ended)).state ≡ Blocked what since (Some on) → ⊥
 none_blocked [] i since what on e = absurd (cc e)
 none_blocked (true ∷ starts) zero since what on e = absurd (cc e)
 none_blocked (false ∷ starts) zero since what on e = absurd (cc e)
 none_blocked (b ∷ starts) (suc i) since what on e = none_blocked starts i since what on e
 
--- nobody has asked for anything
+-- no actor has asked for anything
 pub none_asked : (P : Await → Type 0) (many i : ℕ) → All P (get_or (replicate many []) i [])
 none_asked P many i = elim (cases_lt i many) [
   | inl less ↦ subst (λ (q : List Await). All P q) (sym (get_or-replicate many i none none less)) (All-nil P)

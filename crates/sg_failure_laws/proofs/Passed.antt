@@ -1,4 +1,4 @@
--- Who is told a failure in a pass.
+-- Whose calls fail in a time advance.
 use Rattle.std.proofs.Common.{◌≡◌, ℕ, ◌+◌, ◌-◌, ◌==◌, ◌&&◌, Bool, true, false, cond, inl, inr, Option, None, Some, List, [], ◌∷◌, zero, suc, length, set, get_or, refl, sym, ap, subst, ◌∙◌, arith}
 use Rattle.std.specs.List.{All}
 use Rattle.std.proofs.lemmas.Bool.{cases_eq, cases_lt}
@@ -31,7 +31,7 @@ use Rattle.sg_owners.specs.declared.owners.Whose.{Whose}
 use Rattle.sg_owners.specs.declared.owners.Whose.TheVariants.{Over, Alone, Posted, Pair}
 use Rattle.sg_calls.specs.declared.stop.Stop.{Stop}
 use Rattle.sg_calls.specs.declared.stop.Stop.TheVariants.{Budget}
-use Rattle.sg_calls.specs.Answers.{answer_to, answers, answers_by, answers_side, bare_side, finishes, for_receiver, is_on, tells_bytes, with_over}
+use Rattle.sg_calls.specs.Answers.{answer_to, answers, answers_by, answers_side, bare_side, finishes, for_receiver, awaits_side, tells_bytes, with_over}
 use Rattle.sg_kernel.specs.Passes.{all_fail, applied_if, changes, core_later, ends, ends_by, ends_in, ends_one, enters_one, entry_stretches, fails, next_span, pass_at, pass_of, settled, stretches}
 use Rattle.sg_calls.specs.Steps.{Step, goes_on, stops, counted, follows, and_then, each, all_of, replied}
 use Rattle.sg_setup.specs.Setup.{Setup}
@@ -41,12 +41,12 @@ use Rattle.sg_calls.proofs.Stated.{blocking_is}
 use Rattle.sg_failure_laws.specs.Laws.{PassesTell, TellsHow, over_by}
 
 -- ---- what steps keep
--- it is over so, and nothing of it is under way
+-- it ended so, and no longer runs
 record IsOverBy (over : How) (serial : ℕ) (core : Core) : Type 0 where
   owner : whose_at core serial ≡ Over over
   idle : task_at core.under.tasks serial ≡ None
 
--- nobody is blocked anew, and what is over in one of these ways stays so
+-- nobody is blocked anew, and what ended in one of these ways stays so
 record Keeps (ways : How → Bool) (before after : Core) : Type 0 where
   blocked : (actor since : ℕ) (what : Call) (on : Option Await) → state_of after actor ≡ Blocked what since on → state_of before actor ≡ Blocked what since on
   over : (way : How) (serial : ℕ) → ways way ≡ true → IsOverBy way serial before → IsOverBy way serial after
@@ -58,7 +58,7 @@ record Tells (ways : How → Bool) (before after : Core) (told : Record) : Type 
   among : ways (over_by told.end) ≡ true
   over : IsOverBy (over_by told.end) on.serial.0 after
 
--- a step that keeps that, and whose records tell how activities are over
+-- a step that keeps that, and whose records say how activities ended
 record Tidings (ways : How → Bool) (before : Core) (step : Step) : Type 0 where
   keeps : Keeps ways before step.core
   told : All (Tells ways before step.core) step.made
@@ -146,13 +146,13 @@ pub ready_after : (actors : List Actor) (actor other since : ℕ) (answer : Answ
 ready_after actors actor other since answer what on =
     put_there (λ state. state ≡ Blocked what since on → state_at actors other ≡ Blocked what since on) actors actor other (Ready answer) (λ same e. absurd (cc e)) (λ e. e)
 
--- the one side of the activity of this serial
+-- the one endpoint of the activity with this id
 pub record Awaits (serial : ℕ) (on : Option Await) : Type 0 where
   pub side : Await
   pub is : on ≡ Some side
   pub of : side.serial.0 ≡ serial
 
-pub awaits : (serial : ℕ) (side : Party) (on : Option Await) → is_on serial side on ≡ true → Awaits serial on
+pub awaits : (serial : ℕ) (side : Party) (on : Option Await) → awaits_side serial side on ≡ true → Awaits serial on
 awaits serial side None e = absurd (cc e)
 awaits serial side (Some on) e = record { side = on; is = refl; of = grind (arith, both_true (on.serial.0 == serial) _ e) }
   where
@@ -218,15 +218,15 @@ side_tells ways over serial side given core now = by (blocking_in (state_of core
           }) (All-nil (Tells ways core after));
         }
 
-    on : (blocking : Blocking) → blocking_in (state_of core given.actor.0) ≡ Some blocking → (b : Bool) → is_on serial side blocking.on ≡ b → Tidings ways core (cond b (reply blocking) (goes_on core []))
+    on : (blocking : Blocking) → blocking_in (state_of core given.actor.0) ≡ Some blocking → (b : Bool) → awaits_side serial side blocking.on ≡ b → Tidings ways core (cond b (reply blocking) (goes_on core []))
     on blocking e true there = replies blocking e (awaits serial side blocking.on there)
     on blocking e false there = stays ways core None
 
     by : (found : Option Blocking) → blocking_in (state_of core given.actor.0) ≡ found → Tidings ways core (answers_by over serial side given found core)
     by None e = stays ways core None
-    by (Some blocking) e = on blocking e (is_on serial side blocking.on) refl
+    by (Some blocking) e = on blocking e (awaits_side serial side blocking.on) refl
 
--- ---- an activity is over
+-- ---- an activity ends
 abbrev is_somebodys : Whose → Bool
 is_somebodys (Over before) = false
 is_somebodys (Alone actor) = true
@@ -319,7 +319,7 @@ change_tells setup row core =
 abbrev any : How → Bool
 any over = true
 
--- what isn't under way isn't what is
+-- what isn't running isn't what is
 apart_from : (tasks : List (Option Task)) (place other : ℕ) (task : Task) (slot : Option Task) → get_or tasks place None ≡ Some task → get_or tasks other None ≡ None → get_or (set tasks place slot) other None ≡ None
 apart_from tasks place other task slot at none = elim (cases_eq other place) [
   | inl same ↦ absurd (cc (sym none ∙ ap (λ k. get_or tasks k None) same ∙ at))
@@ -360,7 +360,7 @@ end_tells setup serial core = by (task_at core.under.tasks serial) refl
         either any core (core.events == setup.budget) (stops core [] Budget) (ends_one serial core) (stays any core (Some Budget))
         (from_before any core (counted core) (ends_one serial core) (keeps_counted any core) (ended task at (phase_after (task_at core.under.tasks serial))))
 
--- ---- a pass
+-- ---- a time advance
 tells_how : (ways : How → Bool) (before after : Core) (told : Record) → Tells ways before after told → TellsHow before after told
 tells_how ways before after told t = record { since = t.since; on = t.on; blocked = t.blocked; over = t.over.owner }
 

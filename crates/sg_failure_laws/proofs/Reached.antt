@@ -1,4 +1,4 @@
--- The other sides of what a killed actor awaited are told.
+-- The other endpoints of what a killed actor awaited are answered.
 use Rattle.std.proofs.Common.{◌≡◌, ◌≢◌, ℕ, ◌-◌, ◌<◌, ◌==◌, ◌&&◌, Bool, true, false, cond, Option, None, Some, List, [], ◌∷◌, ◌++◌, get_or, inl, inr, refl, sym, ap, subst, ◌∙◌, arith, append_assoc}
 use Rattle.std.specs.List.{All, Contains}
 use Rattle.std.proofs.lemmas.Bool.{cases_eq}
@@ -22,7 +22,7 @@ use Rattle.sg_owners.specs.declared.owners.How.TheVariants as how
 use Rattle.sg_owners.specs.declared.owners.Whose.{Whose}
 use Rattle.sg_owners.specs.declared.owners.Whose.TheVariants.{Over, Alone, Posted, Pair}
 use Rattle.sg_calls.specs.declared.stop.Stop.{Stop}
-use Rattle.sg_calls.specs.Answers.{answers, answers_by, answers_side, bare_side, finishes, for_receiver, is_on, party_eq, tells_bytes, with_over}
+use Rattle.sg_calls.specs.Answers.{answers, answers_by, answers_side, bare_side, finishes, for_receiver, awaits_side, party_eq, tells_bytes, with_over}
 use Rattle.sg_calls.specs.Kills.{awaited, gives_up, gives_up_by, kill_done, kill_stretches, kills, withdrawn}
 use Rattle.sg_calls.specs.Locks.{joiners_wake}
 use Rattle.sg_calls.specs.Steps.{Step, goes_on, counted, follows, and_then, each, all_of, at_once, replied}
@@ -67,7 +67,7 @@ told_next : (actor : ℕ) (what : Call) (first : Step) (next : Core → Step) �
 told_next actor what first next on t =
     subst (λ o. TellsCaller actor what (follows o first (next first.core)).made) (sym on) (told_after actor what first.made (next first.core).made t)
 
--- ---- an actor that is blocked on its side of a communication
+-- ---- an actor that is blocked on its endpoint of a communication
 record Waits (actor since : ℕ) (what : Call) (on : Await) (whose : Whose) (core : Core) : Type 0 where
   blocked : state_of core actor ≡ Blocked what since (Some on)
   theirs : whose_at core on.serial.0 ≡ whose
@@ -80,20 +80,20 @@ waits_both actor since what on whose first next w more = by first.stop
     by (Some why) = w
 
 -- another side is answered
-waits_side : (actor since : ℕ) (what : Call) (on : Await) (whose : Whose) (serial : ℕ) (side : Party) (given : Side) (core : Core) → is_on serial side (Some on) ≡ false → Waits actor since what on whose core → Waits actor since what on whose (answers_side how.Failed serial side given core).core
+waits_side : (actor since : ℕ) (what : Call) (on : Await) (whose : Whose) (serial : ℕ) (side : Party) (given : Side) (core : Core) → awaits_side serial side (Some on) ≡ false → Waits actor since what on whose core → Waits actor since what on whose (answers_side how.Failed serial side given core).core
 waits_side actor since what on whose serial side given core apart w = by (blocking_in (state_of core given.actor.0)) refl
   where
     reply : (blocking : Blocking) → Step
     reply blocking = replied given.actor.0 blocking.what blocking.since (cond (tells_bytes blocking.what) given.bytes 0) answer.Failed core
 
-    elsewhere : (blocking : Blocking) → blocking_in (state_of core given.actor.0) ≡ Some blocking → is_on serial side blocking.on ≡ true → actor - 1 ≡ given.actor.0 - 1 → ⊥
+    elsewhere : (blocking : Blocking) → blocking_in (state_of core given.actor.0) ≡ Some blocking → awaits_side serial side blocking.on ≡ true → actor - 1 ≡ given.actor.0 - 1 → ⊥
     elsewhere blocking e there same =
         let here : state_of core given.actor.0 ≡ Blocked what since (Some on) = ap (λ i. (get_or core.actors i (not_suspended Ended)).state) (sym same) ∙ w.blocked in
         let one : Some (record { what = what; since = since; on = Some on }) ≡ Some blocking = sym (ap blocking_in here) ∙ e in
         let is : record { what = what; since = since; on = Some on } ≡ blocking = cc one in
-        absurd (cc (sym apart ∙ ap (λ (b : Blocking). is_on serial side b.on) is ∙ there))
+        absurd (cc (sym apart ∙ ap (λ (b : Blocking). awaits_side serial side b.on) is ∙ there))
 
-    cases : (blocking : Blocking) → blocking_in (state_of core given.actor.0) ≡ Some blocking → (b : Bool) → is_on serial side blocking.on ≡ b → Waits actor since what on whose (cond b (reply blocking) (goes_on core [])).core
+    cases : (blocking : Blocking) → blocking_in (state_of core given.actor.0) ≡ Some blocking → (b : Bool) → awaits_side serial side blocking.on ≡ b → Waits actor since what on whose (cond b (reply blocking) (goes_on core [])).core
     cases blocking e true there = record {
       blocked = put_there (λ state. state ≡ Blocked what since (Some on)) core.actors given.actor.0 actor (Ready answer.Failed) (λ same. absurd (elsewhere blocking e there same)) w.blocked;
       theirs = w.theirs;
@@ -102,7 +102,7 @@ waits_side actor since what on whose serial side given core apart w = by (blocki
 
     by : (found : Option Blocking) → blocking_in (state_of core given.actor.0) ≡ found → Waits actor since what on whose (answers_by how.Failed serial side given found core).core
     by None e = w
-    by (Some blocking) e = cases blocking e (is_on serial side blocking.on) refl
+    by (Some blocking) e = cases blocking e (awaits_side serial side blocking.on) refl
 
 -- ---- another activity is given up
 waits_more : (actor since : ℕ) (what : Call) (on : Await) (whose : Whose) (serial : ℕ) (core : Core) → 0 < serial → 0 < on.serial.0 → on.serial.0 ≢ serial → Waits actor since what on whose core → Waits actor since what on whose (gives_up serial core).core
@@ -117,7 +117,7 @@ waits_more actor since what on whose serial core from made apart w = by (whose_a
       theirs = get_or-set_other core.whose (serial - 1) (on.serial.0 - 1) (Over how.Failed) (Over how.Done) (λ e. apart (omega (arith, e, from, made))) ∙ w.theirs;
     }
 
-    off : (side : Party) → is_on serial side (Some on) ≡ false
+    off : (side : Party) → awaits_side serial side (Some on) ≡ false
     off side = ap (λ b. b && party_eq on.party side) (eq_no on.serial.0 serial apart)
 
     answered : (owners : Whose) → Waits actor since what on whose (answers how.Failed serial owners mid).core
@@ -161,7 +161,7 @@ own_told actor since what on whose given core is w =
     same_party party.Sender = refl
     same_party party.Receiver = refl
 
-    there : is_on on.serial.0 on.party (Some on) ≡ true
+    there : awaits_side on.serial.0 on.party (Some on) ≡ true
     there = ap (λ b. b && party_eq on.party on.party) (eq_yes on.serial.0 on.serial.0 refl) ∙ same_party on.party
 
     told : TellsCaller actor what reply.made
@@ -191,7 +191,7 @@ finish_told actor since what on whose core side w =
     pair sender receiver party.Receiver e s =
         let is : receiver.actor.0 ≡ actor = grind (arith, s) in
         let first = answers_side how.Failed on.serial.0 party.Sender sender mid in
-        let off : is_on on.serial.0 party.Sender (Some on) ≡ false = ap (λ b. b && party_eq on.party party.Sender) (eq_yes on.serial.0 on.serial.0 refl) ∙ ap (λ p. party_eq p party.Sender) e in
+        let off : awaits_side on.serial.0 party.Sender (Some on) ≡ false = ap (λ b. b && party_eq on.party party.Sender) (eq_yes on.serial.0 on.serial.0 refl) ∙ ap (λ p. party_eq p party.Sender) e in
         let still = waits_side actor since what on (whose_at mid on.serial.0) on.serial.0 party.Sender sender mid off (record { blocked = w.blocked; theirs = refl }) in
         told_next actor what first (answers_side how.Failed on.serial.0 party.Receiver (for_receiver sender receiver)) (answers_side_goes how.Failed on.serial.0 party.Sender sender mid)
         (subst (λ p. TellsCaller actor what (answers_side how.Failed on.serial.0 p (for_receiver sender receiver) first.core).made) e (own_told actor since what on (whose_at mid on.serial.0) (for_receiver sender receiver) first.core is still))

@@ -1,4 +1,4 @@
--- Who is told that a call failed.
+-- Whose call is answered as failed.
 use Rattle.std.specs.Prelude.{◌≡◌, ◌≢◌, ◌⊎◌, ℕ, ◌-◌, ◌<◌, ◌==◌, ◌||◌, Bool, true, false, Option, None, Some, Result, Ok, Err, List, ◌∷◌, ◌++◌, All, Contains}
 use Rattle.sg_base.specs.declared.awaits.Await.{Await}
 use Rattle.sg_base.specs.declared.awaits.Party.{Party}
@@ -32,21 +32,21 @@ use Rattle.sg_kernel.specs.Passes.{pass_of}
 use Rattle.sg_setup.specs.Setup.{Setup}
 use Rattle.sg_calls.specs.World.{Core, MayCall, host_of, state_of, whose_at}
 
--- ---- passes
--- how the activity is over of a call that ended so
+-- ---- time advances
+-- how the activity ended of a call that ended so
 abbrev pub over_by : End → How
 over_by (end.Done ns) = how.Done
 over_by end.Refused = how.Done
 over_by end.Failed = how.Failed
 
--- before, the actor was blocked by the call on an activity, and after, that is over as the record tells
+-- before, the actor was blocked by the call on an activity, which after that has ended as the record says
 pub record TellsHow (before after : Core) (r : Record) : Type 0 where
   pub since : ℕ
   pub on : Await
   pub blocked : state_of before r.actor.0 ≡ Blocked r.what since (Some on)
   pub over : whose_at after on.serial.0 ≡ Over (over_by r.end)
 
--- so each record of a pass does
+-- each record of a time advance says how the activity ended
 abbrev pub PassesTell : Type 0
 PassesTell = (setup : Setup) (core : Core) →
     All (TellsHow core (pass_of setup core).core) (pass_of setup core).made
@@ -57,7 +57,7 @@ is_failed (end.Done ns) = false
 is_failed end.Refused = false
 is_failed end.Failed = true
 
--- whether an activity is over by a failure
+-- whether an activity ended by a failure
 abbrev pub has_failed : Whose → Bool
 has_failed (Over how.Done) = false
 has_failed (Over how.Failed) = true
@@ -75,7 +75,7 @@ abbrev pub way_fails : Result Route RouteFault → Setup → Comer → Post → 
 way_fails (Err why) setup comer post core = false
 way_fails (Ok route) setup comer post core = is_cut core.under.on (way_with route setup comer post.side)
 
--- whether the side meets another, to or from which the way is cut
+-- whether the endpoint matches another, to or from which the route is cut
 abbrev pub meeting_fails : Option Post → Roads → Setup → Comer → Core → Bool
 meeting_fails None roads setup comer core = false
 meeting_fails (Some post) roads setup comer core =
@@ -98,7 +98,7 @@ only_posts (call.ISend mailbox bytes message rate) = true
 only_posts (call.IRecv mailbox) = true
 only_posts other = false
 
--- one of the records is of the actor's call, and tells a failure
+-- one of the records is of the actor's call, and says that it failed
 pub record TellsCaller (actor : ℕ) (what : Call) (made : List Record) : Type 0 where
   pub before : List Record
   pub own : Record
@@ -160,7 +160,8 @@ is_side actor side (Alone owner) = false
 is_side actor side (Posted mailbox sends other) = false
 is_side actor side (Pair sender receiver) = is_party actor sender receiver side
 
--- another than the killed one is blocked on its side of a communication that the killed one awaited; serials are from 1 on
+-- another than the killed one is blocked on its endpoint of a communication that the killed one awaited; activity ids
+-- are from 1 on
 pub record IsOtherSide (target : ActorId) (core : Core) (other since : ℕ) (what : Call) (on : Await) : Type 0 where
   pub apart : other - 1 ≢ target.0 - 1
   pub blocked : state_of core other ≡ Blocked what since (Some on)
@@ -168,7 +169,9 @@ pub record IsOtherSide (target : ActorId) (core : Core) (other since : ℕ) (wha
   pub awaits : Contains (awaited target core) on.serial.0
   pub drawn : All (λ serial. 0 < serial) (awaited target core)
 
--- Where the call fails, each record that it makes tells so, but for an ISend or IRecv, and one of them to the caller, if it waits. Where it doesn't, none does, but for a kill of an actor that is alive, which fails what that awaited: each record of it is one of these, and each other side that was blocked is told.
+-- If the call fails, each record that it makes says so, except for an ISend or IRecv, and one of them is the caller's,
+-- if it waits. Otherwise none does, except for the kill of a living actor, which fails what that actor awaited: each
+-- record of it is one of these, and each other endpoint that was blocked gets one.
 pub record TellsFailure (roads : Roads) (setup : Setup) (core : Core) (actor : ℕ) (what : Call) : Type 0 where
   pub fails : call_fails roads setup core actor what ≡ true →
       All (λ r. (only_posts r.what || is_failed r.end) ≡ true) (answered roads setup core actor what).made

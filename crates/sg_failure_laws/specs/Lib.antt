@@ -1,2 +1,5 @@
 pub mod Laws
 pub mod Others
+pub mod Cut
+pub mod Given
+pub mod Answers

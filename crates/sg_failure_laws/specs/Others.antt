@@ -34,7 +34,7 @@ may_fail (call.Recv mailbox) = true
 may_fail call.Wait = true
 may_fail other = false
 
--- a record that tells a failure is of such a call
+-- a record of a failure is of such a call
 abbrev pub MayTell : Record → Type 0
 MayTell r = is_failed r.end ≡ true → may_fail r.what ≡ true
 
@@ -43,12 +43,13 @@ is_nowhere_at nowhere = true
 is_nowhere_at (on_host host) = false
 is_nowhere_at (over way) = false
 
--- whether nothing is under way, or what uses no host and no link
+-- whether nothing is running, or what uses no host and no link
 abbrev pub is_nowhere : Option Task → Bool
 is_nowhere None = true
 is_nowhere (Some task) = is_nowhere_at task.place
 
--- who sleeps waits alone, for an activity that was made and that, while it is somebody's alone, uses no host and no link
+-- an actor that sleeps waits alone, for an activity that was made and that, while it is an actor's alone, uses no host
+-- and no link
 pub record IsSleep (tasks : List (Option Task)) (whose : List Whose) (on : Await) : Type 0 where
   pub alone : on.party ≡ party.Alone
   pub made : on.serial.0 - 1 < length whose
@@ -74,12 +75,12 @@ pub record AreFit (actors : List Actor) (tasks : List (Option Task)) (whose : Li
 abbrev pub IsFit : Core → Type 0
 IsFit core = AreFit core.actors core.under.tasks core.whose core.requests
 
--- it stays so, and no other call is told a failure
+-- it stays so, and no other call is answered as failed
 pub record TellsFew (step : Step) : Type 0 where
   pub fit : IsFit step.core
   pub made : All MayTell step.made
 
--- so it is at first, with each call, with each actor that is created, with each Ask and with each pass
+-- so it is at first, with each call, each actor that is created, each line that is fetched and each time advance
 pub record NoOtherFails : Type 0 where
   pub first : (capacities : Capacities) (setup : Setup) → IsFit (first_core capacities setup)
   pub calls : (roads : Roads) (setup : Setup) (core : Core) (actor : ℕ) (what : Call) → IsFit core → TellsFew (answered roads setup core actor what)

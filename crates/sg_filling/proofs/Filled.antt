@@ -1,4 +1,4 @@
--- Filling goes on from what is filled.
+-- A max-min solve continues from what is solved.
 use Rattle.std.proofs.Common.{◌≡◌, ◌≢◌, ℕ, ◌+◌, ◌-◌, ◌*◌, ◌<◌, ◌≤◌, ◌⊎◌, inl, inr, Bool, true, false, true≢false, None, IsSome, is_some, List, ◌++◌, length, get_or, take, drop, All, AllPairs, ◌||◌, ltb, lt-ltb, le-ltb, Option, Some, [], ◌∷◌, set, slice_index, get_or-set_same, get_or-set_other, length-append, length-drop, refl, sym, ap, subst, ◌∙◌, arith}
 use Rattle.std.proofs.lemmas.List.{get_or-drop, take_all}
 use Rattle.std.proofs.lemmas.List.Elements.{All-get_or, All-from_get_or}
@@ -27,7 +27,7 @@ use Rattle.sg_filling.proofs.Twice.{counts_twice_lem}
 pub fills_none : (s : Sharing) (a : Component) (f : Filling) (x : ℕ) → IsFilled s a f → FillsOn s a a f x x
 fills_none s a f x filled = record { filled = filled; touched = grows_same a.touched.members; reached = grows_same a.reached.members; looks = omega arith }
 
--- a resource more, that no flow uses
+-- one more resource, that no flow uses
 pub fills_free : (s : Sharing) (a b : Component) (f : Filling) (c x : ℕ) → IsFilled s b f → b.touched ≡ a.touched → b.reached ≡ record a.reached { members = with_mark c a.reached.members } → FillsOn s a b f x x
 fills_free s a b f c x filled touched reached = record {
   filled = filled;

@@ -1,4 +1,4 @@
--- One flow more is fixed, and what the parts of a step do together.
+-- One more flow is fixed, and what the parts of a step do together.
 use Rattle.std.proofs.Common.{◌≡◌, ◌≢◌, ℕ, zero, suc, ◌+◌, ◌-◌, ◌*◌, ◌<◌, inl, inr, Bool, true, false, true≢false, cond, is_none, Option, None, Some, IsSome, option_to_list, List, [], ◌∷◌, map, length, get_or, set, sum_by, AllPairs, Contains, get_or-set_same, get_or-set_other, refl, sym, ap, subst, ◌∙◌, arith}
 use Rattle.std.proofs.lemmas.List.Sums.{sum_by-cons}
 use Rattle.sg_base.specs.MarkSet.{is_in}
@@ -59,7 +59,7 @@ pub level_stays : (low : ℕ) (at : Type 0) (a b : Option ℕ) (x : ℕ) → May
 level_stays low at None b x h e = absurd (none_some e)
 level_stays low at (Some y) b x h e = h ∙ e
 
--- where whoever is at the level was fixed, it is a step
+-- if whoever is at the level was fixed, it is a step
 pub may_step : (low : ℕ) (at : Type 0) (a b : Option ℕ) → MayStep low at a b → (at → IsSome b) → IsStepped low at a b
 may_step low at (Some x) b h all = h
 may_step low at None b (inl h) all = inl h
@@ -96,7 +96,7 @@ fixed_stay s low row a b p all = λ i h. let id = get_or row i 0 in some_stays l
 pub count_same : (s : Sharing) (touched : List ℕ) (a : Filling) (x : ℕ) → KeepsCount s touched a a x x
 count_same s touched a x = record { counted = λ reached h. h; looks = omega arith }
 
--- where nothing is fixed
+-- if nothing is fixed
 pub fixes_same : (s : Sharing) (flow low : ℕ) (a : Filling) (x : ℕ) → HasPlaces s a → FixesFlow s flow low a a x x
 fixes_same s flow low a x places = record {
   fixes = record { partly = partly_same s low a places; agenda = refl; holds = refl };

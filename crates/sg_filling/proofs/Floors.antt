@@ -25,7 +25,7 @@ floor_within : (o : Option ℕ) (xs ys : List ℕ) → ((x : ℕ) → In x ys �
 floor_within None xs ys from e = nothing ys (λ x i. subst (In x) e (from x i))
 floor_within (Some floor) xs ys from h = λ x i. h x (contains_from_In xs x (from x (In-from_contains ys x i)))
 
--- it stays one where no more flows are unfixed
+-- it stays one if no more flows are unfixed
 pub floor_fewer : (o : Option ℕ) (s : Sharing) (old new : List (Option ℕ)) (touched : List ℕ) → ((id : ℕ) → In id touched → fixed_at new id ≡ None → fixed_at old id ≡ None) → IsFloor o (unfixed_bounds s.slots old touched) → IsFloor o (unfixed_bounds s.slots new touched)
 floor_fewer o s old new touched was = floor_within o (unfixed_bounds s.slots old touched) (unfixed_bounds s.slots new touched) from
   where

@@ -68,7 +68,7 @@ mark_cases other number xs h = (elim (is_in number xs) as (λ b. is_in other (co
 pub lengths_mark : (rows : ℕ → List ℕ) (number : ℕ) (xs : List ℕ) → is_in number xs ≡ false → lengths rows (with_mark number xs) ≡ lengths rows xs + length (rows number)
 lengths_mark rows number xs h = ap (λ b. lengths rows (cond b xs (xs ++ number ∷ []))) h ∙ omega (arith, sum_by-append (λ n. length (rows n)) xs (number ∷ []), sum_by-cons (λ n. length (rows n)) number [])
 
--- the rows of one number more
+-- the rows of one more number
 pub lengths_more : (rows : ℕ → List ℕ) (old new : List ℕ) (k : ℕ) → k < length old → Grows old new → lengths rows (take (k + 1) new) ≡ lengths rows (take k old) + length (rows (get_or old k 0))
 lengths_more rows old new k h g =
     let f : ℕ → ℕ = λ n. length (rows n) in

@@ -1,4 +1,4 @@
--- What a filling notes is where each resource holds its flows.
+-- What a max-min solve notes is where each resource holds its flows.
 use Rattle.std.proofs.Common.{◌≡◌, ℕ, true, Option, None, Some, option_map, List, [], ◌∷◌, map, get_or, slice_index, suc, zero, refl, sym, ap, subst, ◌∙◌}
 use Rattle.sg_base.specs.MarkSet.{is_in}
 use Rattle.sg_chains.specs.Chained.{users_on}
@@ -29,7 +29,7 @@ whole_filled : (s : Sharing) → AreFilled s (whole_levels s)
 unfolding whole_levels
 whole_filled s id flow e = at_map (level_of s.capacities (held s.slots)) s.slots id ∙ ap (option_map (level_of s.capacities (held s.slots))) e
 
--- where the levels on a resource are those of the whole, what is noted of it is its hold
+-- if the levels on a resource are those of the whole, what is noted of it is its hold
 pub holds_of : (s : Sharing) → IsSound s → (c : ℕ) (fixed : List (Option ℕ)) (hold : Option ℕ) →
     ((id : ℕ) → is_in id (users_on s.users c) ≡ true → fixed_at fixed id ≡ Some (level_of s.capacities (held s.slots) (flow_in s.slots id))) →
     IsNoted (slice_index s.capacities c) s.slots fixed (users_on s.users c) hold → IsHold (slice_index s.capacities c) s.slots fixed (users_on s.users c) hold

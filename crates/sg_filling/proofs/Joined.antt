@@ -1,4 +1,5 @@
--- What is joined is a part of the whole: its flows have by themselves the levels that they have among all that are held.
+-- A connected component is a part of the whole: its flows have by themselves the levels that they have among all
+-- flows.
 use Rattle.std.proofs.Common.{◌≡◌, ◌≢◌, ℕ, ◌-◌, ◌*◌, ◌/◌, inl, inr, Bool, true, false, cond, ◌&&◌, is_none, IsSome, List, length, get_or, sum_by, AllPairs, slice_index, refl, sym, ap, ap₂, subst, ◌∙◌, arith}
 use Rattle.std.proofs.lemmas.List.Elements.{All-get_or}
 use Rattle.sg_base.specs.MarkSet.{is_in}

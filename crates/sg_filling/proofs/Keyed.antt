@@ -114,7 +114,7 @@ some_or : (o : Option ℕ) → (o ≡ None → ⊥) → IsSome o
 some_or None h = absurd (h refl)
 some_or (Some x) h = refl
 
--- where nobody waits, all flows are fixed
+-- if nobody waits, all flows are fixed
 pub nobody_waits : (s : Sharing) (touched reached : List ℕ) (f : Filling) → AreJoined s touched reached → AreCounted s f.fixed.items touched f.left.items f.waiting.items (λ c. is_in c reached) → (c : ℕ) → is_in c reached ≡ true → get_or f.waiting.items c 0 ≡ 0 →
     AreFixed (users_on s.users c) f
 nobody_waits s touched reached f joined counted c r z = λ i h.
@@ -208,7 +208,7 @@ dated_late reached f keys late dated listed others none = record { quiet = dated
       | inr right ↦ inr (λ c. ap (λ (ks : List (Option Key)). key_at ks c) e ∙ right c)
     ]
 
--- ---- a filling
+-- ---- a max-min solve
 sum_none : (f : ℕ → ℕ) (xs : List ℕ) → ((i : ℕ) → i < length xs → f (get_or xs i 0) ≡ 0) → sum_by f xs ≡ 0
 sum_none f [] h = refl
 sum_none f (x ∷ xs) h = omega (arith, sum_by-cons f x xs, h 0 (omega arith), sum_none f xs (λ i k. h (suc i) (omega arith)))

@@ -1,4 +1,4 @@
--- The first step is the last one too, where one resource holds all touched flows.
+-- The first step is the last one too, if one resource holds all touched flows.
 use Rattle.std.proofs.Common.{◌≡◌, ℕ, ◌*◌, ◌<◌, ◌≤◌, inl, inr, Bool, true, false, cond, eqb, is_none, Option, None, Some, List, [], ◌∷◌, length, get_or, sum_by, refl, sym, ap, subst, ◌∙◌, arith}
 use Rattle.std.specs.List.{list_any}
 use Rattle.std.proofs.lemmas.List.Sums.{sum_by-cons}
@@ -21,7 +21,7 @@ sum_most : (f h : ℕ → ℕ) (xs : List ℕ) → ((x : ℕ) → f x ≤ h x) �
 sum_most f h [] most = omega arith
 sum_most f h (x ∷ xs) most = omega (arith, sum_by-cons f x xs, sum_by-cons h x xs, most x, sum_most f h xs most)
 
--- where parts that are no more come to the same sum, they are the same
+-- if parts that are no more come to the same sum, they are the same
 same_parts : (f h : ℕ → ℕ) (xs : List ℕ) → ((x : ℕ) → f x ≤ h x) → sum_by f xs ≡ sum_by h xs → (x : ℕ) → In x xs → f x ≡ h x
 same_parts f h [] most e x i = absurd i
 same_parts f h (y ∷ xs) most e x (inl q) = subst (λ n. f n ≡ h n) q (omega (arith, e, sum_by-cons f y xs, sum_by-cons h y xs, most y, sum_most f h xs most))
@@ -38,7 +38,7 @@ waits_all true weight (Some x) some e = absurd (omega (arith, some, e))
 waits_all false weight fixed some e = absurd (omega (arith, some, e))
 
 module _ (s : Sharing) (touched reached : List ℕ) (part : ArePart s touched) (f : Filling) (counted : AreCounted s f.fixed.items touched f.left.items f.waiting.items (λ c. is_in c reached)) where
-  -- where the weight of all touched flows waits, all of them do
+  -- if the weight of all touched flows waits, all of them do
   all_wait : (c : ℕ) → is_in c reached ≡ true → get_or f.waiting.items c 0 ≡ sum_by (weight_at s.slots) touched → (id : ℕ) → is_in id touched ≡ true → (is_in c (uses_at s.slots id) ≡ true) × (fixed_at f.fixed.items id ≡ None)
   all_wait c r e id i =
       let on = λ (id : ℕ). list_any (λ d. eqb d c) (uses_at s.slots id) in

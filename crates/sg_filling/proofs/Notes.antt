@@ -58,7 +58,7 @@ notes_kept reached low a b d p e = record {
   taken = λ c r at some. ap (λ hs. fixed_at hs c) e ∙ p.taken c r at some;
 }
 
--- ---- looks
+-- ---- visits
 -- a resource that is noted for the first time is untaken no more
 pub taken_less : (s : Sharing) (reached : List ℕ) (low n : ℕ) (f new : Filling) → n < length f.holds.items → AllPairs (λ a b. a ≢ b) reached → is_in n reached ≡ true → (get_or f.levels.items n 0 ≡ low → fixed_at f.holds.items n ≡ None) →
     new.holds.items ≡ noted_at low n f → untaken s reached new + users_at s low n f ≡ untaken s reached f
@@ -90,7 +90,7 @@ untaken_few s (x ∷ xs) f = omega (arith, sum_by-cons (λ c. cond (is_none (fix
     at_most true n = omega arith
     at_most false n = omega arith
 
--- six looks at each use are no more than three and three a step
+-- six visits to each use are no more than three and three a step
 pub few_looks : (rows : ℕ → List ℕ) (xs : List ℕ) → 6 * lengths rows xs ≤ 3 * lengths rows xs + length xs * (3 * lengths rows xs)
 few_looks rows [] = omega arith
 few_looks rows (x ∷ xs) = more (length xs) (lengths rows (x ∷ xs))

@@ -1,4 +1,4 @@
--- A pass over distinct flows changes what is behind it no more.
+-- A pass over distinct flows changes what follows it no more.
 use Rattle.std.proofs.Common.{◌≡◌, ◌≢◌, ℕ, zero, suc, ◌+◌, ◌<◌, ◌≤◌, List, Option, [], ◌∷◌, length, get_or, take, sum_by, AllPairs, length-take, refl, sym, ap, ◌∙◌, arith}
 use Rattle.std.proofs.lemmas.List.{take_more}
 use Rattle.std.proofs.Math.Seq.{get_or-take}

@@ -19,7 +19,7 @@ none_some e = cc
 pub some_same : {X : Type 0} (a b : X) → Some a ≡ Some b → a ≡ b
 some_same a b h = cc h
 
--- ---- membership, told by a test or by a count
+-- ---- membership, by a test or by a count
 pub into : (row members : List ℕ) (c : ℕ) → AreIn row members → is_in c row ≡ true → is_in c members ≡ true
 into row members c all e = let at = at_in c row e in subst (λ k. is_in k members ≡ true) at.2 (all at.0 at.1)
 
@@ -140,7 +140,7 @@ few_slots slots (t ∷ ids) once held =
 pub few_held : (slots : List (Option Flow)) (ids : List ℕ) → AllPairs (λ a b. a ≢ b) ids → ((i : ℕ) → i < length ids → IsSome (flow_at slots (get_or ids i 0))) → length ids ≤ length slots
 few_held slots ids once held = omega (arith, few_slots slots ids once held, all_slots slots)
 
--- ---- what a call tells of a flow's weight and bound
+-- ---- what a call returns of a flow's weight and bound
 pub weight_is : (slots : List (Option Flow)) (id w : ℕ) → IsSome (flow_at slots id) → IfSome (flow_at slots id) (λ (f : Flow). w ≡ f.weight) → w ≡ weight_at slots id
 weight_is slots id w some told =
     let f = some_of (flow_at slots id) some in

@@ -10,7 +10,7 @@ use Rattle.sg_filling.specs.Filling.{AreAmong, AreTaken, IsLeast, IsNext, IsNext
 use Rattle.sg_filling.proofs.Rows.{none_some, some_same}
 use Rattle.sg_filling.proofs.Waited.{level_more}
 
--- what is known behind the first k places
+-- what is known after the first k places
 pub record IsScanned (reached waiting levels : List ℕ) (k : ℕ) (least : Least) : Type 0 where
   pub level : IsLeast least.level (waited_levels waiting levels (take k reached))
   pub above : (i : ℕ) → i < k → (get_or waiting (get_or reached i 0) 0 ≡ 0 → ⊥) → (x : ℕ) × (least.level ≡ Some x) × (x ≤ get_or levels (get_or reached i 0) 0)
@@ -124,7 +124,7 @@ module _ (reached waiting levels : List ℕ) (k : ℕ) (less : k < length reache
       ends (inr (low, e, inr (inl b))) = omega (arith, b.2)
       ends (inr (low, e, inr (inr d))) = omega (arith, are.end, ap (λ (s : Span). s.end) d.1)
 
--- nothing is looked at yet
+-- nothing is scanned yet
 pub scanned_none : (reached waiting levels : List ℕ) → IsScanned reached waiting levels 0 (record { level = None; at = record { first = 0; end = 0 } })
 scanned_none reached waiting levels = record {
   level = refl;

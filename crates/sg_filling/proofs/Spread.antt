@@ -1,4 +1,4 @@
--- Spreading goes on from what was spread.
+-- Spreading continues from what was spread.
 use Rattle.std.proofs.Common.{◌∙◌, arith}
 use Rattle.sg_maxmin.specs.Sharing.{Sharing}
 use Rattle.sg_filling.specs.declared.component.Component.{Component}

@@ -1,4 +1,4 @@
--- How a filling starts, and what it gives fits.
+-- How a max-min solve starts, and that its result fits.
 use Rattle.std.proofs.Common.{◌≡◌, ◌≢◌, ℕ, suc, ◌+◌, ◌-◌, ◌*◌, ◌^◌, ◌<◌, ◌≤◌, inl, inr, Bool, true, false, cond, true≢false, eqb, Option, None, Some, IsSome, List, [], ◌∷◌, length, get_or, sum_by, AllPairs, mul-le-mul_right, lit<, refl, sym, ap, subst, ◌∙◌, arith}
 use Rattle.std.specs.List.{list_any}
 use Rattle.std.proofs.lemmas.List.Sums.{sum_by-cons}

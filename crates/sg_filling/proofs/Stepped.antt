@@ -1,4 +1,4 @@
--- The passes of one step over the touched flows are a step of filling.
+-- The passes of one step over the touched flows are a step of the max-min solve.
 use Rattle.std.proofs.Common.{◌≡◌, ◌≢◌, ℕ, suc, ◌+◌, ◌-◌, ◌*◌, ◌/◌, ◌<◌, ◌≤◌, inl, inr, Bool, true, false, cond, ◌&&◌, eqb, eq-eqb, ne_eqb, is_none, Option, None, Some, option_map, option_to_list, List, [], ◌∷◌, ◌++◌, map, filter, flat_map, length, get_or, sum_by, AllPairs, refl, sym, ap, ap₂, subst, ◌∙◌, arith}
 use Rattle.std.specs.List.{list_any}
 use Rattle.std.proofs.lemmas.List.Sums.{sum_by-cons}
@@ -19,7 +19,7 @@ sum_by-map h f (x ∷ xs) = sum_by-cons h (f x) (map f xs) ∙ ap (λ s. h (f x)
 times-cons : (c x : ℕ) (xs : List ℕ) → times c (x ∷ xs) ≡ cond (eqb x c) 1 0 + times c xs
 times-cons c x xs = sum_by-cons (λ d. cond (eqb d c) 1 0) x xs
 
--- where each resource stands once, it is counted once
+-- if each resource stands once, it is counted once
 pub times-once : (xs : List ℕ) (c : ℕ) → AllPairs (λ a b. a ≢ b) xs → times c xs ≡ cond (list_any (λ d. eqb d c) xs) 1 0
 times-once [] c h = refl
 times-once (x ∷ xs) c h =
@@ -52,7 +52,7 @@ given_is : (flow : Flow) (o : Option ℕ) → share_of_fixed flow o ≡ given fl
 given_is flow None = refl
 given_is flow (Some level) = refl
 
--- a pass that fixes is a step
+-- a pass over the flows that fixes some is a step
 step_case : (caps : List ℕ) (flows : List Flow) (fixed : Fixed) (f : Flow) (low : ℕ) (list : List ℕ) (before after : Option ℕ) → fixed f ≡ before → limits caps flows fixed f ≡ list → In f flows → lowest caps flows fixed ≡ low →
     IsStepped low (IsLeast (Some low) list) before after → after ≡ step caps flows fixed f
 step_case caps flows fixed f low list (Some x) after e lim i low_is h = h ∙ sym (step_fixed caps flows fixed f x e)

@@ -7,7 +7,7 @@ use Rattle.sg_chains.specs.Chained.{times}
 use Rattle.sg_filling.specs.Counts.{CountsTwice}
 use Rattle.sg_filling.proofs.Growing.{in_at}
 
--- one element more
+-- one more element
 times-cons : (number x : ℕ) (xs : List ℕ) → times number (x ∷ xs) ≡ cond (eqb x number) 1 0 + times number xs
 times-cons number x xs = sum_by-cons (λ other. cond (eqb other number) 1 0) x xs
 

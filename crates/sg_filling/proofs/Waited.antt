@@ -38,7 +38,7 @@ module _ (s : Sharing) (fixed : List (Option ℕ)) (touched reached left waiting
   abbrev part : ℕ → ℕ → ℕ
   part c id = times c (uses_at s.slots id) * waits_with (flow_in s.slots id) (fixed_at fixed id)
 
-  -- where something waits an unfixed flow does
+  -- if something waits an unfixed flow does
   waits_there : (c : ℕ) → is_in c reached ≡ true → (get_or waiting c 0 ≡ 0 → ⊥) → (id : ℕ) × In id touched × (is_none (fixed_at fixed id) ≡ true) × (is_in c (uses_at s.slots id) ≡ true)
   waits_there c r some =
       let p = some_part (part c) touched (λ e. some (counted.waiting_is c r ∙ e)) in
@@ -62,7 +62,7 @@ module _ (s : Sharing) (fixed : List (Option ℕ)) (touched reached left waiting
         | inr e ↦ absurd (p (ap (λ n. n * waits_with (flow_in s.slots id) (fixed_at fixed id)) (times_out c (uses_at s.slots id) e) ∙ none_of (waits_with (flow_in s.slots id) (fixed_at fixed id))))
       ]
 
-  -- where an unfixed flow is, something waits
+  -- if an unfixed flow is, something waits
   pub there_waits : (c id : ℕ) → is_in c reached ≡ true → In id touched → is_none (fixed_at fixed id) ≡ true → is_in c (uses_at s.slots id) ≡ true → get_or waiting c 0 ≡ 0 → ⊥
   there_waits c id r i none used z =
       let w = (weighs s joined.part.sound id).0 in
@@ -144,6 +144,6 @@ module _ (s : Sharing) (fixed : List (Option ℕ)) (touched reached left waiting
   pub least_waited : (o : Option ℕ) → IsLeast o (waited_levels waiting levels reached ++ unfixed_bounds s.slots fixed touched) → IsLeast o (unfixed_limits s.slots fixed levels touched)
   least_waited o h = least_same o (waited_levels waiting levels reached ++ unfixed_bounds s.slots fixed touched) (unfixed_limits s.slots fixed levels touched) to from h
 
--- one level more, where a flow waits
+-- one more level, if a flow waits
 pub level_more : (o : Option ℕ) (waiting level : ℕ) (list : List ℕ) → (waiting ≡ 0 → ⊥) → IsLeast o list → IsLeast (Some (least_with o level)) (list ++ level_where waiting level)
 level_more o waiting level list some h = subst (λ b. IsLeast (Some (least_with o level)) (list ++ cond b [] (level ∷ []))) (sym (ne_eqb waiting 0 some)) (least_push o list level h)

@@ -1,4 +1,4 @@
--- One use more of a row.
+-- One more use of a row.
 use Rattle.std.proofs.Common.{◌≡◌, ℕ, zero, suc, ◌+◌, ◌-◌, ◌*◌, ◌<◌, ◌≤◌, ◌⊎◌, inl, inr, min, cond, eqb, eq-eqb, ne_eqb, Option, None, Some, List, [], ◌∷◌, ◌++◌, map, length, get_or, set, take, get_or-set_same, get_or-set_other, Contains, append_assoc, mul-le-mul_right, refl, sym, ap, subst, ◌∙◌, arith}
 use Rattle.std.proofs.lemmas.List.{take_more}
 use Rattle.std.proofs.lemmas.List.Elements.{Contains-push, Contains-push_cases, Contains-append_left, Contains-append_right, Contains-append_cases}

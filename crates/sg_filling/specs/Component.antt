@@ -35,7 +35,7 @@ AllPass test members = (number : ℕ) → IsTrue (is_in number members) → IsTr
 abbrev pub RowPasses : (ℕ → Bool) → List ℕ → Type 0
 RowPasses test row = (i : ℕ) → i < length row → IsTrue (test (slice_index row i))
 
--- where the one test holds of a number, the other holds of its row
+-- if the one test holds of a number, the other holds of its row
 abbrev pub Passes : (ℕ → Bool) → (ℕ → Bool) → (ℕ → List ℕ) → Type 0
 Passes one other rows = (number : ℕ) → IsTrue (one number) → RowPasses other (rows number)
 
@@ -75,7 +75,7 @@ pub record Spreads (s : Sharing) (old new : Component) : Type 0 where
   pub reached_room : new.reached.room ≡ old.reached.room
   pub few : length new.reached.members + touched_uses s old ≤ length old.reached.members + touched_uses s new
 
--- where the tests held of all that was touched and reached, they hold of all that is
+-- if the tests held of all that was touched and reached, they hold of all that is
 abbrev pub StaysWithin : (ℕ → Bool) → (ℕ → Bool) → Component → Component → Type 0
 StaysWithin one other old new =
     AllPass one old.touched.members → AllPass other old.reached.members → AllPass one new.touched.members × AllPass other new.reached.members
@@ -89,7 +89,7 @@ pub record AreVisited (s : Sharing) (visited : ℕ) (component : Component) : Ty
   pub within : visited ≤ length component.reached.members
   pub touched : (i : ℕ) → i < visited → AreIn (users_on s.users (slice_index component.reached.members i)) component.touched.members
 
--- a test of flows and one of resources hold along all uses, where the one or the other holds
+-- a test of flows and one of resources hold along all uses, if the one or the other holds
 pub record PassAlong (s : Sharing) (flows resources : ℕ → Bool) : Type 0 where
   pub uses : Passes flows resources (uses_at s.slots)
   pub users : Passes resources flows (users_on s.users)

@@ -1,10 +1,10 @@
--- Keys of resources: in a long filling, the level of each resource on which a flow waits.
+-- Keys of resources: in a long solve, the level of each resource on which a flow waits.
 use Rattle.std.specs.Prelude.{◌≡◌, ℕ, ◌==◌, ◌⊎◌, true, false, if◌then◌else◌, Option, None, Some, IsSome, List, slice_index}
 use Rattle.sg_base.specs.MarkSet.{is_in}
 use Rattle.sg_heap.specs.Agenda.{Key, key_at}
 use Rattle.sg_filling.specs.declared.filling.Filling.{Filling}
 
--- a resource's key: its level, where a flow waits there
+-- a resource's key: its level, if a flow waits there
 abbrev pub key_where : ℕ → ℕ → Option Key
 key_where waiting level = if waiting == 0 then None else Some (record { date = level; serial = 0 })
 
@@ -21,11 +21,11 @@ pub record IsIdle (filling : Filling) : Type 0 where
   pub waiting : (c : ℕ) → slice_index filling.waiting.items c ≡ 0
   pub keys : HaveNone filling.agenda
 
--- each resource has the key of its level, where a flow waits there, and else none
+-- each resource has the key of its level, if a flow waits there, and else none
 abbrev pub AreRight : Filling → Type 0
 AreRight filling = (c : ℕ) → key_at filling.agenda c ≡ key_where (slice_index filling.waiting.items c) (slice_index filling.levels.items c)
 
--- nobody waits but at the reached resources, and no resource has a key, or all keys are right
+-- nobody waits except at the reached resources, and no resource has a key, or all keys are right
 pub record AreDated (reached : List ℕ) (filling : Filling) : Type 0 where
   pub quiet : (c : ℕ) → is_in c reached ≡ false → slice_index filling.waiting.items c ≡ 0
   pub keys : HaveNone filling.agenda ⊎ AreRight filling

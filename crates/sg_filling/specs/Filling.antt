@@ -1,4 +1,4 @@
--- A filling of the touched flows, by their numbers.
+-- A max-min solve of the touched flows, by their numbers.
 use Rattle.std.specs.Prelude.{◌≡◌, ◌≢◌, ℕ, ◌+◌, ◌-◌, ◌*◌, ◌/◌, ◌<◌, ◌≤◌, ◌==◌, ◌⊎◌, Bool, true, false, AllPairs, Option, None, Some, IsSome, is_none, option_map, option_to_list, if◌then◌else◌, List, [], ◌∷◌, ◌++◌, map, flat_map, length, sum_by, min, All, Contains, slice_index, slice_index_or, slice_set}
 use Rattle.sg_maxmin.specs.Fill.{Flow, share_at, bound_level, level_of}
 use Rattle.sg_chains.specs.Chained.{times}
@@ -42,7 +42,7 @@ limits_at slots levels id = option_to_list (option_map (bound_level (weight_at s
 abbrev pub unfixed_limits : List (Option Flow) → List (Option ℕ) → List ℕ → List ℕ → List ℕ
 unfixed_limits slots fixed levels touched = flat_map (λ id. if is_none (fixed_at fixed id) then limits_at slots levels id else []) touched
 
--- the least of the list, or none where it is empty
+-- the least of the list, or none if it is empty
 abbrev pub IsLeast : Option ℕ → List ℕ → Type 0
 IsLeast None list = list ≡ []
 IsLeast (Some least) list = Contains list least × ((x : ℕ) → Contains list x → least ≤ x)
@@ -90,7 +90,7 @@ pub record AreCounted (s : Sharing) (fixed : List (Option ℕ)) (touched left wa
   pub left_is : (c : ℕ) → reached c ≡ true → slice_index left c ≡ slice_index s.capacities c - taken_on s.slots fixed touched c
   pub waiting_is : (c : ℕ) → reached c ≡ true → slice_index waiting c ≡ waiting_on s.slots fixed touched c
 
--- what a pass fixed on a resource, and the weights that wait there no more
+-- what a pass over the flows fixed on a resource, and the weights that wait there no more
 abbrev pub gained : List (Option Flow) → List (Option ℕ) → List (Option ℕ) → List ℕ → ℕ → ℕ
 gained slots old new touched c = sum_by (λ id. times c (uses_at slots id) * (given (flow_in slots id) (fixed_at new id) - given (flow_in slots id) (fixed_at old id))) touched
 
@@ -152,7 +152,7 @@ pub record HasResources (resources : ℕ) (filling : Filling) : Type 0 where
 abbrev pub bound_limit : List (Option Flow) → ℕ → Option ℕ
 bound_limit slots id = option_map (bound_level (weight_at slots id)) (bound_at slots id)
 
--- the level of a resource, where a flow waits there
+-- the level of a resource, if a flow waits there
 abbrev pub level_where : ℕ → ℕ → List ℕ
 level_where waiting level = if waiting == 0 then [] else level ∷ []
 
@@ -168,12 +168,12 @@ abbrev pub IsUpTo : ℕ → Option ℕ → Type 0
 IsUpTo level None = Unit {0}
 IsUpTo level (Some least) = level ≤ least
 
--- these places and the next one, or the next one alone where its level is below the least one, or these where it is above
+-- these places and the next one, or the next one alone if its level is below the least one, or these if it is above
 abbrev pub IsNextOf : ℕ → ℕ → ℕ → Span → Span → Type 0
 IsNextOf place level low old new =
     ((level < low) × (new.first ≡ place) × (new.end ≡ place + 1)) ⊎ (((level ≡ low) × (new.first ≡ old.first) × (new.end ≡ place + 1)) ⊎ ((low < level) × (new ≡ old)))
 
--- the same, where there may be no least level yet
+-- the same, if there may be no least level yet
 abbrev pub IsNext : ℕ → ℕ → Least → Least → Type 0
 IsNext place level old new =
     ((old.level ≡ None) × (new.at.first ≡ place) × (new.at.end ≡ place + 1)) ⊎ ((low : ℕ) × (old.level ≡ Some low) × IsNextOf place level low old.at new.at)
@@ -241,7 +241,7 @@ pub record StepsPartly (s : Sharing) (low : ℕ) (old new : Filling) : Type 0 wh
   pub fewer : (c : ℕ) → slice_index new.waiting.items c ≤ slice_index old.waiting.items c
   pub gone : (c : ℕ) → key_at old.agenda c ≡ None → key_at new.agenda c ≡ None
 
--- the same where no resource is noted and no key taken
+-- the same if no resource is noted and no key taken
 pub record FixesFlows (s : Sharing) (low : ℕ) (old new : Filling) : Type 0 where
   pub partly : StepsPartly s low old new
   pub agenda : new.agenda ≡ old.agenda
@@ -276,7 +276,7 @@ pub record CanFixBounded (s : Sharing) (touched : List ℕ) (low : ℕ) (floor :
   pub above : AreAbove s touched low filling
   pub floor_is : IsFloor floor (unfixed_bounds s.slots filling.fixed.items touched)
 
--- what fixes one flow, where it is unfixed, keeps the count of all flows among which it is
+-- what fixes one flow, if it is unfixed, keeps the count of all flows among which it is
 pub record FixesFlow (s : Sharing) (flow low : ℕ) (old new : Filling) (before after : ℕ) : Type 0 where
   pub fixes : FixesFlows s low old new
   pub count : (touched : List ℕ) → AllPairs (λ a b. a ≢ b) touched → is_in flow touched ≡ true → KeepsCount s touched old new before after

@@ -1,4 +1,4 @@
--- At which level a filling takes each resource: there it holds its flows.
+-- The level at which a max-min solve takes each resource: there it holds its flows.
 use Rattle.std.specs.Prelude.{◌≡◌, ℕ, ◌+◌, ◌*◌, ◌<◌, ◌≤◌, ◌==◌, ◌⊎◌, Bool, true, false, Option, None, Some, IsSome, is_none, if◌then◌else◌, List, Contains, length, sum_by, slice_index, slice_set}
 use Rattle.sg_base.specs.MarkSet.{is_in}
 use Rattle.sg_chains.specs.Chained.{users_on}
@@ -10,7 +10,7 @@ use Rattle.sg_filling.specs.declared.filling.Low.{Low}
 use Rattle.sg_filling.specs.Dates.{AreDated, HaveNone, IsIdle}
 use Rattle.sg_filling.specs.Filling.{AreAbove, AreCounted, AreFixed, AreJoined, AreLeveled, AreLevels, AreTaken, HasPlaces, IsFloor, IsLeast, KeepsFixed, KeepsHolds, KeepsOthers, StepsPartly, fixed_at, limits_at, unfixed_bounds, unfixed_limits, unfixed_uses}
 
--- a resource is noted where it is at this level
+-- a resource is noted if it is at this level
 abbrev pub noted_at : ℕ → ℕ → Filling → List (Option ℕ)
 noted_at low resource filling = if slice_index filling.levels.items resource == low then slice_set filling.holds.items resource (Some low) else filling.holds.items
 
@@ -30,17 +30,17 @@ AreUnder s touched filling =
     (id x limit : ℕ) → is_in id touched ≡ true → fixed_at filling.fixed.items id ≡ Some x →
     Contains (unfixed_limits s.slots filling.fixed.items filling.levels.items touched) limit → x < limit
 
--- a resource is noted at this level only where it is there
+-- a resource is noted at this level only if it is there
 abbrev pub MayHold : ℕ → ℕ → Option ℕ → Option ℕ → Type 0
 MayHold low level before after = (after ≡ before) ⊎ ((level ≡ low) × (after ≡ Some low))
 
--- a part of a step: of the reached resources those at this level are noted, where a flow waits there, and no others
+-- a part of a step: of the reached resources those at this level are noted, if a flow waits there, and no others
 pub record NotesHolds (reached : List ℕ) (low : ℕ) (old new : Filling) : Type 0 where
   pub others : KeepsHolds reached old new
   pub may : (c : ℕ) → MayHold low (slice_index old.levels.items c) (fixed_at old.holds.items c) (fixed_at new.holds.items c)
   pub taken : (c : ℕ) → is_in c reached ≡ true → slice_index old.levels.items c ≡ low → 0 < slice_index old.waiting.items c → fixed_at new.holds.items c ≡ Some low
 
--- how many users a resource has, where it is at this level
+-- how many users a resource has, if it is at this level
 abbrev pub users_at : Sharing → ℕ → ℕ → Filling → ℕ
 users_at s low resource filling = if slice_index filling.levels.items resource == low then length (users_on s.users resource) else 0
 
@@ -52,7 +52,8 @@ untaken s reached filling = sum_by (λ c. if is_none (fixed_at filling.holds.ite
 abbrev pub AreFresh : List ℕ → ℕ → Filling → Type 0
 AreFresh reached low filling = (c : ℕ) → is_in c reached ≡ true → slice_index filling.levels.items c ≡ low → fixed_at filling.holds.items c ≡ None
 
--- a filling between two steps: what is left and what waits is counted, the keys are right, and no unfixed flow has a bound below the floor
+-- a max-min solve between two steps: what remains and waits is counted, the keys are right, and no unfixed flow has a bound below the
+-- floor
 pub record IsUnderWay (s : Sharing) (touched reached : List ℕ) (floor : Option ℕ) (filling : Filling) : Type 0 where
   pub joined : AreJoined s touched reached
   pub places : HasPlaces s filling
@@ -60,7 +61,7 @@ pub record IsUnderWay (s : Sharing) (touched reached : List ℕ) (floor : Option
   pub dated : AreDated reached filling
   pub floor_is : IsFloor floor (unfixed_bounds s.slots filling.fixed.items touched)
 
--- a filling at the level of its next step
+-- a max-min solve at the level of its next step
 pub record IsAtLevel (s : Sharing) (touched reached : List ℕ) (low : Low) (filling : Filling) : Type 0 where
   pub joined : AreJoined s touched reached
   pub places : HasPlaces s filling
@@ -76,14 +77,14 @@ pub record CountsOnce (s : Sharing) (touched reached : List ℕ) (old new : Fill
   pub counted : (test : ℕ → Bool) → AreCounted s old.fixed.items touched old.left.items old.waiting.items test → AreCounted s new.fixed.items touched new.left.items new.waiting.items test
   pub looks : after + 2 * unfixed_uses s.slots new.fixed.items touched + untaken s reached new ≤ before + 2 * unfixed_uses s.slots old.fixed.items touched + untaken s reached old
 
--- the part of a step that is told by resources: all flows on those at its level are fixed
+-- the part of a step that goes by resources: all flows on those at its level are fixed
 pub record FixesUsers (s : Sharing) (touched reached : List ℕ) (low : Low) (old new : Filling) (before after : ℕ) : Type 0 where
   pub partly : StepsPartly s low.level old new
   pub noted : NotesHolds reached low.level old new
   pub on : (i : ℕ) → i < length reached → slice_index old.levels.items (slice_index reached i) ≡ low.level → AreFixed (users_on s.users (slice_index reached i)) new
   pub count : CountsOnce s touched reached old new before after
 
--- a filling at the level of its last step: all touched flows are unfixed and at it; no resource has a key
+-- a max-min solve at the level of its last step: all touched flows are unfixed and at it; no resource has a key
 pub record IsLast (s : Sharing) (touched reached : List ℕ) (low : ℕ) (filling : Filling) : Type 0 where
   pub joined : AreJoined s touched reached
   pub places : HasPlaces s filling
@@ -100,7 +101,7 @@ pub record FixesRest (s : Sharing) (touched reached : List ℕ) (low : ℕ) (old
   pub kept : KeepsFixed old new
   pub noted : NotesHolds reached low old new
 
--- a filling begins: no touched flow is fixed, and no reached resource is noted
+-- a max-min solve begins: no touched flow is fixed, and no reached resource is noted
 pub record IsBegun (s : Sharing) (touched reached : List ℕ) (filling : Filling) : Type 0 where
   pub unfixed : (i : ℕ) → i < length touched → fixed_at filling.fixed.items (slice_index touched i) ≡ None
   pub unnoted : (i : ℕ) → i < length reached → fixed_at filling.holds.items (slice_index reached i) ≡ None

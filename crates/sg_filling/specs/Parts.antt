@@ -1,4 +1,4 @@
--- What a settling has filled, part by part: a closed set of flows and resources, which grows by closed parts.
+-- What a rate update has solved: a closed set of flows and resources, which grows by closed parts.
 use Rattle.std.specs.Prelude.{◌≡◌, ℕ, ◌+◌, ◌*◌, ◌<◌, ◌≤◌, Bool, true, false, Some, All, List, IsSome, IsTrue, is_some, length, slice_index}
 use Rattle.sg_base.specs.MarkSet.{MarkSet, is_in}
 use Rattle.sg_chains.specs.Chained.{users_on}
@@ -40,18 +40,18 @@ pub record IsFilledBut (s : Sharing) (component : Component) (filling : Filling)
   pub held : IsSome (flow_at s.slots flow)
   pub untouched : is_in flow component.touched.members ≡ false
 
--- looks that suffice for the touched flows: six at each use, of which two reach it, one begins, and the others find and fix the flow
+-- visits that suffice for the touched flows: six to each use: two reach it, one begins, and the others find and fix the flow
 abbrev pub part_looks : Sharing → Component → ℕ
 part_looks s component = 6 * touched_uses s component
 
--- more is touched and reached, and filled, by so many looks
+-- more is touched and reached, and solved, by so many visits
 pub record FillsOn (s : Sharing) (old new : Component) (filling : Filling) (before after : ℕ) : Type 0 where
   pub filled : IsFilled s new filling
   pub touched : Grows old.touched.members new.touched.members
   pub reached : Grows old.reached.members new.reached.members
   pub looks : after + part_looks s old ≤ before + part_looks s new
 
--- Of filling from a start: what begins there is touched and reached, and nothing else but what sharing joins to it.
+-- Of a solve from a start: what begins there and its connected component are touched and reached, nothing else.
 pub record FillsFrom (s : Sharing) (Starts : (ℕ → Bool) → (ℕ → Bool) → Type 0) (old new : Component) (filling : Filling) (before after : ℕ) : Type 0 where
   pub on : FillsOn s old new filling before after
   pub there : Starts (λ id. is_in id new.touched.members) (λ r. is_in r new.reached.members)
@@ -61,13 +61,13 @@ pub record FillsFrom (s : Sharing) (Starts : (ℕ → Bool) → (ℕ → Bool) �
 abbrev pub RunningPass : List ℕ → List ℕ → (ℕ → Bool) → Type 0
 RunningPass numbers ended test = (id : ℕ) → is_in id numbers ≡ true → is_in id ended ≡ false → IsTrue (test id)
 
--- flows under these numbers are held, but for those that ended
+-- flows under these numbers are held, except for those that ended
 pub record AreHeldUnless (s : Sharing) (ended : MarkSet) (numbers : List ℕ) : Type 0 where
   pub room : length s.slots ≤ ended.room
   pub below : (i : ℕ) → i < length numbers → slice_index numbers i < length s.slots
   pub held : (i : ℕ) → i < length numbers → is_in (slice_index numbers i) ended.members ≡ false → IsSome (flow_at s.slots (slice_index numbers i))
 
--- What sharing joins to the marked flows that haven't ended, and to the resources: these, all that a flow or a resource of them leads to, and nothing else.
+-- The connected components of the marked flows that haven't ended, and of the resources: these, and all that a flow or a resource of them leads to.
 pub record IsJoinedTo (s : Sharing) (marked ended resources touched reached : List ℕ) : Type 0 where
   pub along : PassAlong s (λ id. is_in id touched) (λ r. is_in r reached)
   pub flows_there : (id : ℕ) → is_in id marked ≡ true → is_in id ended ≡ false → IsTrue (is_in id touched)

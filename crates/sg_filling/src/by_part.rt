@@ -1,4 +1,4 @@
-//! Filling part by part: what sharing joins to one flow is filled by itself.
+//! The max-min solve by component: each connected component is solved by itself.
 ghost use Rattle.std.specs.Prelude.{◌≡◌, ◌<◌, false, IsSome, IsTrue, All, length};
 ghost use Rattle.sg_base.specs.MarkSet.{is_in, with_mark};
 ghost use Rattle.sg_chains.specs.Chained.{users_on};
@@ -12,7 +12,7 @@ use sg_base::{Marks, Steps};
 use sg_maxmin::System;
 use std::sync::ledger::Ledger;
 
-// Fills what sharing joins to a flow that isn't touched.
+// Solves the connected component of a flow that isn't touched.
 fn fill_part<L: Ledger>(
     system: &System,
     flow: usize,
@@ -37,7 +37,7 @@ fn fill_part<L: Ledger>(
     );
 }
 
-// Fills what sharing joins to a marked flow, unless it ended or is filled already.
+// Solves the connected component of a marked flow, unless it ended or is solved already.
 fn fill_running<L: Ledger>(
     system: &System,
     flow: usize,
@@ -61,7 +61,7 @@ fn fill_running<L: Ledger>(
     fill_part(system, flow, component, filling, steps);
 }
 
-/// Fills what sharing joins to the marked flows, but for those that ended: one part after the other.
+/// Solves the connected components of the marked flows, except those that ended: one after the other.
 pub fn fill_marked<L: Ledger>(
     system: &System,
     marked: &[usize],
@@ -80,7 +80,7 @@ pub fn fill_marked<L: Ledger>(
     }
 }
 
-// Fills what sharing joins to a resource that isn't reached, and that flows use.
+// Solves the connected component of a resource that isn't reached, and that flows use.
 fn fill_from<L: Ledger>(
     system: &System,
     resource: usize,
@@ -120,7 +120,7 @@ fn reach_free(system: &System, resource: usize, component: &mut Component, filli
     filling.holds[resource] = None;
 }
 
-// Fills what sharing joins to a resource, unless it is filled already.
+// Solves the connected component of a resource, unless it is solved already.
 fn fill_on<L: Ledger>(
     system: &System,
     resource: usize,
@@ -141,7 +141,7 @@ fn fill_on<L: Ledger>(
     }
 }
 
-/// Fills what sharing joins to these resources: one part after the other.
+/// Solves the connected components of these resources: one after the other.
 pub fn fill_on_all<L: Ledger>(
     system: &System,
     resources: &[usize],

@@ -1,4 +1,4 @@
-//! The flows and resources that sharing joins to what changed.
+//! The flows and resources in the connected components of what changed.
 ghost use Rattle.std.specs.Prelude.{◌≡◌, ◌≤◌, ◌<◌, ◌+◌, ℕ, Bool, IfOk, IsTrue, All, length, take};
 ghost use Rattle.sg_base.specs.MarkSet.{is_in};
 ghost use Rattle.sg_chains.specs.Chained.{users_on};
@@ -18,7 +18,7 @@ pub struct Component {
 }
 
 impl Component {
-    /// Nothing is touched, and there is room for so many resources.
+    /// Makes a component with nothing touched, and room for so many resources.
     pub fn new(alloc: Global, resources: usize) -> Result<Component, Memory>
         ensures { IfOk result (λ component. component.reached.room ≡ resources) }
     {
@@ -95,8 +95,8 @@ fn touch_users<L: Ledger>(
     }
 }
 
-/// Touches all flows that are joined to the touched flows and the reached resources. Those on the first so many
-/// resources are touched already.
+/// Touches all flows in the connected components of the touched flows and the reached resources. Those on the first so
+/// many resources are touched already.
 pub fn reach<L: Ledger>(
     system: &System,
     visited: usize,

@@ -1,4 +1,5 @@
-//! The keys of a long filling: each resource on which a flow waits has its level for a date, so that the least is at hand.
+//! The keys of a long solve: each resource on which a flow waits has its level as its date, so the least is found at
+//! once.
 ghost use Rattle.std.specs.Prelude.{◌≡◌, ◌<◌, ℕ, true, false, IfNone, IfSome, IsSome, Some, All, length, slice_index, slice_set};
 ghost use Rattle.sg_base.specs.MarkSet.{is_in};
 ghost use Rattle.sg_heap.specs.Agenda.{Key, key_at};
@@ -7,17 +8,17 @@ ghost use Rattle.sg_filling.specs.Dates.{HaveKeys, HaveNone, key_where};
 use sg_base::Serial;
 use sg_heap::Agenda;
 
-// Few resources, and those of a filling of few steps, are looked through at less cost than keys are kept.
+// Scanning few resources, or those of a solve of few steps, costs less than keeping keys.
 const FEW: usize = 16;
 
 const STEPS: usize = 8;
 
-/// Whether these resources are given keys before this step of a filling.
+/// Returns whether these resources are given keys before this step of a max-min solve.
 pub fn is_late(step: usize, reached: &[usize]) -> bool {
     step == STEPS && reached.len() > FEW
 }
 
-/// Whether a resource has a key.
+/// Returns whether a resource has a key.
 pub fn has_keys(agenda: &Agenda) -> bool
     ensures some { result ≡ true → HaveKeys agenda.now }
     ensures none { result ≡ false → HaveNone agenda.now }
@@ -28,7 +29,7 @@ pub fn has_keys(agenda: &Agenda) -> bool
     }
 }
 
-// Gives a resource the key of its level, where a flow waits there, and else none.
+// Gives a resource the key of its level, if a flow waits there, and else none.
 fn date_anew(agenda: &mut Agenda, resource: usize, waiting: u64, level: u64)
     requires { resource < length agenda.old }
     ensures { agenda.new ≡ slice_set agenda.old resource (key_where waiting level) }
@@ -40,7 +41,7 @@ fn date_anew(agenda: &mut Agenda, resource: usize, waiting: u64, level: u64)
     }
 }
 
-/// Gives the listed resources their keys, where any are kept.
+/// Gives the listed resources their keys, if any are kept.
 pub fn date_all(kept: bool, listed: &[usize], waiting: &[u64], levels: &[u64], agenda: &mut Agenda)
     requires waiting { All (λ c. c < length waiting.now) listed.now }
     requires levels { All (λ c. c < length levels.now) listed.now }
@@ -60,7 +61,7 @@ pub fn date_all(kept: bool, listed: &[usize], waiting: &[u64], levels: &[u64], a
     }
 }
 
-/// The resource whose level comes first, where that is this level or below.
+/// Returns the resource whose level comes first, if that is this level or below.
 pub fn due(agenda: &Agenda, low: u64) -> Option<usize>
     ensures first { IfSome result (λ c. IsSome (key_at agenda.now c)) }
     ensures none { IfNone result

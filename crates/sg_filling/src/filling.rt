@@ -1,4 +1,4 @@
-//! The filling of the touched flows alone.
+//! The max-min solve of the touched flows alone.
 ghost use Rattle.std.specs.Prelude.{◌≡◌, ◌≢◌, ◌≤◌, ◌<◌, ◌+◌, ◌-◌, ◌*◌, ◌/◌, ◌^◌, ◌++◌, ◌∷◌, ℕ, List, [], Option, None, Some, IfOk, IfSome, IsSome, true, false, AllPairs, All, length, min, option_map, option_to_list, slice_index, slice_set, sum_by};
 ghost use Rattle.sg_base.specs.MarkSet.{is_in, with_mark};
 ghost use Rattle.sg_chains.specs.Chained.{users_on};
@@ -18,25 +18,25 @@ use sg_maxmin::System;
 use std::alloc::Global;
 use std::sync::ledger::Ledger;
 
-/// What a filling writes down.
+/// The state of a max-min solve.
 #[derive(Drop)]
 pub struct Filling {
     // under each flow, the level at which it is fixed
     pub fixed: Vec<Option<u64>>,
     // under each resource, the level at which it was taken: there it holds its flows; None: it holds none
     pub holds: Vec<Option<u64>>,
-    // under each resource, what is left of it, the weight of the unfixed flows on it, and its level
+    // under each resource, what remains of it, the weight of the unfixed flows on it, and its level
     pub left: Vec<u64>,
     pub waiting: Vec<u64>,
     pub levels: Vec<u64>,
     // the resources whose levels must be divided again
     pub stale: Marks,
-    // in a long filling, the levels of the resources on which a flow waits
+    // in a long solve, the levels of the resources on which a flow waits
     pub agenda: Agenda,
 }
 
 impl Filling {
-    /// Places for resources with these capacities, and for no flow yet.
+    /// Makes places for resources with these capacities, and for no flow yet.
     pub fn new(alloc: Global, capacities: &[u64]) -> Result<Filling, Memory>
         ensures { IfOk result (HasResources (length capacities.now)) }
     {
@@ -70,8 +70,8 @@ struct Least {
     at: Span,
 }
 
-// The level of a step, and one that no bound of an unfixed flow is below. Where there is none, no such flow has a bound.
-// The resources at the level stand at these places, as far as flows wait there.
+// The level of a step, and one that no bound of an unfixed flow is below. If it is `None`, no such flow has a bound. The
+// resources at the level stand at these places, as far as flows wait there.
 #[derive(Clone, Copy)]
 struct Low {
     level: u64,
@@ -79,7 +79,7 @@ struct Low {
     at: Span,
 }
 
-// The level of a bound.
+// Returns the level of a bound.
 fn bound_level(weight: u32, bound: Option<u64>) -> Option<u64>
     requires { 0 < weight }
     ensures { result ≡ option_map (level_of_bound weight) bound }
@@ -90,7 +90,7 @@ fn bound_level(weight: u32, bound: Option<u64>) -> Option<u64>
     }
 }
 
-// The share at a level, or the greatest number where that is less.
+// Returns the share at a level, or the greatest number if that is less.
 fn capped_share(weight: u32, bound: Option<u64>, level: u64) -> u64
     ensures { result ≡ min (bounded bound (weight * level)) (2 ^ 64 - 1) }
 {
@@ -101,7 +101,7 @@ fn capped_share(weight: u32, bound: Option<u64>, level: u64) -> u64
     }
 }
 
-// More waits at a resource.
+// Adds to the weight that waits at a resource.
 fn add(amounts: &mut [u64], resource: usize, more: u64)
     requires resource { resource < length amounts.old }
     requires fits { slice_index amounts.old resource + more < 2 ^ 64 }
@@ -111,7 +111,7 @@ fn add(amounts: &mut [u64], resource: usize, more: u64)
     amounts[resource] += more;
 }
 
-// A flow waits with its weight at each of its resources.
+// Makes a flow wait with its weight at each of its resources.
 fn add_uses<L: Ledger>(system: &System, flow: usize, waiting: &mut [u64], steps: &mut Steps<L>)
     requires held { IsSome (flow_at system.now.slots flow) }
     requires exist { All (λ c. c < length waiting.old) (uses_at system.now.slots flow) }
@@ -130,14 +130,14 @@ fn add_uses<L: Ledger>(system: &System, flow: usize, waiting: &mut [u64], steps:
     }
 }
 
-// What is left where a share is given, of which a greatest number may stand for more.
+// Returns what remains if a share is given; a share that is the greatest number may stand for more.
 fn less(left: u64, share: u64) -> u64
     ensures { (given : ℕ) → share ≡ min given (2 ^ 64 - 1) → result ≡ left - given }
 {
     left.saturating_sub(share)
 }
 
-// A flow waits no more at a resource: its share is taken off what is left there, and the level must be divided again.
+// Ends a flow's wait at a resource: its share is subtracted from what remains, and the level must be divided again.
 fn take_use(resource: usize, weight: u32, share: u64, filling: &mut Filling)
     requires left { resource < length filling.old.left.items }
     requires waiting { resource < length filling.old.waiting.items }
@@ -157,7 +157,7 @@ fn take_use(resource: usize, weight: u32, share: u64, filling: &mut Filling)
     filling.stale.insert(resource);
 }
 
-// What is left, for each unit of weight that waits. Often that is one, and a division takes its time.
+// Returns what remains for each unit of weight that waits. Often that weight is 1, and a division takes long.
 fn level(left: u64, waiting: u64) -> u64
     ensures { result ≡ left / waiting }
 {
@@ -168,7 +168,7 @@ fn level(left: u64, waiting: u64) -> u64
     }
 }
 
-// The levels of the listed resources.
+// Computes the levels of the listed resources.
 fn set_levels(listed: &[usize], left: &[u64], waiting: &[u64], levels: &mut [u64])
     requires left { All (λ c. c < length left.now) listed.now }
     requires waiting { All (λ c. c < length waiting.now) listed.now }
@@ -185,7 +185,7 @@ fn set_levels(listed: &[usize], left: &[u64], waiting: &[u64], levels: &mut [u64
     }
 }
 
-// The smaller of the two, where there are two.
+// Returns the smaller of the two, if there are two.
 fn smaller(least: Option<u64>, level: u64) -> Option<u64>
     ensures { result ≡ Some (least_with least level) }
 {
@@ -195,7 +195,7 @@ fn smaller(least: Option<u64>, level: u64) -> Option<u64>
     }
 }
 
-// The same, where a flow waits at the level of the resource at this place.
+// Does the same, if a flow waits at the level of the resource at this place.
 fn with_level(place: usize, level: u64, least: Least) -> Least
     requires { place + 1 < 2 ^ 64 }
     ensures level { result.level ≡ Some (least_with least.level level) }
@@ -211,7 +211,7 @@ fn with_level(place: usize, level: u64, least: Least) -> Least
     }
 }
 
-// The same, where the least level is this one.
+// Does the same, if the least level is this one.
 fn with_other(place: usize, level: u64, low: u64, at: Span) -> Least
     requires { place + 1 < 2 ^ 64 }
     ensures level { result.level ≡ Some (min low level) }
@@ -239,7 +239,7 @@ fn with_other(place: usize, level: u64, low: u64, at: Span) -> Least
     }
 }
 
-// The same, whether a flow waits there or not.
+// Does the same, whether a flow waits there or not.
 fn with_resource(place: usize, waiting: u64, level: u64, least: Least) -> Least
     requires { place + 1 < 2 ^ 64 }
     ensures idle { waiting ≡ 0 → result ≡ least }
@@ -253,7 +253,7 @@ fn with_resource(place: usize, waiting: u64, level: u64, least: Least) -> Least
     }
 }
 
-// The least level of a resource on which a flow waits, by looking through all.
+// Finds the least level of a resource on which a flow waits, by scanning all.
 fn lowest_level(reached: &[usize], waiting: &[u64], levels: &[u64]) -> Least
     requires waiting { All (λ c. c < length waiting.now) reached.now }
     requires levels { All (λ c. c < length levels.now) reached.now }
@@ -271,7 +271,7 @@ fn lowest_level(reached: &[usize], waiting: &[u64], levels: &[u64]) -> Least
     least
 }
 
-// The least level of a resource on which a flow waits.
+// Returns the least level of a resource on which a flow waits.
 fn least_level(reached: &[usize], filling: &Filling) -> Least
     requires dated { AreDated reached.now filling.now }
     requires slots { length filling.now.agenda ≡ length filling.now.levels.items }
@@ -294,7 +294,7 @@ fn least_level(reached: &[usize], filling: &Filling) -> Least
     }
 }
 
-// The lesser of the level of a flow's bound, and of what was found before.
+// Returns the lesser of the level of a flow's bound, and of what was found before.
 fn least_with_bound(system: &System, flow: usize, least: Option<u64>) -> Option<u64>
     requires { IsHeld system.now flow }
     ensures { (list : List ℕ) → IsLeast least list
@@ -306,7 +306,7 @@ fn least_with_bound(system: &System, flow: usize, least: Option<u64>) -> Option<
     }
 }
 
-// The least level of the bound of an unfixed flow.
+// Returns the least level of the bound of an unfixed flow.
 fn lowest_bound(system: &System, touched: &[usize], fixed: &[Option<u64>]) -> Option<u64>
     requires part { ArePart system.now touched.now }
     requires fixed { length system.now.slots ≤ length fixed.now }
@@ -321,7 +321,7 @@ fn lowest_bound(system: &System, touched: &[usize], fixed: &[Option<u64>]) -> Op
     least
 }
 
-// Whether the bounds of all unfixed flows are above this level.
+// Returns whether the bounds of all unfixed flows are above this level.
 fn is_over(floor: Option<u64>, level: u64) -> bool
     ensures { result ≡ true → IsOver floor level }
 {
@@ -331,7 +331,7 @@ fn is_over(floor: Option<u64>, level: u64) -> bool
     }
 }
 
-// The level, where it is below all bounds of unfixed flows.
+// Returns the level, if it is below all bounds of unfixed flows.
 fn below_bounds(least: Least, floor: Option<u64>) -> Option<Low>
     ensures { IfSome result (λ low. (least.level ≡ Some low.level) × (low.floor ≡ floor)
         × IsOver floor low.level × (low.at ≡ least.at)) }
@@ -352,7 +352,7 @@ fn below_bounds(least: Least, floor: Option<u64>) -> Option<Low>
     }
 }
 
-// The lesser of a level, where there is one, and of a bound's.
+// Returns the lesser of a level, if there is one, and of a bound's.
 fn lesser_of(level: Option<u64>, bound: u64) -> u64
     ensures lesser { result ≡ least_with level bound }
     ensures up { IsUpTo result level }
@@ -363,7 +363,7 @@ fn lesser_of(level: Option<u64>, bound: u64) -> u64
     }
 }
 
-// The level, where there are no bounds.
+// Returns the level, if there are no bounds.
 fn unbounded(least: Least) -> Option<Low>
     ensures low { (levels : List ℕ) → IsLeast least.level levels → IsLow result levels [] }
     ensures at { IfSome result (λ low. IsUpTo low.level least.level × (low.at ≡ least.at)) }
@@ -378,7 +378,7 @@ fn unbounded(least: Least) -> Option<Low>
     }
 }
 
-// The lesser of the least level and of the least level of a bound, where there are any.
+// Returns the lesser of the least level and of the least level of a bound, if there are any.
 fn lesser(least: Least, floor: Option<u64>) -> Option<Low>
     ensures low { (levels bounds : List ℕ) → IsLeast least.level levels → IsLeast floor bounds
         → IsLow result (levels ++ bounds) bounds }
@@ -394,7 +394,7 @@ fn lesser(least: Least, floor: Option<u64>) -> Option<Low>
     }
 }
 
-// The least of what limits the unfixed flows. Their bounds are looked at only where the lowest level reaches them.
+// Finds the least of what limits the unfixed flows. Their bounds are read only if the lowest level reaches them.
 fn lowest(
     system: &System,
     touched: &[usize],
@@ -440,7 +440,7 @@ fn fix<L: Ledger>(
     }
 }
 
-// Fixes a flow at this level, where it is unfixed.
+// Fixes a flow at this level, if it is unfixed.
 fn fix_flow<L: Ledger>(
     system: &System,
     flow: usize,
@@ -484,7 +484,7 @@ fn fix_users<L: Ledger>(
     }
 }
 
-// Fixes the unfixed flows on a resource, where it is at this level, and notes that.
+// Fixes the unfixed flows on a resource, if it is at this level, and notes that.
 fn fix_on<L: Ledger>(
     system: &System,
     resource: usize,
@@ -509,7 +509,7 @@ fn fix_on<L: Ledger>(
     }
 }
 
-// Whether the bound of a flow is at this level.
+// Returns whether the bound of a flow is at this level.
 fn is_bound_at(system: &System, flow: usize, low: u64) -> bool
     requires { IsHeld system.now flow }
     ensures at { result ≡ true → bound_limit system.now.slots flow ≡ Some low }
@@ -521,7 +521,7 @@ fn is_bound_at(system: &System, flow: usize, low: u64) -> bool
     }
 }
 
-// Fixes a flow, where it is unfixed and its bound is at this level.
+// Fixes a flow, if it is unfixed and its bound is at this level.
 fn fix_bounded<L: Ledger>(
     system: &System,
     flow: usize,
@@ -568,7 +568,7 @@ fn fix_all_bounded<L: Ledger>(
     }
 }
 
-// Fixes the unfixed flows on the resources that are at this level, by looking through all.
+// Fixes the unfixed flows on the resources that are at this level, by scanning all.
 fn fix_each<L: Ledger>(
     system: &System,
     touched: &[usize],
@@ -676,7 +676,7 @@ fn renew(system: &System, filling: &mut Filling)
     filling.stale.clear();
 }
 
-// One step: each unfixed flow that is at this level is fixed.
+// Runs one step: fixes each unfixed flow that is at this level.
 fn step<L: Ledger>(
     system: &System,
     touched: &[usize],
@@ -700,7 +700,7 @@ fn step<L: Ledger>(
     renew(system, filling);
 }
 
-// Whether the touched flows together have this weight.
+// Returns whether the touched flows together have this weight.
 fn weigh(system: &System, touched: &[usize], weight: u64) -> bool
     requires { All (λ id. IsSome (flow_at system.now.slots id)) touched.now }
     ensures { result ≡ true → weight ≡ sum_by (weight_at system.now.slots) touched.now }
@@ -716,7 +716,7 @@ fn weigh(system: &System, touched: &[usize], weight: u64) -> bool
     rest == 0
 }
 
-// Whether a resource is at this level, and the weight of all touched flows waits there.
+// Returns whether a resource is at this level, and the weight of all touched flows waits there.
 fn holds_all(
     system: &System,
     touched: &[usize],
@@ -738,8 +738,8 @@ fn holds_all(
     }
 }
 
-// Whether the first step is the last one too, as one resource holds all touched flows. Behind it a flow is fixed, so that
-// no later step is asked.
+// Returns whether the first step is the last one too, as one resource holds all touched flows. After it a flow is
+// fixed, so that no later step is asked.
 fn is_last(
     step: usize,
     system: &System,
@@ -808,7 +808,7 @@ fn note_reached(
     }
 }
 
-// The last step, at this level: since no other comes, what is left and the levels stay as they are.
+// Runs the last step, at this level: since no other follows, what remains and the levels stay as they are.
 fn fix_rest(system: &System, touched: &[usize], reached: &[usize], low: u64, filling: &mut Filling)
     requires { IsLast system.now touched.now reached.now low filling.old }
     ensures { FixesRest system.now touched.now reached.now low filling.old filling.new }
@@ -823,7 +823,7 @@ fn fix_rest(system: &System, touched: &[usize], reached: &[usize], low: u64, fil
     );
 }
 
-// The steps of a filling, from no flow fixed on, until all touched flows are fixed.
+// Runs the steps of a max-min solve, from no flow fixed on, until all touched flows are fixed.
 fn fill_steps<L: Ledger>(
     system: &System,
     touched: &[usize],
@@ -865,7 +865,7 @@ fn fill_steps<L: Ledger>(
     }
 }
 
-// All of the reached resources is left, and none is noted.
+// Makes the whole of the reached resources available, and notes none.
 fn reset(system: &System, reached: &[usize], left: &mut [u64], holds: &mut [Option<u64>])
     requires exist { All (λ c. c < length system.now.capacities) reached.now }
     requires left { length left.old ≡ length system.now.capacities }
@@ -884,7 +884,7 @@ fn reset(system: &System, reached: &[usize], left: &mut [u64], holds: &mut [Opti
     }
 }
 
-// No touched flow is fixed, and each waits at its resources.
+// Unfixes all touched flows, and makes each wait at its resources.
 fn unfix<L: Ledger>(
     system: &System,
     touched: &[usize],

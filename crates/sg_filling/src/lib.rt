@@ -1,6 +1,6 @@
-//! Filling of the flows and resources that sharing joins to what changed, one part after the other: the level of each
-//! such flow, and where each such resource holds its flows.
-//! One enters by `Parts`: `fill` fills, and `filled` tells what it found, for `Levels::refill`.
+//! The max-min solve of the connected components of what changed, one after the other: the level of each of their flows,
+//! and where each of their resources holds its flows.
+//! The type is `Parts`: `fill` solves, and `filled` returns the result, for `Levels::refill`.
 //! It stands on `sg_base`, on the `System` of `sg_maxmin`, on `sg_chains`, on the `Agenda` of `sg_heap`, and on the holds
 //! of `sg_levels`.
 #![tactic(auto)]

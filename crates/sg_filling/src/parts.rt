@@ -1,4 +1,4 @@
-//! What sharing joins to some flows and resources, with what a filling of it finds.
+//! The connected components of some flows and resources, with the result of their max-min solve.
 ghost use Rattle.std.specs.Prelude.{◌≡◌, ◌≢◌, ◌≤◌, ◌<◌, ◌+◌, ℕ, All, AllPairs, IfOk, OnOk, length};
 ghost use Rattle.sg_levels.specs.Kept.{IsFound};
 ghost use Rattle.sg_filling.specs.Parts.{AreHeldUnless, IsJoinedTo, IsReady, part_looks};
@@ -12,14 +12,14 @@ use sg_maxmin::System;
 use std::alloc::Global;
 use std::sync::ledger::Ledger;
 
-/// The flows and resources that sharing joins to what changed, with the levels and the holds of their filling.
+/// The flows and resources in the connected components of what changed, with their max-min levels and holds.
 #[derive(Drop)]
 pub struct Parts {
     pub(crate) component: Component,
     pub(crate) filling: Filling,
 }
 
-// Places for the levels of flows of numbers below n.
+// Makes places for the levels of flows of numbers below n.
 fn grow_fixed(n: usize, fixed: &mut Vec<Option<u64>>) -> Result<(), Memory>
     ensures grows { length fixed.old.items ≤ length fixed.new.items }
     ensures room { OnOk result (n ≤ length fixed.new.items) }
@@ -31,7 +31,7 @@ fn grow_fixed(n: usize, fixed: &mut Vec<Option<u64>>) -> Result<(), Memory>
 }
 
 impl Parts {
-    /// Nothing is joined yet, of resources with these capacities; there is room for no flow.
+    /// Makes the state with nothing reached yet, of resources with these capacities; there is room for no flow.
     pub fn new(alloc: Global, capacities: &[u64]) -> Result<Parts, Memory>
         ensures { IfOk result (IsReady 0 (length capacities.now)) }
     {
@@ -40,7 +40,7 @@ impl Parts {
         Ok(Parts { component, filling })
     }
 
-    /// Makes room for flows of numbers below n. The room doesn't shrink, also where there is no memory.
+    /// Makes room for flows of numbers below n. The room doesn't shrink, even if memory runs out.
     pub fn reserve(&mut self, n: usize) -> Result<(), Memory>
         ensures kept { (k r : ℕ) → IsReady k r self.old → IsReady k r self.new }
         ensures room { OnOk result ((k r : ℕ) → IsReady k r self.old → IsReady n r self.new) }
@@ -49,7 +49,7 @@ impl Parts {
         self.component.touched.reserve(n)
     }
 
-    /// Fills what sharing joins to the marked flows, but for those that ended, and to these resources: one part after
+    /// Solves the connected components of the marked flows, except those that ended, and of these resources: one after
     /// the other, each by itself.
     pub fn fill<L: Ledger>(
         &mut self,
@@ -90,7 +90,7 @@ impl Parts {
         );
     }
 
-    /// The flows that the last filling touched, each once.
+    /// Returns the flows that the last solve touched, each once.
     pub fn touched(&self) -> &[usize]
         ensures members { result.now ≡ self.now.component.touched.members }
         ensures once { AllPairs (λ a b. a ≢ b) result.now }
@@ -98,7 +98,7 @@ impl Parts {
         self.component.touched.members()
     }
 
-    /// The resources that the last filling reached, each once.
+    /// Returns the resources that the last solve reached, each once.
     pub fn reached(&self) -> &[usize]
         ensures members { result.now ≡ self.now.component.reached.members }
         ensures once { AllPairs (λ a b. a ≢ b) result.now }
@@ -106,7 +106,7 @@ impl Parts {
         self.component.reached.members()
     }
 
-    /// What the last filling found: the levels of the touched flows, and the holds of the reached resources.
+    /// Returns the result of the last solve: the levels of the touched flows, and the holds of the reached resources.
     pub fn filled(&self) -> Filled<'_>
         ensures flows { result.flows.now ≡ self.now.component.touched.members }
         ensures resources { result.resources.now ≡ self.now.component.reached.members }

@@ -96,7 +96,7 @@ module _ (heap : List Entry) (place : List ℕ) (at : ℕ) (entry : Entry) (p : 
       (ap (key_in (set heap at entry) count) at_slot ∙ key_in_yes (set heap at entry) count at entry lc (get_or-set_same heap at entry no_entry la'))
       (λ i h ne. ap (λ x. cond (ltb (get_or place i 0) count) (Some (key_of x)) None) (get_or-set_other heap at (get_or place i 0) entry no_entry (elsewhere i h ne))))
 
-  -- The entry comes to the place behind the last with a key, and what stood there comes here.
+  -- The entry comes to the place after the last with a key, and what stood there comes here.
   module _ (count : ℕ) (behind : count ≤ at) where
     abbrev pub added_heap : List Entry
     added_heap = set (set heap at (entry_at heap count)) count entry
@@ -168,7 +168,7 @@ module _ (heap : List Entry) (place : List ℕ) (at : ℕ) (entry : Entry) (p : 
             let apart : at ≢ count = λ q. elsewhere i h ne (old ∙ sym q) in
             ap (key_in added_heap (count + 1)) new ∙ key_in_no added_heap (count + 1) at (omega (arith, apart, behind)) ∙ sym (ap (key_in heap count) old ∙ key_in_no heap count count (omega arith))
 
--- The entry here goes behind those with a key, and the last of these comes here.
+-- The entry here goes after those with a key, and the last of these comes here.
 module _ (heap : List Entry) (place : List ℕ) (at last : ℕ) (p : ArePlaced heap place) (la : at ≤ last) (ll : last < length place) where
   pub record IsTaken (heap' : List Entry) (place' : List ℕ) : Type 0 where
     pub placed : ArePlaced heap' place'

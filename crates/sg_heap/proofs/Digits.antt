@@ -30,7 +30,7 @@ grows (suc most) a b p h = elim (none_or_some a) [
 pub digits-le : (a b : ℕ) → a ≤ b → digits a ≤ digits b
 digits-le a b h = grows a a b (omega arith) h
 
--- twice as much has one digit more
+-- twice as much has one more digit
 digits-double : (n m : ℕ) → 0 < n → 2 * n ≤ m → digits n + 1 ≤ digits m
 digits-double n m some h = omega (arith, digits_half m (omega arith), digits-le n (m / 2) (omega arith))
 

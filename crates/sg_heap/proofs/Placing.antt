@@ -130,7 +130,7 @@ over l i j x y z = elim (eq_cases j i) [
     set-comm (w ∷ l) (suc i) zero x y ne = refl
     set-comm (w ∷ l) (suc i) (suc j) x y ne = ap (λ m. w ∷ m) (set-comm l i j x y (λ e. ne (ap suc e)))
 
--- The entry in hand stands, for the proof, at one place. Where another entry comes there, and the one in hand goes to that one's place, the two have changed places.
+-- The entry in hand stands, for the proof, at one place. If another entry comes there, and the one in hand goes to that one's place, the two have changed places.
 pub moved_heap : (heap : List Entry) (at to : ℕ) (entry : Entry) → at ≢ to → at < length heap → set (set heap at (entry_at heap to)) to entry ≡ swap_heap (set heap at entry) at to
 moved_heap heap at to entry ne la =
     let at_to : entry_at (set heap at entry) to ≡ entry_at heap to = get_or-set_other heap at to entry no_entry (λ e. ne (sym e)) in

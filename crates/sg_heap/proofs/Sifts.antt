@@ -99,7 +99,7 @@ loose_moved heap heap' count at to s less in' parent first r = record { order = 
 pub loose_rises : (heap : List Entry) (count at : ℕ) → count ≤ 2 * at + 1 → MayMove heap count at → MayRise heap count at
 loose_rises heap count at end r = record { order = λ i hi hc ne. r.order i hi hc ne (λ q. omega (arith, q, hi, hc, end)); spanned = r.spanned }
 
--- a new entry behind a heap
+-- a new entry after a heap
 pub rises_new : (heap heap' : List Entry) (count : ℕ) → IsHeap heap count → ((i : ℕ) → i < count → entry_at heap' i ≡ entry_at heap i) → MayRise heap' (count + 1) count
 unfolding IsHeap
 rises_new heap heap' count h same = record {

@@ -1,4 +1,4 @@
--- An agenda as a whole: empty, with one slot more, and its least key.
+-- An agenda as a whole: empty, with one more slot, and its least key.
 use Rattle.std.proofs.Common.{◌≡◌, ℕ, ◌+◌, ◌<◌, ◌≤◌, inl, inr, List, [], ◌∷◌, ◌++◌, length, get_or, Option, None, Some, cond, ltb, is_some, lt-ltb, length-append, append-nil, append_assoc, ◌-◌, replicate, refl, sym, ap, subst, ◌∙◌, arith}
 use Rattle.std.proofs.lemmas.List.{ext_get_or, get_or_past, get_or_append_left, get_or_push, replicate-append-replicate}
 use Rattle.std.proofs.lemmas.List.Sums.{sum_by-append, sum_by-cons}
@@ -48,7 +48,7 @@ none_is heap place slot = elim (lt_cases slot (length place)) [
   | inr m ↦ get_or_past (keys_of heap place 0) slot None (subst (λ n. n ≤ slot) (sym (length-keys heap place 0)) m)
 ]
 
--- one slot more, with no key
+-- one more slot, with no key
 module _ (heap : List Entry) (place : List ℕ) (count : ℕ) (entry : Entry) (a : IsAgenda heap place count) (its : entry.slot ≡ length place) where
   abbrev more_heap : List Entry
   more_heap = heap ++ entry ∷ []

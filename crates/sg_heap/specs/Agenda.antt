@@ -3,12 +3,12 @@ use Rattle.std.specs.Prelude.{◌≡◌, ℕ, ◌-◌, ◌<◌, ◌≤◌, ◌�
 use Rattle.std.specs.Int.Digits.{digits_of}
 use Rattle.sg_base.specs.declared.ids.Serial.{Serial}
 
--- when something is due, and the serial by which it comes before what is due at the same date
+-- when something completes, and the activity id that orders what completes at the same date
 pub record Key : Type 0 where
   pub date : ℕ
   pub serial : ℕ
 
--- by date, then by serial
+-- by date, then by activity id
 abbrev pub IsNoLater : Key → Key → Type 0
 IsNoLater a b = (a.date < b.date) ⊎ ((a.date ≡ b.date) × (a.serial ≤ b.serial))
 
@@ -25,7 +25,7 @@ pub record IsLeast (keys : List (Option Key)) (slot : ℕ) (key : Key) : Type 0 
   pub there : key_at keys slot ≡ Some key
   pub least : (other : ℕ) (its : Key) → key_at keys other ≡ Some its → IsNoLater key its
 
--- the key of a date and a serial
+-- the key of a date and an activity id
 abbrev pub key : ℕ → Serial → Key
 key date serial = record { date = date; serial = serial.0 }
 

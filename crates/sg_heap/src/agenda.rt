@@ -10,11 +10,11 @@ use std::alloc::Global;
 use std::marker::{Brand, Model};
 use std::sync::ledger::{Blank, Ledger};
 
-/// Slots, some of which have a key: a date in nanoseconds, and a serial. The key with the least date comes first,
-/// and at one date the one with the least serial.
+/// Slots, some of which have a key: a date in nanoseconds, and an activity id. The key with the least date comes first,
+/// and at one date the one with the least id.
 ///
-/// Contracts see for each slot its key or none. Slots are numbered from 0 on, and `reserve` makes them; nothing
-/// else takes memory.
+/// Contracts see for each slot its key or none. Slots are numbered from 0 on, and `reserve` makes them; nothing else
+/// takes memory.
 #[derive(Drop)]
 pub struct Agenda {
     // an entry for each slot up to the last that ever had a key: first those with a key, as a binary heap, then the others
@@ -44,7 +44,7 @@ impl Model for Agenda {
 }
 
 impl Agenda {
-    /// An agenda with no slots.
+    /// Makes an agenda with no slots.
     pub fn new(alloc: Global) -> Result<Agenda, Memory>
         ensures { IfOk result (λ agenda. agenda ≡ []) }
     {
@@ -57,7 +57,7 @@ impl Agenda {
     }
 
     /// Makes room for so many slots in all. Those that come have no key, and there are never less than before.
-    /// Where there is no memory for all of them, none comes; where none has to come, none is taken.
+    /// If there is no memory for all of them, none comes; if none has to come, none is taken.
     pub fn reserve(&mut self, slots: usize) -> Result<(), Memory>
         ensures room { OnOk result (self.new ≡ with_slots slots self.old) }
         ensures memory { OnErr result (self.new ≡ self.old) }
@@ -140,7 +140,7 @@ impl Agenda {
         self.clear_counted(slot, &mut steps);
     }
 
-    /// The slot whose key comes first, with its date and its serial; `None` where no slot has a key.
+    /// Returns the slot whose key comes first, with its date and its activity id; `None` if no slot has a key.
     pub fn least(&self) -> Option<(usize, u128, Serial)>
         ensures first { IfSome result (λ first. IsLeast self.now first.0 (key first.1 first.2)) }
         ensures none { IfNone result ((slot : ℕ) → key_at self.now slot ≡ None) }

@@ -6,7 +6,7 @@ ghost use Rattle.sg_heap.specs.kept.Heap.{key_of};
 use sg_base::{Serial, Steps};
 use std::sync::ledger::Ledger;
 
-/// A slot, with its date and its serial.
+/// A slot, with its date and its activity id.
 #[derive(Clone, Copy)]
 pub(crate) struct Entry {
     pub(crate) date: u128,
@@ -14,7 +14,7 @@ pub(crate) struct Entry {
     pub(crate) slot: usize,
 }
 
-/// Whether `a` comes before `b`. It is the only comparison of keys, and it is counted.
+/// Returns whether `a` comes before `b`. It is the only comparison of keys, and it is counted.
 pub(crate) fn is_before<L: Ledger>(a: Entry, b: Entry, steps: &mut Steps<L>) -> bool
     ensures before { result ≡ true → IsNoLater (key_of a) (key_of b) }
     ensures behind { result ≡ false → IsNoLater (key_of b) (key_of a) }

@@ -50,7 +50,7 @@ fn add<L: Ledger>(
     rise(heap, place, count, entry, count + 1, steps);
 }
 
-/// Gives a slot a key, and answers how many have one then.
+/// Gives a slot a key, and returns how many have one then.
 pub(crate) fn set_key<L: Ledger>(
     heap: &mut [Entry],
     place: &mut [usize],
@@ -98,7 +98,7 @@ fn take<L: Ledger>(
     }
 }
 
-/// Takes a slot's key, if it has one, and answers how many have one then.
+/// Takes a slot's key, if it has one, and returns how many have one then.
 pub(crate) fn clear_key<L: Ledger>(
     heap: &mut [Entry],
     place: &mut [usize],

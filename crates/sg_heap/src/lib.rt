@@ -1,5 +1,5 @@
-//! Slots with dates, of which the least is at hand: the event queue.
-//! One enters by `Agenda`: `set` and `clear` write the date of a slot, `least` reads the first by date and then serial.
+//! The event queue: slots with dates, the least of which is found at once.
+//! The type is `Agenda`: `set` and `clear` write the date of a slot, `least` returns the first by date and activity id.
 //! It stands on `sg_base`.
 #![tactic(auto)]
 

@@ -7,7 +7,7 @@ use crate::entry::{Entry, is_before, put};
 use sg_base::Steps;
 use std::sync::ledger::Ledger;
 
-// The child of this place that comes first.
+// Returns the child of this place that comes first.
 fn first_child<L: Ledger>(heap: &[Entry], at: usize, count: usize, steps: &mut Steps<L>) -> usize
     requires some { 2 * at + 1 < count }
     requires count { count ≤ length heap.now }

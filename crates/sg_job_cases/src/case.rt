@@ -1,4 +1,4 @@
-//! A job, the texts that it is over, and what it comes to.
+//! A job, its texts, and its expected result.
 ghost use Rattle.std.specs.Prelude.{◌≡◌, IfOk};
 ghost use Rattle.sg_edge.specs.declared.files.Stage.TheVariants.{Fresh};
 ghost use Rattle.sg_edge.specs.MemFiles.{mem_view};
@@ -29,14 +29,14 @@ pub struct Case {
     pub takes: usize,
     pub out: Vec<u8>,
     pub err: Vec<u8>,
-    /// Where it isn't empty, Out begins with `out` and ends with this.
+    /// If it isn't empty, Out begins with `out` and ends with this.
     pub back: Vec<u8>,
-    /// How many bytes of the script its Asks need, where that is looked at.
+    /// How many bytes of the script its fetches need, if that is compared.
     pub need: Option<usize>,
-    /// How many calls of its parts it makes: of each the begin, a read of all bytes, and where the end is met another.
+    /// How many calls of its parts it makes: of each the begin, a read of all bytes, and if the end is met another.
     pub calls: u64,
-    /// How many writes it makes of lines that go out at once: one for each round and each pass with lines, and those of
-    /// its end.
+    /// How many writes it makes of lines that are written at once: one for each scheduling round and each time advance
+    /// with lines, and those of its end.
     pub writes: u64,
 }
 
@@ -76,7 +76,7 @@ impl Drop for Case {
 }
 
 impl Case {
-    /// A job without words and texts.
+    /// Makes a job without words and texts.
     pub fn new(alloc: Global) -> Result<Case, Memory> {
         Ok(Case {
             words: String::new(alloc),
@@ -99,7 +99,7 @@ impl Case {
         })
     }
 
-    /// Why the test fails in which a job of this case came to something else.
+    /// Returns why the test fails if a job of this case had another result.
     pub fn failure(&self, alloc: Global, what: &str, number: u64) -> Fail {
         let words = self.words.as_str();
         match format!(in alloc; "{words}: {what} ({number})") {
@@ -108,7 +108,7 @@ impl Case {
         }
     }
 
-    // The platform and the deployment of these names.
+    // Takes the platform and the deployment of these names.
     fn take_texts(&mut self, alloc: Global, names: &str) -> Result<(), Fail> {
         let (platform, deployment) = names.split_once(" ").unwrap_or((names, ""));
         self.platform.clear();
@@ -117,7 +117,7 @@ impl Case {
         push_text(alloc, &mut self.deployment, text_named(deployment))
     }
 
-    // A crew of so many contexts of this kind.
+    // Takes a context pool of so many contexts of this kind.
     fn take_crew(&mut self, alloc: Global, crew: &str) -> Result<(), Fail> {
         let (kinds, contexts) = crew.split_once(" ").unwrap_or((crew, ""));
         self.kinds = match kinds {
@@ -131,7 +131,7 @@ impl Case {
         Ok(())
     }
 
-    // A crew of so many contexts, of which so many wait for one another in this turn.
+    // Takes a context pool of so many contexts, of which so many wait for one another in this turn.
     fn take_meeting(&mut self, alloc: Global, meeting: &str) -> Result<(), Fail> {
         let (contexts, more) = meeting.split_once(" ").unwrap_or((meeting, ""));
         let (wanted, turn) = more.split_once(" ").unwrap_or((more, ""));
@@ -143,7 +143,7 @@ impl Case {
         Ok(())
     }
 
-    /// A line of a table that isn't the end of a case.
+    /// Takes a line of a table that isn't the end of a case.
     pub fn take(&mut self, alloc: Global, key: &str, text: &str) -> Result<(), Fail> {
         match key {
             "job" => self.words = String::from_str(alloc, text)?,
@@ -180,7 +180,7 @@ impl Case {
         Ok(())
     }
 
-    /// The words of the command line.
+    /// Returns the words of the command line.
     pub fn command_line(&self, alloc: Global) -> Result<Vec<String>, Memory> {
         let mut words = Vec::new(alloc);
         for word in self.words.as_str().split_whitespace() {
@@ -189,7 +189,7 @@ impl Case {
         Ok(words)
     }
 
-    /// The three parts.
+    /// Returns the three parts.
     pub fn files(&self, alloc: Global) -> Result<MemFiles, Memory>
         ensures { IfOk result (λ files. (part : Part) → (mem_view files part).stage ≡ Fresh) }
     {
@@ -210,7 +210,7 @@ impl Case {
         Ok(files)
     }
 
-    /// The two streams.
+    /// Returns the two streams.
     pub fn sinks(&self, alloc: Global) -> Result<MemSinks, Memory>
         ensures { IfOk result (λ out. mem_faults out ≡ 0) }
     {

@@ -4,13 +4,13 @@ use crate::done::Done;
 use std::alloc::Global;
 use std::test::Fail;
 
-/// Does the job of each case of a table, and fails where one comes to something else than what is wanted; the failure
-/// tells its words and its number in the table.
+/// Does the job of each case of a table, and fails if one has another result than the expected one; the failure shows
+/// its words and its number in the table.
 ///
-/// A line is `KEY TEXT`, and each case is whole: `job WORDS`; `over PLATFORM DEPLOYMENT` (by the names of texts), and in
-/// place of one or behind it `platform TEXT`, `with LINE` behind a platform, `deployment TEXT`; `script LINE`,
-/// `lines TIMES LINE`, `unended TEXT`; `crew KIND NUMBER` or `meeting NUMBER WANTED TURN`, else a crew of twenty contexts
-/// of both kinds; what is written by `out LINE`, `front TEXT`, `back LINE` and `err LINE`; what else [`Case`] has; and
+/// A line is `KEY TEXT`, and each case is whole: `job WORDS`; `over PLATFORM DEPLOYMENT` (by the names of texts), and
+/// in place of one or after it `platform TEXT`, `with LINE` after a platform, `deployment TEXT`; `script LINE`,
+/// `lines TIMES LINE`, `unended TEXT`; `crew KIND NUMBER` or `meeting NUMBER WANTED TURN`, else twenty contexts of both
+/// kinds; what is written by `out LINE`, `front TEXT`, `back LINE` and `err LINE`; what else [`Case`] has; and
 /// `ends STATUS`, which ends it.
 pub fn hold<F: Fn(Global, &Case) -> Result<Done, Fail>>(
     alloc: Global,

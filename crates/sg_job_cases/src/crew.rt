@@ -14,7 +14,7 @@ pub enum Kind {
     Meeter,
 }
 
-/// Which kinds of contexts a crew has.
+/// Which kinds of contexts a pool has.
 #[derive(Clone, Copy)]
 pub enum Kinds {
     All(Kind),
@@ -23,7 +23,7 @@ pub enum Kinds {
 }
 
 impl Kinds {
-    /// The kind of the context at a place, from 0 on.
+    /// Returns the kind of the context at a place, from 0 on.
     pub fn at(self, place: u32) -> Kind {
         match self {
             Kinds::All(kind) => kind,
@@ -38,7 +38,8 @@ impl Kinds {
     }
 }
 
-/// How many contexts wait for one another, and in which of their turns; how many are there, and how many went on alone.
+/// How many contexts wait for one another, and in which of their turns; how many are there, and how many continued
+/// alone.
 #[derive(Drop)]
 pub struct Meeting {
     pub wanted: u64,
@@ -48,7 +49,7 @@ pub struct Meeting {
 }
 
 impl Meeting {
-    /// Nobody waits.
+    /// Makes a meeting for which no context waits.
     pub fn new(alloc: Global) -> Result<Meeting, Memory> {
         Ok(Meeting {
             wanted: 0,
@@ -58,7 +59,7 @@ impl Meeting {
         })
     }
 
-    /// How many came, and how many went on alone.
+    /// Returns how many came, and how many continued alone.
     pub fn counts(&self) -> (u64, u64) {
         (
             self.here.load(Ordering::SeqCst),
@@ -66,7 +67,7 @@ impl Meeting {
         )
     }
 
-    /// A context that waits for the others.
+    /// Returns a context that waits for the others.
     pub fn meeter(&self, alloc: Global) -> Result<Meeter, Memory> {
         let (here, missed) = (Arc::try_clone(&self.here)?, Arc::try_clone(&self.missed)?);
         Ok(Meeter::new(alloc, self.turn, self.wanted, here, missed))

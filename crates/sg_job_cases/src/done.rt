@@ -11,7 +11,7 @@ pub struct Done {
     left: usize,
 }
 
-// The part at which a call failed.
+// Returns the part at which a call failed.
 fn broken_part(files: &MemFiles) -> Option<Part> {
     [Part::Platform, Part::Deployment, Part::Script]
         .into_iter()
@@ -19,7 +19,7 @@ fn broken_part(files: &MemFiles) -> Option<Part> {
 }
 
 impl Done {
-    /// What these show of a job that had this exit status.
+    /// Returns what these show of a job that had this exit status.
     pub fn new(files: &MemFiles, out: MemSinks, status: u8) -> Done {
         Done {
             out,
@@ -29,14 +29,14 @@ impl Done {
         }
     }
 
-    /// Whether all of the case was written, with this status.
+    /// Returns whether all of the case was written, with this status.
     pub fn is_whole(&self, case: &Case, status: u8) -> bool {
         self.out.held(Stream::Out) == case.out.as_slice()
             && self.out.held(Stream::Err) == case.err.as_slice()
             && self.status == status
     }
 
-    /// Whether fronts of what the case writes were written, and of Err something only behind all of Out.
+    /// Returns whether prefixes of what the case writes were written, and of Err something only after all of Out.
     pub fn is_cut_off(&self, case: &Case) -> bool {
         let out = self.out.held(Stream::Out);
         let err = self.out.held(Stream::Err);
@@ -45,7 +45,7 @@ impl Done {
             && (err.is_empty() || out.len() == case.out.len())
     }
 
-    /// Whether it was told that the part couldn't be read, behind a front of the lines of the case.
+    /// Returns whether the output says that the part couldn't be read, after a prefix of the lines of the case.
     pub fn tells_unread(&self, case: &Case, part: Part) -> bool {
         let err = match part {
             Part::Platform => "cannot read the platform\n",
@@ -57,7 +57,7 @@ impl Done {
             && case.out.starts_with(self.out.held(Stream::Out))
     }
 
-    // Whether Out has what the case writes.
+    // Returns whether Out has what the case writes.
     fn has_out(&self, case: &Case) -> bool {
         let out = self.out.held(Stream::Out);
         if !case.back.is_empty() {
@@ -66,7 +66,7 @@ impl Done {
         out == case.out.as_slice()
     }
 
-    // Whether no more of the script was taken than the case allows: less than a piece more than is needed.
+    // Returns whether no more of the script was taken than the case allows: less than a piece more than is needed.
     fn is_frugal(&self, case: &Case) -> bool {
         let taken = case.script.len().saturating_sub(self.left);
         match case.need {
@@ -75,7 +75,7 @@ impl Done {
         }
     }
 
-    /// What differs from what the case comes to, if anything does.
+    /// Returns what differs from the expected result of the case, if anything does.
     pub fn difference(&self, case: &Case, status: u8) -> Option<&'static str> {
         if !self.has_out(case) {
             return Some("Out");

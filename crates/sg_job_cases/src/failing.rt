@@ -89,8 +89,8 @@ fn fail_all<F: Fn(Global, &Case) -> Result<Done, Fail>>(
 }
 
 /// Does the job of each case of a table, as [`hold`](crate::hold) reads it, with each of its `calls` of a part and each
-/// write failing in turn, and fails where it isn't told which part can't be read, or something else than fronts is
-/// written; and once in reads of a byte.
+/// write failing in turn. It fails if a job doesn't report which part can't be read, or doesn't write prefixes; and
+/// once in reads of a byte.
 pub fn hold_failing<F: Fn(Global, &Case) -> Result<Done, Fail>>(
     alloc: Global,
     table: &str,

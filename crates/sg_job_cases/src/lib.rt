@@ -1,7 +1,7 @@
-//! Cases of whole jobs: how a table of them is read, the texts that they are over, and the loops that go over a table.
-//! What does a job is handed in, so that this crate knows no simulation.
-//! One enters by `hold`, and by `hold_failing` where each call and each write is to fail in turn.
-//! It stands on `sg_edge` for parts and streams in memory, and on `sg_actor` for crews.
+//! Cases of whole jobs: how a table of them is read, their texts, and the loops that go over a table. What does a job
+//! is handed in, so that this crate knows no simulation.
+//! One enters by `hold`, and by `hold_failing` if each call and each write is to fail in turn.
+//! It stands on `sg_edge` for parts and streams in memory, and on `sg_actor` for contexts.
 #![tactic(auto)]
 
 mod case;

@@ -70,7 +70,7 @@ pub fn push_line(alloc: Global, text: &mut Vec<u8>, short: &str) -> Result<(), F
     Ok(())
 }
 
-/// Adds a line so many times, where this is `TIMES LINE`.
+/// Adds a line so many times, if this is `TIMES LINE`.
 pub fn push_times(text: &mut Vec<u8>, counted: &str) -> Result<(), Fail> {
     let (times, line) = counted.split_once(" ").unwrap_or((counted, ""));
     let times: u32 = times.parse()?;
@@ -81,7 +81,7 @@ pub fn push_times(text: &mut Vec<u8>, counted: &str) -> Result<(), Fail> {
     Ok(())
 }
 
-/// Fills a text up to so many bytes, where this is `BYTES BYTE`; `_` stands for a blank.
+/// Fills a text up to so many bytes, if this is `BYTES BYTE`; `_` stands for a blank.
 pub fn fill(text: &mut Vec<u8>, filling: &str) -> Result<(), Fail> {
     let (bytes, with) = filling.split_once(" ").unwrap_or((filling, "_"));
     let bytes: usize = bytes.parse()?;

@@ -8,7 +8,7 @@ use std::marker::Model;
 use std::sync::Arc;
 use std::sync::atomic::{AtomicU64, Ordering};
 
-/// A context that waits in one of its turns until so many have come there. If they don't come it goes on, and counts
+/// A context that waits in one of its turns until so many have come there. If they don't come it continues, and counts
 /// that.
 #[derive(Drop)]
 pub struct Meeter {
@@ -30,7 +30,7 @@ impl Model for Meeter {
 }
 
 impl Meeter {
-    /// A blank one that waits in this turn, counted from 1, until so many are `here`.
+    /// Makes a blank one that waits in this turn, counted from 1, until so many are `here`.
     pub fn new(
         alloc: Global,
         turns: u32,
@@ -49,7 +49,7 @@ impl Meeter {
         }
     }
 
-    // Whether all come whom it waits for.
+    // Returns whether all come for whom it waits.
     fn meets(&self) -> bool {
         for _look in 0..100_000_000u32 {
             if self.here.load(Ordering::SeqCst) == self.wanted {

@@ -52,7 +52,7 @@ const SLOWER_LINK: &str = "zone = [{id = 'z', routing = 'Full'}]
 link = [{id = 'l', bandwidth = '1', latency = '1000000.000000001s'}]
 ";
 
-/// Two hosts with a link between them, and no way back.
+/// Two hosts with a link between them, and no reverse route.
 const ONE_WAY: &str = "zone = [{id = 'z', routing = 'Full'}]
 host = [{id = 'h1', zone = 'z', speed = '1Gf'}, {id = 'h2', zone = 'z', speed = '1Gf'}]
 link = [{id = 'l', bandwidth = '1MBps', latency = '10ms'}]
@@ -160,7 +160,7 @@ route = [
 ]
 ";
 
-/// As [`MESH`], but that the path around h2 comes first.
+/// Is as [`MESH`], except that the path around h2 comes first.
 const MESH_AROUND: &str = "zone = [{id = 'z', routing = 'Dijkstra'}]
 host = [
     {id = 'h1', zone = 'z', speed = '1Gf'},
@@ -343,7 +343,7 @@ host = [
 ]
 ";
 
-/// The text of this name, an empty one where it is `-`.
+/// Returns the text of this name, an empty one if it is `-`.
 pub fn text_named(name: &str) -> &'static str {
     match name {
         "FAST" => FAST,

@@ -1,6 +1,6 @@
-//! What is told of texts that are refused.
+//! What is printed for texts that are refused.
 
-/// Jobs of which one text has a fault. Each kind of fault is here but those of the greatest texts and routes.
+/// Jobs of which one text has a fault. Each kind of fault is here except those of the greatest texts and routes.
 pub const FAULTS: &str = "\
 job simgrid_replay replay p d s
 over - ONE

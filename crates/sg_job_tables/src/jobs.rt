@@ -1,6 +1,6 @@
-//! What jobs come to: command lines, options, masters and workers, crews, and turns side by side.
+//! Jobs and their results: command lines, options, masters and workers, context pools, and turns side by side.
 
-/// Command lines, crews, and help.
+/// Command lines, context pools, and help.
 pub const JOBS: &str = "\
 -- Command lines with their options.
 job p replay p d s
@@ -252,18 +252,18 @@ ends 0
 -- Help is told on Out.
 job p --help
 crew both 1
-front Simulates how long a program takes
-back What a refusal or an ending means: simgrid_replay-explain (in a checkout tools/explain), with the same files
+front Simulates how long a program would take on machines that you don't have.
+back To explain a fault or an ending: simgrid_replay-explain (in a checkout tools/explain) with the same files
 ends 0
 job p replay --help
 crew both 1
 front Replays a script
-back What a refusal or an ending means: simgrid_replay-explain (in a checkout tools/explain), with the same files
+back To explain a fault or an ending: simgrid_replay-explain (in a checkout tools/explain) with the same files
 ends 0
 job p run -h
 crew both 1
 front Runs masters and workers
-back What a refusal or an ending means: simgrid_replay-explain (in a checkout tools/explain), with the same files
+back To explain a fault or an ending: simgrid_replay-explain (in a checkout tools/explain) with the same files
 ends 0
 ";
 

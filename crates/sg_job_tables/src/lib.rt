@@ -1,5 +1,5 @@
-//! Tables of whole jobs, as `sg_job_cases` reads them: command lines, runs on platforms that stay as they are, what is
-//! told of faults, and the limits.
+//! Tables of whole jobs, as `sg_job_cases` reads them: command lines, runs on platforms that stay as they are, reports
+//! of faults, and the limits.
 //! One enters by a table, as `JOBS`.
 //! It stands on std alone.
 #![tactic(auto)]

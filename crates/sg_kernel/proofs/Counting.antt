@@ -1,6 +1,6 @@
--- Events, as what comes is gone through.
+-- Events, as what comes is handled one by one.
 use Rattle.std.proofs.Common.{◌≡◌, ◌≢◌, ℕ, ◌<◌, ◌≤◌, ◌⊎◌, inl, inr, List, [], ◌∷◌, refl, sym, ◌∙◌, arith}
-use Rattle.sg_calls.specs.declared.fields.Fields.{Fields}
+use Rattle.sg_calls.specs.declared.simulation_state.Fields.{Fields}
 use Rattle.sg_kernel.specs.kept.Coming.{CountsSome}
 
 -- either nothing came yet, and all of it is left, or there was an event
@@ -11,7 +11,7 @@ pub counted_more : (old now new : Fields) (all was left : List ℕ) → Counted 
 counted_more old now new all was left (inl same) more = inr (omega (arith, same.0, more))
 counted_more old now new all was left (inr less) more = inr (omega (arith, less, more))
 
--- once nothing is left
+-- once none remains
 pub counts_all : (old new : Fields) (all left : List ℕ) → Counted old new all left → left ≡ [] → CountsSome all old new
 counts_all old new all left (inl same) none = record { more = omega (arith, same.0); some = λ go some. absurd (some (sym same.1 ∙ none)) }
 counts_all old new all left (inr less) none = record { more = omega (arith, less); some = λ go some. less }

@@ -12,12 +12,12 @@ use Rattle.sg_calls.specs.Known.{Known, after}
 use Rattle.sg_calls.proofs.Each.{eq_no, eq_yes, still, still_stops, still_next, still_used_up}
 use Rattle.sg_calls.proofs.Finishes.{answers_goes}
 
--- ---- a phase end goes on
+-- ---- a phase end continues
 ends_goes_in : (serial : ℕ) (after : Option Task) (core : Core) → (ends_in serial after core).stop ≡ None
 ends_goes_in serial None core = answers_goes how.Done serial (whose_at core serial) (with_over how.Done serial core)
 ends_goes_in serial (Some next) core = refl
 
--- ---- a phase that is under way ends, unless the budget is used up
+-- ---- a running phase ends, unless the budget is used up
 abbrev one_or_stop : Core → ℕ → Bool → Step
 one_or_stop core serial used = cond used (stops core [] Budget) (ends_one serial core)
 
@@ -33,7 +33,7 @@ ends_goes : (setup : Setup) (serial : ℕ) (task : Task) (core : Core) → task_
 ends_goes setup serial task core at go =
     ap (λ (s : Step). s.stop) (ends_is setup serial task core at go) ∙ ends_goes_in serial (phase_after (task_at core.under.tasks serial)) (counted core)
 
--- ---- a failure goes on, unless the budget is used up
+-- ---- a failure continues, unless the budget is used up
 fails_is : (setup : Setup) (serial : ℕ) (core : Core) → core.events ≢ setup.budget → fails setup serial core ≡ fails_one serial core
 fails_is setup serial core go = ap (λ b. cond b (stops core [] Budget) (fails_one serial core)) (eq_no core.events setup.budget go)
 

@@ -12,7 +12,7 @@ use Rattle.sg_profile.specs.Profiles.{Timetable, past_next, rows_due}
 use Rattle.sg_profile.proofs.Ahead.{rows_are_left, ahead_steps}
 use Rattle.sg_rows.specs.declared.network.Network.{Network}
 use Rattle.sg_base.specs.declared.trace_record.Record.{Record}
-use Rattle.sg_calls.specs.declared.fields.Fields.{Fields}
+use Rattle.sg_calls.specs.declared.simulation_state.Fields.{Fields}
 use Rattle.sg_calls.specs.declared.stop.Stop.TheVariants.{Budget}
 use Rattle.sg_calls.specs.Known.{Known, after}
 use Rattle.sg_setup.specs.Setup.{Setup}

@@ -5,7 +5,7 @@ use Rattle.std.proofs.lemmas.List.{length-set}
 use Rattle.std.proofs.lemmas.List.Elements.{All-set}
 use Rattle.sg_activity.specs.Doing.{Doing, IsHit, gave_up}
 use Rattle.sg_activity.specs.Task.{Task, task_at}
-use Rattle.sg_calls.specs.declared.fields.Fields.{Fields}
+use Rattle.sg_calls.specs.declared.simulation_state.Fields.{Fields}
 use Rattle.sg_owners.specs.declared.owners.How.TheVariants as how
 use Rattle.sg_owners.specs.declared.owners.Whose.{Whose}
 use Rattle.sg_owners.specs.declared.owners.Whose.TheVariants.{Over}
@@ -17,7 +17,7 @@ use Rattle.sg_calls.proofs.Begins.{held_with, sound_with, sound_counted, held_co
 use Rattle.sg_calls.proofs.PostsKept.{meeting_gone, under_way}
 use Rattle.sg_calls.proofs.Timely.{IsTimelyAt}
 
--- what is under way isn't over
+-- what is running hasn't ended
 pub not_over : (fields : Fields) (serial : ℕ) (task : Task) → task_at fields.doing.under.tasks serial ≡ Some task → AreMeeting fields → get_or fields.whose.whose (serial - 1) (Over how.Done) ≢ Over how.Done
 not_over fields serial task at meeting over = true≢false (sym (ap is_idle over) ∙ under_way fields.whose.whose fields.doing.under.tasks (serial - 1) task meeting.idle at)
 
@@ -25,7 +25,7 @@ pub failed_owner : (fields : Fields) (serial : ℕ) (whose : Whose) → whose �
 failed_owner fields serial whose is hit passing =
     subst (IsOwner (extent (setup_in fields))) (sym is) (passing.limited (serial - 1) (Over how.Done) (omega (arith, hit.from, hit.to, passing.sound.numbered)))
 
--- all that holds in a pass holds on
+-- all that holds in a time advance still holds
 pub failed_passing : (fields : Fields) (serial : ℕ) (whose : Owned) (doing : Doing) → IsHit fields.doing serial → whose ≡ record fields.whose { whose = set fields.whose.whose (serial - 1) (Over how.Failed) } → doing ≡ gave_up serial fields.doing → fields.events ≢ fields.budget →
     IsPassing fields → IsPassing (record fields { whose = whose; doing = doing; events = fields.events + 1 })
 failed_passing fields serial whose doing hit owned gone go was =

@@ -1,4 +1,4 @@
--- Where a simulation begins, all that is kept holds.
+-- All that is kept holds when a simulation begins.
 use Rattle.std.proofs.Common.{◌≡◌, ◌<◌, ◌≤◌, ◌+◌, ◌^◌, ℕ, ◌-◌, zero, suc, Bool, true≢false, Option, None, Some, option_map, List, [], ◌∷◌, length, map, replicate, get_or, refl, sym, ap, subst, ◌∙◌, arith, true, false}
 use Rattle.std.specs.Prelude.{All, IfSome}
 use Rattle.std.specs.List.{count_by, flat_map}
@@ -31,7 +31,7 @@ use Rattle.sg_requests.specs.Requested.{Requested}
 use Rattle.sg_sync.specs.Objects as sync
 use Rattle.sg_sync.specs.Objects.{Objects}
 use Rattle.sg_sync.proofs.Counts.{nobody_waits}
-use Rattle.sg_calls.specs.declared.fields.Fields.{Fields}
+use Rattle.sg_calls.specs.declared.simulation_state.Fields.{Fields}
 use Rattle.sg_states.specs.declared.state.State.TheVariants.{Ended}
 use Rattle.sg_states.specs.Actors.{blocking_in, first_actor, not_suspended}
 use Rattle.sg_owners.specs.declared.owners.How.TheVariants as how
@@ -42,7 +42,7 @@ use Rattle.sg_kernel.specs.Start.{first_known, capacities_in, first_objects}
 use Rattle.sg_calls.specs.Meetings.{posts_from}
 use Rattle.sg_kernel.specs.kept.First.{first_states, objects_of}
 use Rattle.sg_owners.specs.Owners.{Owned}
-use Rattle.sg_setup.specs.Setup.{host_cap, power_of, link_cap, caps_in, caps_of, link_caps, home_of, capacity_of, replays, setup_of}
+use Rattle.sg_setup.specs.Setup.{host_cap, power_of_row, link_cap, caps_in, caps_of, link_caps, home_of, capacity_of, replays, setup_of}
 use Rattle.sg_calls.specs.World.{extent}
 use Rattle.sg_calls.specs.kept.Sound.{point_number, IsSound, HasRoom, known_of, setup_in, is_idle, AwaitsMade, IsMade, IsOwner, IsTimely, IsTimetable, AreMeeting, AreHeld, AreLimited}
 use Rattle.sg_states.specs.States.{ActorStates}
@@ -50,7 +50,7 @@ use Rattle.sg_kernel.proofs.Over.{links_count}
 use Rattle.sg_calls.proofs.Stated.{AreAwaiting}
 
 -- ---- hosts and links keep to their limits
-pub power_fits : (power : Option rows.Power) → IfSome power IsPowerRow → IfSome (option_map power_of power) IsPower
+pub power_fits : (power : Option rows.Power) → IfSome power IsPowerRow → IfSome (option_map power_of_row power) IsPower
 power_fits None fits = fits
 power_fits (Some power) fits = record { idle = fits.idle; epsilon = fits.rising; all = fits.all; off = fits.off }
 

@@ -8,7 +8,7 @@ same : (b : Bool) → (b ≡ true) ⊎ (b ≡ false)
 same true = inl refl
 same false = inr refl
 
--- ---- the first of those that pass a test
+-- ---- the first of those that meet a condition
 module _ {X : Type 0} (test : X → Bool) where
   skipped : (n : ℕ) (x : Option X) (xs : List (Option X)) → passes test x ≡ false → serials test n (x ∷ xs) ≡ serials test (n + 1) xs
   unfolding serials

@@ -1,8 +1,8 @@
--- What is due, as entries come and activities fail.
+-- What completes at the date, as entries come and activities fail.
 use Rattle.std.proofs.Common.{◌≡◌, ℕ, ◌-◌, ◌==◌, ◌&&◌, not, Bool, true, false, true≢false, cond, None, List, [], ◌∷◌, filter, set, get_or, refl, sym, ap, ◌∙◌, arith}
 use Rattle.sg_activity.specs.Doing.{Doing, gave_up}
 use Rattle.sg_activity.specs.Task.{task_at}
-use Rattle.sg_calls.specs.declared.fields.Fields.{Fields}
+use Rattle.sg_calls.specs.declared.simulation_state.Fields.{Fields}
 use Rattle.sg_kernel.specs.kept.Coming.{LeavesDue}
 use Rattle.sg_kernel.proofs.Skips.{none_set, none_there}
 
@@ -18,7 +18,7 @@ filter_filter p q (x ∷ xs) = by (p x) (filter_filter p q xs)
     by true more = ap (λ l. cond (q x) (x ∷ l) l) more
     by false more = more
 
--- where nothing fails
+-- if nothing fails
 pub leaves_same : (old new : Fields) → new.doing.under.date ≡ old.doing.under.date → new.doing.under.tasks ≡ old.doing.under.tasks → new.doing.due ≡ old.doing.due → LeavesDue old new
 leaves_same old new date tasks due = record {
   date = date;

@@ -1,15 +1,15 @@
--- Where a pass goes next.
+-- Which date time advances to next.
 use Rattle.std.proofs.Common.{◌≡◌, ◌≢◌, ℕ, ◌+◌, ◌-◌, ◌<◌, ◌≤◌, ◌==◌, min, Bool, true, false, cond, inl, inr, ◌⊎◌, Option, None, Some, List, [], ◌∷◌, length, refl, sym, ap, subst, ◌∙◌, arith}
 use Rattle.std.specs.Option.{IfSome, MatchOption}
 use Rattle.sg_activity.specs.Doing.{Doing, IsNext, IsUpTo, later_in}
-use Rattle.sg_lives.specs.Slots.{sooner, soonest, serials, is_at}
+use Rattle.sg_lives.specs.Slots.{sooner, soonest, serials, is_over_after}
 use Rattle.sg_activity.specs.Underway.{next_in, wait_in}
 use Rattle.sg_activity.proofs.Times.{sooner_cases, sooner_never}
 use Rattle.sg_profile.specs.Ahead.{IsNear}
 use Rattle.sg_profile.specs.Profiles.{dates_of, earliest, rows_due_from}
 use Rattle.sg_profile.proofs.Cases.{earlier_of}
 use Rattle.sg_states.specs.States.{ActorStates}
-use Rattle.sg_calls.specs.declared.fields.Fields.{Fields}
+use Rattle.sg_calls.specs.declared.simulation_state.Fields.{Fields}
 use Rattle.sg_kernel.specs.Passes.{next_span, span_to}
 use Rattle.sg_kernel.specs.kept.Coming.{IsNextDate, rows_now}
 use Rattle.sg_calls.specs.kept.Sound.{core_of, latest, setup_in, IsDated, IsSound, IsTimely}
@@ -21,7 +21,7 @@ unfolding soonest
 some_tasks waits n [] e = absurd (cc e)
 some_tasks waits n (x ∷ xs) e = omega arith
 
--- what is due was begun by an event before
+-- what completes was begun by an event before
 phase_soon : (fields : Fields) (date : ℕ) → IsSound fields → IsDated fields → IsNext fields.doing date → date ≤ latest (fields.events + 1)
 phase_soon fields date sound dated next =
     let some = some_tasks (wait_in fields.doing.under) (date - fields.doing.under.date) fields.doing.under.tasks next.in_time in
@@ -34,7 +34,7 @@ entry_soon fields date dated near = omega (arith, near.to, dated)
 next_both : (fields : Fields) (entry : Option ℕ) → next_entry fields ≡ entry → next_span (setup_in fields) (core_of fields) ≡ sooner (next_in fields.doing.under) (span_to (core_of fields) entry)
 next_both fields entry is = ap (λ o. sooner (next_in fields.doing.under) (span_to (core_of fields) o)) is
 
--- where no entry is left
+-- if no entry is left
 pub phases_alone : (fields : Fields) (phase : Option ℕ) → IsSound fields → IsDated fields → next_entry fields ≡ None → MatchOption phase (next_in fields.doing.under ≡ None) (λ date. IsNext fields.doing date) →
     MatchOption phase (next_span (setup_in fields) (core_of fields) ≡ None) (λ date. IsNextDate fields date)
 phases_alone fields None sound dated none never = next_both fields None none ∙ sooner_never (next_in fields.doing.under) ∙ never
@@ -44,7 +44,7 @@ phases_alone fields (Some date) sound dated none next = record {
   soon = phase_soon fields date sound dated next;
 }
 
--- where nothing is ever due
+-- if no phase ever completes
 pub entry_alone : (fields : Fields) (entry : ℕ) → IsDated fields → IsTimely fields → next_entry fields ≡ Some entry → next_in fields.doing.under ≡ None → IsNextDate fields entry
 entry_alone fields entry dated timely is none =
     let near = entry_near fields entry timely is in
@@ -99,16 +99,16 @@ back : (b : Bool) (k : ℕ) (l : List ℕ) → cond b (k ∷ l) l ≡ [] → l �
 back true k l z = absurd (cc z)
 back false k l z = z
 
--- a phase is due at the next date of phases
-some_due : {X : Type 0} (waits : X → Option ℕ) (n serial : ℕ) (xs : List (Option X)) → soonest waits xs ≡ Some n → serials (λ x. is_at (waits x) n) serial xs ≡ [] → ⊥
+-- a phase completes at the next date of phases
+some_due : {X : Type 0} (waits : X → Option ℕ) (n serial : ℕ) (xs : List (Option X)) → soonest waits xs ≡ Some n → serials (λ x. is_over_after (waits x) n) serial xs ≡ [] → ⊥
 unfolding soonest serials
 some_due waits n serial [] e none = cc e
 some_due waits n serial (None ∷ xs) e none = some_due waits n (serial + 1) xs e none
 some_due waits n serial (Some x ∷ xs) e none =
-    let rest = serials (λ y. is_at (waits y) n) (serial + 1) xs in
+    let rest = serials (λ y. is_over_after (waits y) n) (serial + 1) xs in
     elim (sooner_cases (waits x) (soonest waits xs) n e) [
-      | inl a ↦ cc (sym (ap (λ b. cond b (serial ∷ rest) rest) (ap (λ w. is_at w n) a ∙ same n)) ∙ none)
-      | inr b ↦ some_due waits n (serial + 1) xs b (back (is_at (waits x) n) serial rest none)
+      | inl a ↦ cc (sym (ap (λ b. cond b (serial ∷ rest) rest) (ap (λ w. is_over_after w n) a ∙ same n)) ∙ none)
+      | inr b ↦ some_due waits n (serial + 1) xs b (back (is_over_after (waits x) n) serial rest none)
     ]
 
 -- an entry comes at the next date of entries

@@ -1,4 +1,4 @@
--- Nothing that is under way uses what is off, from step to step.
+-- No running activity uses what is off, from step to step.
 use Rattle.std.proofs.Common.{◌≡◌, ℕ, zero, suc, ◌+◌, ◌-◌, ◌*◌, ◌==◌, Bool, true, false, cond, inl, inr, Option, None, Some, option_map, Result, Ok, Err, List, [], ◌∷◌, ◌++◌, length, map, set, get_or, refl, sym, ap, subst, ◌∙◌, arith}
 use Rattle.std.proofs.lemmas.Bool.{cases_eq, cases_lt}
 use Rattle.std.proofs.lemmas.List.{get_or-set_same, get_or-set_other, get_or_past, length-set}
@@ -16,7 +16,8 @@ use Rattle.sg_lives.specs.declared.kinds.PhaseKind.TheVariants as phase
 use Rattle.sg_activity.specs.Links.{Capacities, Switches, is_off}
 use Rattle.sg_lives.specs.Slots.{passes, serials}
 use Rattle.sg_activity.specs.Task.{Task, exec_of, is_cut, is_hit, next_phase, phase_after, rekinded, task_at, timer_of}
-use Rattle.sg_activity.specs.Underway.{Underway, due_in, gone_on, held, hits, is_computing, is_kept, passed, turned}
+use Rattle.sg_activity.specs.Underway.{Underway, due_in, gone_on, held, hits, is_computing, is_kept, passed, with_phase_kind}
+use Rattle.sg_base.specs.Turn.{actor_of}
 use Rattle.sg_mailbox.specs.declared.sides.Post.{Post}
 use Rattle.sg_mailbox.specs.declared.sides.Side.{Side}
 use Rattle.sg_mailbox.specs.Posts.{partner}
@@ -37,8 +38,8 @@ use Rattle.sg_calls.specs.declared.stop.Stop.TheVariants.{Budget}
 use Rattle.sg_owners.specs.declared.owners.Whose.{Whose}
 use Rattle.sg_owners.specs.declared.owners.Whose.TheVariants.{Over, Alone, Posted, Pair}
 use Rattle.sg_calls.specs.Answers.{answers_side, finishes, for_receiver, side_of, with_over}
-use Rattle.sg_calls.specs.Calls.{actor_of, answer_of_ask, answered, answered_call, computes, executes, told, with_execution}
-use Rattle.sg_calls.specs.Lives.{created, exits, joins_by, joins_one, leaves}
+use Rattle.sg_calls.specs.Calls.{answer_of_ask, answered, answered_call, computes, executes, told, with_execution}
+use Rattle.sg_calls.specs.Lives.{created, exits, joins_by, joins_one, with_actor_ended}
 use Rattle.sg_calls.specs.Kills.{awaited, gives_up, gives_up_by, kill_done, kill_stretches, kills, kills_alive, withdrawn}
 use Rattle.sg_calls.specs.Suspensions.{held_by, held_if, held_on, held_to, suspended_to}
 use Rattle.sg_kernel.specs.Failures.{UsesNothingOff}
@@ -109,7 +110,7 @@ clear_map on change same (slot ∷ tasks) clear zero = by slot (clear zero)
     by (Some task) e = same task ∙ e
 clear_map on change same (slot ∷ tasks) clear (suc place) = clear_map on change same tasks (λ k. clear (suc k)) place
 
--- ---- steps that leave what is under way
+-- ---- steps that leave the running activities as they are
 cond_leaves : (b : Bool) (one other : Step) (under : Underway) → one.core.under ≡ under → other.core.under ≡ under → (cond b one other).core.under ≡ under
 cond_leaves true one other under e f = e
 cond_leaves false one other under e f = f
@@ -182,7 +183,7 @@ same_place : (on : Switches) (kind : PhaseKind) (slot : Option Task) → passes 
 same_place on kind None = refl
 same_place on kind (Some task) = refl
 
-turned_clear : (kind : PhaseKind) (serial : ℕ) (under : Underway) → IsClear under → IsClear (turned kind serial under)
+turned_clear : (kind : PhaseKind) (serial : ℕ) (under : Underway) → IsClear under → IsClear (with_phase_kind kind serial under)
 turned_clear kind serial under clear =
     let slot = task_at under.tasks serial in
     clear_set under.on under.tasks (serial - 1) (option_map (rekinded kind) slot) (same_place under.on kind slot ∙ clear (serial - 1)) clear
@@ -319,7 +320,7 @@ call_clear roads setup core actor (call.Kill n) clear = kills_clear actor n (cou
 call_clear roads setup core actor (call.Suspend n) clear = suspended_clear true n (counted core) clear
 call_clear roads setup core actor (call.Resume n) clear = suspended_clear false n (counted core) clear
 call_clear roads setup core actor call.Yield clear = clear
-call_clear roads setup core actor call.Exit clear = kept core (exits actor (counted core)) clear (each_leaves wakes wakes_leave (joiners actor 1 (leaves actor core).actors) (leaves actor (counted core)))
+call_clear roads setup core actor call.Exit clear = kept core (exits actor (counted core)) clear (each_leaves wakes wakes_leave (joiners actor 1 (with_actor_ended actor core).actors) (with_actor_ended actor (counted core)))
 
 pub creates_clear : (given : Bool) (actor : ℕ) (target : ActorId) (core : Core) → UsesNothingOff core → UsesNothingOff (created given actor target core).core
 creates_clear true actor target core none = none
@@ -342,7 +343,7 @@ asks_clear setup core actor action none = by (core.events == setup.budget)
     by true = none
     by false = none
 
--- ---- what goes on where nothing stops
+-- ---- what continues if nothing stops
 pub record Went (first : Step) (next : Core → Step) : Type 0 where
   pub first_on : first.stop ≡ None
   pub next_on : (next first.core).stop ≡ None
@@ -418,7 +419,7 @@ all_end_clear setup (serial ∷ rest) core clear on =
     let w = went (ends setup serial core) (each (ends setup) rest) on in
     subst (λ (c : Core). IsClear c.under) (sym w.core_is) (all_end_clear setup rest (ends setup serial core).core (end_clear setup serial core clear) w.next_on)
 
--- ---- a pass
+-- ---- a time advance
 at_clear : (setup : Setup) (core : Core) (span : Option ℕ) → IsClear core.under → (pass_at setup core span).stop ≡ None → hits (pass_at setup core span).core.under ≡ []
 at_clear setup core None clear on = absurd (cc on)
 at_clear setup core (Some span) clear on =

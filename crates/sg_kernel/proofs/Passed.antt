@@ -1,4 +1,4 @@
--- A pass, from the activities' contracts.
+-- A time advance, from the activities' contracts.
 use Rattle.std.proofs.Common.{◌≡◌, ◌≢◌, ℕ, ◌-◌, ◌<◌, true, false, cond, Option, None, option_map, List, [], ◌∷◌, length, map, get_or, zero, suc, refl, Some, sym, ap, subst, ◌∙◌, arith}
 use Rattle.std.specs.Prelude.{is_some, IsSome}
 use Rattle.std.proofs.lemmas.List.{length-map}
@@ -8,7 +8,7 @@ use Rattle.sg_activity.specs.Underway.{is_running, passed}
 use Rattle.sg_states.specs.declared.state.Actor.{Actor}
 use Rattle.sg_states.specs.Actors.{state_at}
 use Rattle.sg_states.specs.States.{ActorStates}
-use Rattle.sg_calls.specs.declared.fields.Fields.{Fields}
+use Rattle.sg_calls.specs.declared.simulation_state.Fields.{Fields}
 use Rattle.sg_calls.specs.declared.stop.Stop.TheVariants.{Budget, Deadlock, Starved}
 use Rattle.sg_setup.specs.Setup.{Setup}
 use Rattle.sg_calls.specs.World.{Core}
@@ -26,12 +26,12 @@ use Rattle.sg_calls.proofs.Stated.{AreAwaiting}
 use Rattle.sg_kernel.proofs.Timely.{timely_moved}
 use Rattle.sg_calls.proofs.Timely.{IsTimelyAt}
 
--- ---- a pass of a world whose rates are up to date
--- where nothing comes next
+-- ---- a time advance of a world whose rates are up to date
+-- if nothing comes next
 pub pass_none : (setup : Setup) (core : Core) → next_span setup core ≡ None → settled_pass setup core ≡ stops core [] (cond (is_running core.under) Starved Deadlock)
 pass_none setup core none = ap (pass_at setup core) none
 
--- where the budget is used up
+-- if the budget is used up
 pub pass_used : (setup : Setup) (core : Core) (span : ℕ) → next_span setup core ≡ Some span → core.events ≡ setup.budget → settled_pass setup core ≡ stops core [] Budget
 pass_used setup core span next used =
     ap (pass_at setup core) next
@@ -43,7 +43,7 @@ pass_goes setup core span next go =
     ap (pass_at setup core) next
     ∙ ap (λ b. cond b (stops core [] Budget) (all_of (stretches setup span core) (core_later span core))) (eq_no core.events setup.budget go)
 
--- ---- whether a pass goes on is all that changes of the actors' states
+-- ---- whether a time advance continues is all that changes of the actors' states
 pub sound_states : (fields : Fields) (states : ActorStates) → states.extent ≡ fields.states.extent → states.actors ≡ fields.states.actors → IsSound fields → IsSound (record fields { states = states })
 sound_states fields states extent same was = record {
   numbered = was.numbered;
@@ -79,7 +79,7 @@ meeting_states fields states same was = record { posts = was.posts; idle = was.i
 pub actors_same : (old new : Fields) → IsSound old → IsSound new → (known_of new).setup ≡ (known_of old).setup → length new.states.actors ≡ length old.states.actors
 actors_same old new was is same = sym (homes_counted new is) ∙ ap (λ (s : Setup). length s.homes) same ∙ homes_counted old was
 
--- ---- the rates are brought up to date
+-- ---- the rates are updated
 pub whole_settled : (fields : Fields) (doing : Doing) → doing ≡ settled_in fields.doing → IsWhole fields → IsWhole (record fields { doing = doing })
 whole_settled fields doing is was =
     let tasks = ap (λ (d : Doing). d.under.tasks) is in
@@ -137,7 +137,7 @@ passing_began fields doing states date next to began go was =
       small = omega (arith, at, next.soon, was.sound.within, was.sound.budgeted, go);
     }
 
--- ---- the pass is over
+-- ---- the time advance has ended
 pub whole_passed : (fields stopped : Fields) (states : ActorStates) (date : ℕ) → IsNextDate fields date → stopped.doing.under.date ≡ date → fields.events < stopped.events → states ≡ record stopped.states { passing = false } →
     IsPassing stopped → IsWhole (record stopped { states = states })
 whole_passed fields stopped states date next at more over passing =

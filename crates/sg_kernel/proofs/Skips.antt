@@ -1,4 +1,4 @@
--- Phases that aren't under way are passed over.
+-- Phases that aren't running are skipped.
 use Rattle.std.proofs.Common.{◌≡◌, ℕ, ◌-◌, ◌==◌, Bool, true, false, cond, inl, inr, Option, None, Some, List, [], ◌∷◌, filter, set, get_or, length, refl, sym, ap, ◌∙◌, arith}
 use Rattle.std.proofs.lemmas.Bool.{cases_eq, cases_lt}
 use Rattle.std.proofs.lemmas.List.{get_or-set_same, get_or-set_other, get_or_past, length-set}
@@ -15,16 +15,16 @@ use Rattle.sg_owners.specs.declared.owners.Whose.{Whose}
 use Rattle.sg_owners.specs.declared.owners.Whose.TheVariants.{Over, Alone, Posted, Pair}
 use Rattle.sg_calls.specs.declared.stop.Stop.{Stop}
 use Rattle.sg_calls.specs.declared.stop.Stop.TheVariants.{Budget}
-use Rattle.sg_calls.specs.Answers.{answers, answers_by, answers_side, bare_side, finishes, for_receiver, is_on, with_over}
+use Rattle.sg_calls.specs.Answers.{answers, answers_by, answers_side, bare_side, finishes, for_receiver, awaits_side, with_over}
 use Rattle.sg_kernel.specs.Passes.{ends, ends_by, ends_in, ends_one}
 use Rattle.sg_calls.specs.Steps.{Step, stops, counted, follows, and_then, each}
 use Rattle.sg_setup.specs.Setup.{Setup}
 use Rattle.sg_calls.specs.World.{Core, state_of, whose_at}
 
--- ---- answers leave what is under way
+-- ---- answers leave the running activities as they are
 by_leaves : (over : How) (serial : ℕ) (side : Party) (given : Side) (blocking : Option Blocking) (core : Core) → (answers_by over serial side given blocking core).core.under ≡ core.under
 by_leaves over serial side given None core = refl
-by_leaves over serial side given (Some blocking) core = cases (is_on serial side blocking.on) _ _ refl refl
+by_leaves over serial side given (Some blocking) core = cases (awaits_side serial side blocking.on) _ _ refl refl
   where
     cases : (b : Bool) (one other : Step) → one.core.under ≡ core.under → other.core.under ≡ core.under → (cond b one other).core.under ≡ core.under
     cases true one other e f = e
@@ -50,7 +50,7 @@ answers_leave over serial (Pair sender receiver) core =
 pub finishes_leaves : (over : How) (serial : ℕ) (core : Core) → (finishes over serial core).core.under ≡ with_task serial None core.under
 finishes_leaves over serial core = answers_leave over serial (whose_at core serial) (with_over over serial core)
 
--- ---- what isn't under way stays so
+-- ---- what isn't running stays so
 pub none_set : (tasks : List (Option Task)) (place other : ℕ) → get_or tasks other None ≡ None → get_or (set tasks place None) other None ≡ None
 none_set tasks place other none = elim (cases_eq other place) [
   | inl same ↦ elim (cases_lt other (length tasks)) [

@@ -13,11 +13,11 @@ use Rattle.sg_calls.specs.Lives.{created}
 use Rattle.sg_kernel.specs.Passes.{pass_of}
 use Rattle.sg_kernel.specs.Start.{first_core}
 
--- nothing that is under way uses a host or a link that is off
+-- no running activity uses a host or a link that is off
 abbrev pub UsesNothingOff : Core → Type 0
 UsesNothingOff core = hits core.under ≡ []
 
--- So it is at first, it stays so with each call, and it is so again after each pass that isn't stopped.
+-- So it is at first, it stays so with each call, and it is so again after each time advance that isn't stopped.
 pub record NothingOffIsUsed : Type 0 where
   pub first : (capacities : Capacities) (setup : Setup) → UsesNothingOff (first_core capacities setup)
   pub calls : (roads : Roads) (setup : Setup) (core : Core) (actor : ℕ) (what : Call) → UsesNothingOff core → UsesNothingOff (answered roads setup core actor what).core

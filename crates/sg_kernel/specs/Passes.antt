@@ -1,4 +1,6 @@
--- How a pass goes: the date moves to where the next phases are due or the next entries of profiles come. First the entries of that date come, in order of rows, each followed by its failures, and then the phases that are due end, by rising serial. Each entry, each failure and each phase end is one event.
+-- How time advances: the date moves to where the next phases complete or the next entries of profiles come. First the
+-- entries of that date come, in order of rows, each followed by its failures, and then the phases that complete end, in
+-- order of activity id. Each entry, each failure and each phase end is one event.
 use Rattle.std.specs.Prelude.{ℕ, ◌+◌, ◌-◌, Option, None, Some, option_map, if◌then◌else◌, List, [], ◌∷◌}
 use Rattle.sg_lives.specs.Slots.{sooner}
 use Rattle.sg_activity.specs.Task.{Task, phase_after, task_at}
@@ -25,29 +27,31 @@ applied network (entry.Bandwidth link bandwidth) under =
 applied network (entry.HostOn host on) under = with_host_on host.0 on under
 applied network (entry.LinkOn link on) under = with_link_on link.0 on under
 
+-- the effect of an entry on hosts and links, or no change if there is no entry
 abbrev pub applied_if : Network → Option Entry → Underway → Underway
 applied_if network None under = under
 applied_if network (Some entry) under = applied network entry under
 
--- the next entry of this row comes, and the row is gone past it
+-- the next entry of this row comes, and the row moves past it
 abbrev pub enters : Setup → ℕ → Core → Core
 enters setup row core = record core {
   under = applied_if setup.network (entry_at setup.profiles core.turns row) core.under;
   turns = turns_after_row setup.profiles row core.turns;
 }
 
--- that is one event
+-- the next entry of this row comes, as one event
 abbrev pub enters_one : Setup → ℕ → Core → Step
 enters_one setup row core = goes_on (counted (enters setup row core)) []
 
--- the activity of this serial uses something that is off, and fails
+-- the activity with this id uses something that is off, and fails
 abbrev pub fails_one : ℕ → Core → Step
 fails_one serial core = finishes how.Failed serial (counted core)
 
+-- an activity that uses something off fails, as one event; a used-up budget stops the run before
 abbrev pub fails : Setup → ℕ → Core → Step
 fails setup serial core = unless_used setup.budget core (fails_one serial core)
 
--- all that use something that is off, by rising serial
+-- all that use something that is off, in order of activity id
 abbrev pub all_fail : Setup → Core → Step
 all_fail setup core = each (fails setup) (hits core.under) core
 
@@ -58,29 +62,30 @@ entry_stretches setup row =
     all_fail setup ∷
     []
 
+-- the next entry of a row comes, and activities that use something off fail; a used-up budget stops the run
 abbrev pub changes : Setup → ℕ → Core → Step
 changes setup row core = unless_used setup.budget core (all_of (entry_stretches setup row) core)
 
 -- ---- phases end
--- after the phase of this serial the activity is done, or another phase follows
+-- after the phase of the activity with this id the activity is done, or another phase follows
 abbrev pub ends_in : ℕ → Option Task → Core → Step
 ends_in serial None core = finishes how.Done serial core
 ends_in serial (Some next) core = goes_on (record core { under = with_task serial (Some next) core.under }) []
 
--- the phase of this serial, which is under way, ends
+-- the running phase of the activity with this id ends
 abbrev pub ends_one : ℕ → Core → Step
 ends_one serial core = ends_in serial (phase_after (task_at core.under.tasks serial)) (counted core)
 
--- one that isn't under way any more is passed over, and is no event
+-- one that no longer runs is skipped, and is no event
 abbrev pub ends_by : Setup → ℕ → Option Task → Core → Step
 ends_by setup serial None core = goes_on core []
 ends_by setup serial (Some task) core = unless_used setup.budget core (ends_one serial core)
 
+-- a phase completes as one event, if it still runs; a used-up budget stops the run
 abbrev pub ends : Setup → ℕ → Core → Step
 ends setup serial core = ends_by setup serial (task_at core.under.tasks serial) core
 
--- ---- the pass
--- so many nanoseconds later every amount has fallen
+-- the core so many nanoseconds later: every amount has fallen
 abbrev pub core_later : ℕ → Core → Core
 core_later span core = record core { under = later span core.under }
 
@@ -88,29 +93,32 @@ core_later span core = record core { under = later span core.under }
 abbrev pub span_to : Core → Option ℕ → Option ℕ
 span_to core date = option_map (λ date. date - core.under.date) date
 
--- in how many nanoseconds the next phase is due or the next entry comes; none: never
+-- in how many nanoseconds the next phase completes or the next entry comes; none: never
 abbrev pub next_span : Setup → Core → Option ℕ
 next_span setup core =
     sooner (next_in core.under) (span_to core (next_date setup.profiles core.turns))
 
--- what comes at the date of a pass, in this order; the world before it tells which
+-- what comes at the date of a time advance, in this order; the world before it decides which
 abbrev pub stretches : Setup → ℕ → Core → List (Core → Step)
 stretches setup span core =
     each (changes setup) (rows_due (core.under.date + span) setup.profiles core.turns) ∷
     each (ends setup) (due_in span core.under) ∷
     []
 
+-- time advances by this span; without one the run stops: starved if activities run, else a deadlock
 abbrev pub pass_at : Setup → Core → Option ℕ → Step
 pass_at setup core None = stops core [] (if is_running core.under then Starved else Deadlock)
 pass_at setup core (Some span) = unless_used setup.budget core (all_of (stretches setup span core) (core_later span core))
 
--- Before all else the rates are brought up to date. That marks all changes as seen, whatever stops the pass, and changes nothing else.
+-- Before all else the rates are updated. That marks all changes as seen, whatever stops the time advance, and changes
+-- nothing else.
 abbrev pub settled : Core → Core
-settled core = record core { under = underway.settled core.under }
+settled core = record core { under = underway.with_rates_updated core.under }
 
--- a pass of a world whose rates are up to date
+-- a time advance of a world whose rates are up to date
 abbrev pub settled_pass : Setup → Core → Step
 settled_pass setup core = pass_at setup core (next_span setup core)
 
+-- a time advance: the rates are updated, then time moves to the next date
 abbrev pub pass_of : Setup → Core → Step
 pass_of setup core = settled_pass setup (settled core)

@@ -16,7 +16,7 @@ abbrev pub capacities_in : Platform → Capacities
 capacities_in platform =
     record { hosts = map host_cap platform.hosts; links = link_caps platform.network platform.links }
 
--- mutexes are free, semaphores have their capacities, and nobody waits
+-- mutexes are free, semaphores have their capacities, and no actor waits
 abbrev pub first_objects : Setup → Objects
 first_objects setup = record {
   actors = length setup.homes;
@@ -29,7 +29,8 @@ first_objects setup = record {
   others = [];
 }
 
--- on these hosts and links nothing is under way, each profile is before its first entry, and the actors that start now are ready with the answer Start
+-- no activity runs on these hosts and links, each profile is before its first entry, and the actors that start now are
+-- ready with the answer Start
 abbrev pub first_core : Capacities → Setup → Core
 first_core capacities setup = record {
   under = nothing_on capacities;

@@ -1,4 +1,4 @@
--- How the kernel keeps what it knows, in passes and at first.
+-- How the kernel keeps what it knows, in time advances and at first.
 pub mod Coming
 pub mod Acts
 pub mod Asks

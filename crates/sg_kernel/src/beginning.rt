@@ -21,9 +21,9 @@ use sg_states::States;
 use sg_sync::Sync;
 use std::alloc::Global;
 
-// What is kept is made in parts: each want of memory drops all that a function holds by then, so each holds little.
+// What is kept is made in parts: running out of memory drops all that a function holds by then, so each holds little.
 
-// The hosts and links of the platform, on which nothing is under way, and nobody in the mailboxes.
+// The hosts and links of the platform without any activity, and empty mailboxes.
 #[derive(Drop)]
 struct Idle {
     doing: Activities,
@@ -74,7 +74,7 @@ fn make_actors(alloc: Global, deployment: &Deployment) -> Result<FirstActors, Me
     })
 }
 
-// The mutexes, semaphores and the barrier of the deployment, at which nobody waits.
+// The mutexes, semaphores and the barrier of the deployment, at which no actor waits.
 #[derive(Drop)]
 struct FirstObjects {
     objects: Sync,
@@ -98,7 +98,7 @@ fn make_objects(alloc: Global, deployment: &Deployment) -> Result<FirstObjects, 
     })
 }
 
-/// Where a simulation begins.
+/// Makes what a simulation begins with.
 pub(crate) fn first_fields(
     alloc: Global,
     platform: &PlatformText,
@@ -115,7 +115,7 @@ pub(crate) fn first_fields(
     let profiles = Profiles::new(alloc, platform)?;
     let objects = make_objects(alloc, deployment)?;
     let actors = make_actors(alloc, deployment)?;
-    // Last of all, so that no want of memory drops it.
+    // Last of all, so that running out of memory doesn't drop it.
     let idle = make_idle(alloc, platform)?;
     Ok(Fields {
         doing: idle.doing,

@@ -16,7 +16,7 @@ use sg_calls::{Fields, Stop};
 use sg_profile::Entry;
 use sg_rows::Network;
 
-// The next entry of all, where it is of this date.
+// Returns the next entry of all, if it is of this date.
 fn due_entry(fields: &Fields) -> Option<Entry>
     requires timely { IsTimely fields.now }
     ensures { MatchOption result (rows_now fields.now ≡ [])
@@ -32,7 +32,7 @@ fn due_entry(fields: &Fields) -> Option<Entry>
     }
 }
 
-// What an entry changes.
+// Applies what an entry changes.
 fn apply(doing: &mut Activities, network: Network, entry: Entry)
     requires network { IsNetwork network }
     requires entry { IsEntry (length doing.old.under.capacities.hosts)
@@ -49,7 +49,7 @@ fn apply(doing: &mut Activities, network: Network, entry: Entry)
     }
 }
 
-// The next entry comes, and its row is gone past it.
+// Applies the next entry, and moves its row past it.
 fn enter(fields: &mut Fields, entry: Entry)
     requires { CanEnter fields.old entry }
     ensures enters { Enters (enters_one (setup_in fields.old) (row_next fields.old))
@@ -61,7 +61,7 @@ fn enter(fields: &mut Fields, entry: Entry)
     fields.events += 1;
 }
 
-// The next entry comes, with all that comes with it, as far as the budget goes.
+// Applies the next entry, with all that comes with it, as far as the budget goes.
 fn change(fields: &mut Fields, entry: Entry) -> Result<(), Stop>
     requires due { IsDueEntry fields.old entry }
     requires passing { IsPassing fields.old }
@@ -77,7 +77,7 @@ fn change(fields: &mut Fields, entry: Entry) -> Result<(), Stop>
     fail_all(fields)
 }
 
-/// The entries of the date come in order of rows, as far as the budget goes.
+/// Applies the entries of the date in order of rows, as far as the budget goes.
 pub(crate) fn change_due(fields: &mut Fields) -> Result<(), Stop>
     requires { IsPassing fields.old }
     ensures changes { Changes (each (changes (setup_in fields.old)) (rows_now fields.old))

@@ -12,7 +12,7 @@ use sg_base::Serial;
 use sg_calls::{Fields, Stop, answer_owners};
 use sg_owners::How;
 
-// The first activity of those that use something that is off fails, and whose it was is answered.
+// Fails the first activity of those that use something that is off, and answers its waiters.
 fn fail(fields: &mut Fields, serial: Serial)
     requires { CanFail fields.old serial.0 }
     ensures enters { Enters (fails_one serial.0) fields.old fields.new }
@@ -25,7 +25,7 @@ fn fail(fields: &mut Fields, serial: Serial)
     answer_owners(fields, How::Failed, serial, whose);
 }
 
-/// All that use something that is off fail, by rising serial, as far as the budget goes.
+/// Fails all that use something that is off, in order of activity id, as far as the budget goes.
 pub(crate) fn fail_all(fields: &mut Fields) -> Result<(), Stop>
     requires { IsPassing fields.old }
     ensures changes { Changes (all_fail (setup_in fields.old)) fields.old fields.new result }

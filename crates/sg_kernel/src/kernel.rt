@@ -31,24 +31,24 @@ use std::alloc::Global;
 use std::marker::Model;
 use std::sync::ledger::Ledger;
 
-/// For how many calls more than asked for room is made, so that most rounds find it.
+/// For how many more calls than asked for room is made, so that most scheduling rounds find it.
 const SPARE_CALLS: usize = 64;
 
-/// What runs a simulation. In a round each ready actor takes its turn, and the kernel answers the calls by rising
-/// actor; once nobody is ready, a pass moves the date to where the next activities are done or a host or a link
-/// changes. Each call that is answered, each of these changes, each activity that fails by one and each activity that
-/// is done is one event.
+/// Runs a simulation. In a scheduling round each ready actor takes its turn, and the kernel answers the calls in order
+/// of actor id. Once no actor is ready, a time advance moves the date to where the next activities complete or a host
+/// or a link changes. Each answered call, each such change, each activity that fails by one and each activity that
+/// completes is one event.
 ///
 /// Contracts see the setup, the core of the world, the records that aren't cleared, and for how many calls there is
-/// room. It stands for each world with that core: it keeps no minds of actors, no numbers of their Asks, nothing of
-/// activities that are done, and no record once it is cleared.
+/// room. It stands for each world with that core: it keeps no minds of actors, no counts of the lines that they
+/// fetched, no ended activities, and no cleared records.
 ///
-/// After a `Stop` it is as before the event that was refused. A pass that the budget stops in its middle keeps the
-/// events before that one, and one that it stops before its first event leaves the date. Either has brought the rates
-/// up to date.
+/// After a `Stop` it is as before the event that was refused. If the budget stops a time advance in its middle, the
+/// events before that one stay; if it stops one before its first event, the date stays. In both cases the rates are up
+/// to date.
 pub struct Kernel {
     fields: Fields,
-    // where the links of a route are written that is begun over
+    // the links of the route over which a communication begins
     way: ArrayVec<LinkId, 64>,
 }
 
@@ -73,8 +73,8 @@ impl Model for Kernel {
 }
 
 impl Kernel {
-    /// A kernel in which nothing has happened yet: the actors that start with the run are ready with the answer Start,
-    /// mutexes are free, and semaphores have their capacities. `budget` is the most events that there may be.
+    /// Makes a kernel in which nothing has happened yet: the actors that start with the run are ready with the answer
+    /// Start, mutexes are free, and semaphores have their capacities. `budget` is the most events that there may be.
     pub fn new(
         alloc: Global,
         platform: &PlatformText,
@@ -94,7 +94,7 @@ impl Kernel {
         })
     }
 
-    // Makes room for so many calls, and for all passes up to the next round.
+    // Makes room for so many calls, and for all time advances up to the next scheduling round.
     fn make_room(&mut self, n: usize) -> Result<(), Memory>
         ensures room { OnOk result (n ≤ self.new.room) }
         ensures kept { self.new ≡ record self.old { room = self.new.room } }
@@ -107,9 +107,9 @@ impl Kernel {
         self.fields.states.reserve_round(n)
     }
 
-    /// Makes room for so many calls, and for all passes up to the next round. The calls and the passes then take
-    /// no memory. Nothing but the room changes, also where there is no memory. Where the room stands already, as it does
-    /// at most rounds since more is made than is asked for, that costs a comparison.
+    /// Makes room for so many calls, and for all time advances up to the next scheduling round, which then take no
+    /// memory. Nothing except the room changes, even if memory runs out. If the room is there already, as in most
+    /// scheduling rounds since more is made than is asked for, that costs a comparison.
     pub fn reserve_round(&mut self, n: usize) -> Result<(), Memory>
         ensures room { OnOk result (n ≤ self.new.room) }
         ensures kept { self.new ≡ record self.old { room = self.new.room } }
@@ -121,10 +121,11 @@ impl Kernel {
         self.make_room(n.saturating_add(SPARE_CALLS))
     }
 
-    /// Answers a call of an actor that had an answer. An Ask is refused: `tell` is its answer where there is a script. So
-    /// is a Create: `create` is its answer where the named actor may be given a context. An execution on
-    /// a host that is off fails at once, and so does a communication that would begin over a link that is off, or from
-    /// or to such a host. `router` has the routes of the kernel's platform, and stands for the same ones afterwards.
+    /// Answers a call of an actor that had an answer. It refuses a call that fetches the next line, which `tell`
+    /// answers if there is a script, and a Create, which `create` answers if the named actor may be given a context. An
+    /// execution on a host that is off fails at once, and so does a communication that would begin over a link that is
+    /// off, or from or to such a host. `router` has the routes of the kernel's platform, and stands for the same ones
+    /// afterwards.
     pub fn answer(&mut self, actor: ActorId, call: Call, router: &mut Router) -> Result<(), Stop>
         requires caller { MayCall self.old.core actor.0 }
         requires call { IsCall (extent self.old.setup) call }
@@ -139,7 +140,7 @@ impl Kernel {
         answer_call(&mut self.fields, actor, call, router, &mut self.way)
     }
 
-    /// Tells an actor that asked its next line, or that there is none.
+    /// Gives an actor that fetched its next line that line, or the answer that there is none.
     pub fn tell(&mut self, actor: ActorId, action: Option<Action>) -> Result<(), Stop>
         requires caller { MayCall self.old.core actor.0 }
         requires action { IfSome action (IsAction (extent self.old.setup)) }
@@ -159,7 +160,7 @@ impl Kernel {
         Ok(())
     }
 
-    /// Whether an actor's create of another may let that one begin: where it hasn't started.
+    /// Returns whether an actor may create another: that one hasn't started.
     pub fn may_create(&self, actor: ActorId, target: ActorId) -> Result<bool, Stop>
         requires caller { MayCall self.now.core actor.0 }
         requires target { IsActor self.now.core target.0 }
@@ -172,7 +173,7 @@ impl Kernel {
         Ok(matches!(self.fields.states.state(target), State::Unstarted))
     }
 
-    /// Answers the Create of an actor: the named one begins where it was given a context, and else the call is refused.
+    /// Answers the Create of an actor: the named one begins if it was given a context, and else the call is refused.
     pub fn create(&mut self, actor: ActorId, target: ActorId, given: bool)
         requires caller { MayCall self.old.core actor.0 }
         requires target { IsActor self.old.core target.0 }
@@ -184,12 +185,12 @@ impl Kernel {
         create(&mut self.fields, actor, target, given);
     }
 
-    /// Moves the date to where the next activities are done or the next entries of profiles come. First the entries of
-    /// that date come, in order of rows; after each, all that uses a host or a link that is off fails, by rising serial.
-    /// Then the activities that are due end, by rising serial. Each that fails or ends answers its actor, with a record.
-    /// Where neither will ever come, the run is in a deadlock, or starved where something is under way. `steps` counts
-    /// the looks of the filling, at uses of what shares hosts or links with what began, ended or changed since the pass
-    /// before.
+    /// Moves the date to where the next activities complete or the next entries of profiles come. First the entries of
+    /// that date come, in order of rows; after each, all that uses a host or a link that is off fails, in order of
+    /// activity id. Then the activities that complete at that date end, in the same order. Each that fails or completes
+    /// answers its actor, with a record. If neither will ever come, the run is in a deadlock, or starved if an activity
+    /// is running. `steps` counts the solver's visits to uses of what shares hosts or links with what began, ended or
+    /// changed since the last time advance.
     pub fn pass<L: Ledger>(&mut self, steps: &mut Steps<L>) -> Result<(), Stop>
         requires idle { list_any is_ready self.old.core.actors ≡ false }
         requires going { list_all is_over self.old.core.actors ≡ false }
@@ -202,7 +203,7 @@ impl Kernel {
         move_on(&mut self.fields)
     }
 
-    /// How many actors there are. Their ids count from 1.
+    /// Returns how many actors there are. Their ids count from 1.
     pub fn actors(&self) -> usize
         ensures is { result ≡ length self.now.core.actors }
         ensures homes { result ≡ length self.now.setup.homes }
@@ -210,15 +211,15 @@ impl Kernel {
         self.fields.states.actors()
     }
 
-    /// Who is to take a turn: by rising id all actors that are ready, and perhaps some that have called since
-    /// `reserve_round`. To tell it costs nothing.
+    /// Returns who is to take a turn: by rising id all actors that are ready, and perhaps some that have called since
+    /// `reserve_round`. That costs nothing.
     pub fn run_queue(&self) -> &[ActorId]
         ensures { IsQueue self.now.core.actors result.now }
     {
         self.fields.states.run_queue()
     }
 
-    /// The answer of an actor that is ready.
+    /// Returns the answer of an actor that is ready.
     pub fn inbox(&self, actor: ActorId) -> Option<Answer>
         requires { IsActor self.now.core actor.0 }
         ensures is { result ≡ inbox_of (actor_at self.now.core.actors actor.0) }
@@ -227,7 +228,7 @@ impl Kernel {
         self.fields.states.inbox(actor)
     }
 
-    /// The call on which an actor is blocked.
+    /// Returns the call on which an actor is blocked.
     pub fn blocked(&self, actor: ActorId) -> Option<Call>
         requires { IsActor self.now.core actor.0 }
         ensures is { result ≡ blocked_of (state_of self.now.core actor.0) }
@@ -236,7 +237,7 @@ impl Kernel {
         self.fields.states.blocked(actor)
     }
 
-    /// Whether an actor has started and hasn't ended.
+    /// Returns whether an actor has started and hasn't ended.
     pub fn alive(&self, actor: ActorId) -> bool
         requires { IsActor self.now.core actor.0 }
         ensures { result ≡ is_alive (state_of self.now.core actor.0) }
@@ -244,7 +245,7 @@ impl Kernel {
         self.fields.states.state(actor).is_alive()
     }
 
-    /// Whether an actor is suspended.
+    /// Returns whether an actor is suspended.
     pub fn suspended(&self, actor: ActorId) -> bool
         requires { IsActor self.now.core actor.0 }
         ensures { result ≡ is_suspended self.now.core actor.0 }
@@ -252,14 +253,14 @@ impl Kernel {
         self.fields.states.suspended(actor)
     }
 
-    /// Whether an actor is ready.
+    /// Returns whether an actor is ready.
     pub fn any_ready(&self) -> bool
         ensures { result ≡ list_any is_ready self.now.core.actors }
     {
         self.fields.states.any_ready()
     }
 
-    /// Whether all actors that started have ended.
+    /// Returns whether all actors that started have ended.
     pub fn ending(&self) -> bool
         ensures is { result ≡ list_all is_over self.now.core.actors }
         ensures number { length self.now.core.actors ≡ length self.now.setup.homes }
@@ -267,14 +268,14 @@ impl Kernel {
         self.fields.states.all_over()
     }
 
-    /// Whether as many events were counted as there may be.
+    /// Returns whether as many events were counted as there may be.
     pub fn is_used_up(&self) -> bool
         ensures { result ≡ (self.now.core.events == self.now.setup.budget) }
     {
         self.fields.events == self.fields.budget
     }
 
-    /// The date, in nanoseconds.
+    /// Returns the date, in nanoseconds.
     pub fn date(&self) -> u128
         ensures is { result ≡ self.now.core.under.date }
         ensures below { result < 10 ^ 33 }
@@ -282,14 +283,14 @@ impl Kernel {
         self.fields.doing.date()
     }
 
-    /// How many events there were.
+    /// Returns how many events there were.
     pub fn events(&self) -> u64
         ensures { result ≡ self.now.core.events }
     {
         self.fields.events
     }
 
-    /// The energy of a host up to the date, where it has a power: whole joules, and the rest in picojoules.
+    /// Returns the energy of a host up to the date, if it has a power: whole joules, and the rest in picojoules.
     pub fn energy(&self, host: PointId) -> (u128, u64)
         requires { host.0 < self.now.setup.hosts }
         ensures energy { result.0 * 10 ^ 12 + result.1
@@ -299,7 +300,7 @@ impl Kernel {
         self.fields.doing.energy(host)
     }
 
-    /// The records that aren't cleared, in the order in which they were made.
+    /// Returns the records that aren't cleared, in the order in which they were made.
     pub fn records(&self) -> &[Record]
         ensures are { result.now ≡ self.now.records }
         ensures limited { AreRecords (extent self.now.setup) self.now.records }

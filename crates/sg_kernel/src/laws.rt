@@ -8,7 +8,7 @@ ghost use Rattle.sg_calls.specs.Roads.{AreOver};
 use sg_route::{Router, routes_are_good};
 use sg_rows::PlatformText;
 
-/// Nothing that is under way uses a host or a link that is off: not at first, not after a call, and not after a pass
+/// No running activity uses a host or a link that is off: not at first, not after a call, and not after a time advance
 /// that wasn't stopped.
 pub fn nothing_off_is_used()
     ensures { NothingOffIsUsed }

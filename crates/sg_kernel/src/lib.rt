@@ -1,7 +1,8 @@
-//! The kernel of a simulation: it answers the calls of actors, moves the date, and tells when a run has to end.
-//! One enters by `Kernel`: `answer` takes the call of an actor, `pass` moves the date to what is due next; both give a
-//! `Stop` where the run can't go on.
-//! It stands on `sg_calls` for what is kept and for how each call changes it, and on `sg_setup` for what it is made with.
+//! The kernel of a simulation: it answers the calls of actors, moves the date, and reports when a run has to end.
+//! One enters by `Kernel`: `answer` takes the call of an actor, `pass` moves the date to what comes next; both return a
+//! `Stop` if the run can't continue.
+//! It stands on `sg_calls` for what is kept and for how each call changes it, and on `sg_setup` for what it is made
+//! with.
 #![tactic(auto)]
 
 mod beginning;

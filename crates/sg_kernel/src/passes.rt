@@ -16,7 +16,7 @@ use sg_activity::{Activities, Phase, PhaseKind};
 use sg_calls::{Fields, Stop, answer_owners};
 use sg_owners::How;
 
-// Why there is no next date.
+// Returns why there is no next date.
 fn none_next(doing: &Activities) -> Stop
     ensures { result ≡ (if is_running doing.now.under then Stop.Starved else Stop.Deadlock) }
 {
@@ -27,7 +27,7 @@ fn none_next(doing: &Activities) -> Stop
     }
 }
 
-// A latency that is due has passed, and its flow begins.
+// Begins the flow of a communication whose latency has passed.
 fn begin_flow(fields: &mut Fields, phase: Phase)
     requires ends { CanEnd fields.old phase }
     requires latency { phase.kind ≡ phase_kind.Latency }
@@ -37,7 +37,7 @@ fn begin_flow(fields: &mut Fields, phase: Phase)
     fields.events += 1;
 }
 
-// The last phase of an activity that is due ends: it is done, and whose it was is answered.
+// Ends the last phase of an activity: it is done, and its waiters are answered.
 fn end_activity(fields: &mut Fields, phase: Phase)
     requires ends { CanEnd fields.old phase }
     requires last { phase.kind ≢ phase_kind.Latency }
@@ -49,7 +49,7 @@ fn end_activity(fields: &mut Fields, phase: Phase)
     answer_owners(fields, How::Done, phase.serial, whose);
 }
 
-// Ends the first phase that is due.
+// Ends the first phase that completes at the date.
 fn end_phase(fields: &mut Fields, phase: Phase)
     requires { CanEnd fields.old phase }
     ensures { Ends (ends_one phase.serial.0) fields.old fields.new }
@@ -60,7 +60,7 @@ fn end_phase(fields: &mut Fields, phase: Phase)
     }
 }
 
-// Ends the phases that are due, as far as the budget goes.
+// Ends the phases that complete at the date, as far as the budget goes.
 fn end_due(fields: &mut Fields) -> Result<(), Stop>
     requires { IsPassing fields.old }
     ensures passes { Passes (each (ends (setup_in fields.old)) fields.old.doing.due)
@@ -76,7 +76,7 @@ fn end_due(fields: &mut Fields) -> Result<(), Stop>
     Ok(())
 }
 
-// All that comes at the date: the entries of profiles, and then the ends of phases, as far as the budget goes.
+// Applies all that comes at the date: the entries of profiles, and then the ends of phases, as far as the budget goes.
 fn come(fields: &mut Fields) -> Result<(), Stop>
     requires { CanPass fields.old }
     ensures passes { Passes (all_of (coming fields.old)) fields.old fields.new result }
@@ -88,7 +88,7 @@ fn come(fields: &mut Fields) -> Result<(), Stop>
     }
 }
 
-// Where a pass goes next: to where the next phase is due or the next entry comes.
+// Returns the date of the next time advance: where the next phase completes or the next entry comes.
 fn next_date(fields: &Fields) -> Option<u128>
     requires settled { IsTrue fields.now.doing.settled }
     requires whole { IsWhole fields.now }
@@ -104,7 +104,7 @@ fn next_date(fields: &Fields) -> Option<u128>
     }
 }
 
-/// Moves the date to where something comes next, and lets come what does. The rates are up to date.
+/// Moves the date to what comes next, and applies what comes then. The rates are up to date.
 pub(crate) fn move_on(fields: &mut Fields) -> Result<(), Stop>
     requires { CanMoveOn fields.old }
     ensures known { StepsBy (settled_pass (setup_in fields.old)) fields.old fields.new }

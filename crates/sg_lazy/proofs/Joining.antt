@@ -31,7 +31,7 @@ both_left : (a b : Bool) → (a && b) ≡ true → a ≡ true
 both_left true b e = refl
 both_left false b e = e
 
--- all but one
+-- all except one
 drop_le : (slots : List (Option Flow)) (amount : Flow → ℕ) (p : ℕ → Bool) (t n : ℕ) → t < n → p t ≡ true → sum_below (joined_part slots amount (λ i. p i && not (eqb i t))) n + slot_part amount (flow_at slots t) ≤ sum_below (joined_part slots amount p) n
 drop_le slots amount p t zero h on = absurd (omega (arith, h))
 drop_le slots amount p t (suc n) h on =
@@ -50,7 +50,7 @@ drop_le slots amount p t (suc n) h on =
     none true x = refl
     none false x = refl
 
--- different numbers that pass, summed up
+-- different numbers that meet a test, summed up
 distinct_le : (slots : List (Option Flow)) (amount : Flow → ℕ) (v : ℕ → ℕ) (n : ℕ) (p : ℕ → Bool) (ids : List ℕ) → AllPairs (λ a b. a ≢ b) ids → ((i : ℕ) → i < length ids → (get_or ids i 0 < n) × (p (get_or ids i 0) ≡ true) × (v (get_or ids i 0) ≡ slot_part amount (flow_at slots (get_or ids i 0)))) →
     sum_by v ids ≤ sum_below (joined_part slots amount p) n
 distinct_le slots amount v n p [] once there = omega arith
@@ -91,7 +91,7 @@ uses_le slots p ids once there =
     let f = some_of (flow_at slots (get_or ids i 0)) k.0 in
     (held_below slots (get_or ids i 0) k.0, k.1, ap (λ r. length (uses_in r)) f.1 ∙ sym (part_some (λ f. length f.uses) slots (get_or ids i 0) f.0 f.1)))
 
--- so many looks suffice for a filling of these
+-- the visits that suffice for a max-min solve of these
 pub refilled : (k n r u before middle after : ℕ) → k ≤ n → r ≤ u → middle ≤ before + (3 * r + k * (3 * r)) → after ≤ middle + r → after ≤ before + (3 * u + 3 * n * u + u)
 refilled k n r u before middle after more most first then =
     let a = mul-le-mul_right r more in

@@ -1,4 +1,4 @@
--- What is kept outlives starts, ends and changes, and settling makes all rates those of the whole.
+-- What is kept outlives starts, ends and changes, and a rate update makes all rates those of the whole.
 use Rattle.std.proofs.Common.{◌≡◌, ◌≢◌, ℕ, ◌+◌, ◌<◌, ◌⊎◌, inl, inr, Bool, true, false, cond, true≢false, Option, None, Some, IsTrue, List, [], ◌∷◌, Contains, length, set, sum_by, get_or-set_same, get_or-set_other, refl, sym, ap, subst, ◌∙◌, arith}
 use Rattle.std.specs.List.{list_any}
 use Rattle.sg_maxmin.specs.Fill.{Flow, is_on, share_of}

@@ -1,4 +1,4 @@
--- What the levels tell of the rates stays right.
+-- What the levels say of the rates stays right.
 use Rattle.std.proofs.Common.{◌≡◌, ℕ, ◌<◌, ◌≤◌, ◌^◌, ◌⊎◌, inl, inr, Bool, true, false, true≢false, Option, Some, IsSome, IfSome, List, [], length, get_or, set, get_or-set_same, get_or-set_other, refl, sym, ap, ap₂, subst, ◌∙◌, arith}
 use Rattle.sg_base.specs.MarkSet.{is_in, with_mark}
 use Rattle.sg_maxmin.specs.Fill.{Flow, flow}
@@ -137,7 +137,7 @@ notes_on s t u a b z first then = record {
       (j.0, k.1 ∙ j.1);
 }
 
--- What is noted, stale or active passes where all that is marked does, and what is active is marked.
+-- What is noted, stale or active passes if all that is marked does, and what is active is marked.
 pub pending_within : (a b : Levels) (marked resources active : List ℕ) (p q : ℕ → Bool) → IsWithin (λ id. is_in id marked) (λ r. is_in r resources) a → (((p q : ℕ → Bool) → ((r : ℕ) → q r ≡ true) → IsWithin p q a → IsWithin p q b)) → AreIn b.active.members active → ((id : ℕ) → is_in id marked ≡ true → p id ≡ true) → ((r : ℕ) → is_in r active ≡ true → q r ≡ true) → IsWithin p q b
 pending_within a b marked resources active p q was stays' there flows rows =
     let w = stays' p (λ r. true) (λ r. refl) (widen (λ id. is_in id marked) (λ r. is_in r resources) p (λ r. true) a flows (λ r e. refl) was) in
@@ -156,6 +156,6 @@ ready_less parts n n' m m' less e r = ready_fewer parts n n' m' less (subst (λ 
     ready_fewer : (parts : Parts) (n n' m : ℕ) → n' ≤ n → IsReady n m parts → IsReady n' m parts
     ready_fewer parts n n' m less r = record { touched = omega (arith, less, r.touched); fixed = omega (arith, less, r.fixed); reached = r.reached; filling = r.filling }
 
--- what holds where nothing is marked holds of these, which are empty
+-- what holds if nothing is marked holds of these, which are empty
 pub no_marks : (P : List ℕ → List ℕ → List ℕ → Type 0) (b m r : List ℕ) → b ≡ [] → m ≡ [] → r ≡ [] → P [] [] [] → P b m r
 no_marks P b m r eb em er p = subst (λ x. P x m r) (sym eb) (subst (λ x. P [] x r) (sym em) (subst (P [] []) (sym er) p))

@@ -1,4 +1,4 @@
--- The touched flows are joined to what changed, so the looks at them are within the work.
+-- The touched flows are connected to what changed, so the visits to them are within the work.
 use Rattle.std.proofs.Common.{◌≡◌, ℕ, zero, suc, ◌+◌, ◌*◌, ◌<◌, ◌≤◌, ◌⊎◌, inl, inr, Bool, true, false, true≢false, cond, ◌||◌, ◌&&◌, Option, None, Some, IsSome, is_none, List, [], ◌∷◌, map, length, get_or, sum_by, refl, sym, ap, ap₂, subst, ◌∙◌, arith}
 use Rattle.std.specs.List.{list_any}
 use Rattle.std.proofs.lemmas.List.{length-map}
@@ -50,7 +50,7 @@ In-held (Some s ∷ slots) zero r h = inl (same s r h)
 In-held (None ∷ slots) (suc id) r h = In-held slots id r h
 In-held (Some s ∷ slots) (suc id) r h = inr (In-held slots id r h)
 
--- where none is joined there are no uses of joined flows
+-- if no flow is connected there are no uses of connected flows
 pub none_joined : (j : RunningFlow → Bool) (xs : List RunningFlow) → sum_by (λ r. cond (j r) 1 0) xs ≡ 0 → sum_by (λ (r : RunningFlow). cond (j r) (length r.flow.uses) 0) xs ≡ 0
 none_joined j [] e = refl
 none_joined j (r ∷ xs) e =
@@ -162,7 +162,7 @@ module _ (s t : Sharing) (rates began marked ended resources : List ℕ) (withou
     | inr off ↦ or_left (goes id) (is_none (flow_at t.slots id)) (marked_pass id m off (marked_are id m))
   ]
 
-  -- what is marked is joined
+  -- what is marked is connected
   pub marked_within : ((id : ℕ) → is_in id marked ≡ true → IsSome (flow_at s.slots id)) → (a b : Levels) (pending : Pending) (old : MarkSet) → AreLeveled s a rates began marked resources → ((p q : ℕ → Bool) → RowsPass q (uses_at s.slots) ended → IsWithin p q a → IsWithin p q b) →
       old.members ≡ resources → MarksRow b.active.members old pending.resources → pending.marked.members ≡ marked → AreMarkedWithin passes close pending
   marked_within marked_are a b pending old was stays those marks same =

@@ -13,7 +13,7 @@ use Rattle.sg_maxmin.proofs.Proved.{limited_from}
 use Rattle.sg_lazy.specs.Touch.{touches, has_uses, IsClosed}
 use Rattle.sg_lazy.specs.Laws.{KeepsRate, TouchedRate, FreeRate}
 
--- ---- a part, also where the capacities are others elsewhere
+-- ---- a component, even if capacities outside it differ
 and_cond : (a b : Bool) (n : ℕ) → cond (a && b) n 0 ≡ cond a (cond b n 0) 0
 and_cond true b n = refl
 and_cond false b n = refl

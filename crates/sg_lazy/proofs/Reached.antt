@@ -1,4 +1,4 @@
--- What is reached at all is reached in as many rounds as there are flows.
+-- What is reached at all is reached in as many steps as there are flows.
 use Rattle.std.proofs.Common.{◌≡◌, ℕ, zero, suc, ◌+◌, ◌-◌, ◌<◌, ◌≤◌, ◌⊎◌, inl, inr, Bool, true, false, cond, not, ◌||◌, ◌&&◌, true≢false, List, length, count_by, refl, sym, subst, ◌∙◌, arith}
 use Rattle.std.specs.List.{list_any}
 use Rattle.sg_maxmin.specs.Fill.{Flow, is_on}
@@ -62,7 +62,7 @@ reach_add flows first (suc d) n c e = subst (λ k. reach k flows first c ≡ tru
     plus_suc : (m k : ℕ) → suc (m + k) ≡ m + suc k
     plus_suc m k = omega arith
 
--- where no flow is newly touched, nothing more is reached
+-- if no flow is newly touched, nothing more is reached
 stable_from : (flows : List Flow) (first : ℕ → Bool) (n : ℕ) → ((g : Flow) → In g flows → touches (reach (suc n) flows first) g ≡ true → touches (reach n flows first) g ≡ true) → Stable flows first (suc n)
 unfolding Stable reach
 stable_from flows first n h c e =

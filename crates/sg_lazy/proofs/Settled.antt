@@ -1,4 +1,4 @@
--- After a settling each flow has its share of the whole.
+-- After a rate update each flow has its share of the whole.
 use Rattle.std.proofs.Common.{◌≡◌, ℕ, zero, suc, ◌<◌, ◌^◌, ◌⊎◌, inl, inr, Bool, true, false, true≢false, cond, ◌||◌, ◌&&◌, not, eqb, eq-eqb, Option, None, Some, IsSome, is_some, option_map, List, [], ◌∷◌, length, get_or, refl, sym, ap, ap₂, subst, ◌∙◌, arith}
 use Rattle.sg_base.specs.MarkSet.{is_in}
 use Rattle.sg_maxmin.specs.Fill.{Flow, share_of}
@@ -45,7 +45,7 @@ flows_held zero f (o ∷ slots) e h = absurd (omega (arith, e))
 flows_held (suc n) f [] e h = absurd (omega (arith, e))
 flows_held (suc n) f (o ∷ slots) e h = front (f 0) o (listed n (λ i. f (suc i))) slots (h 0 (omega arith)) (flows_held n (λ i. f (suc i)) slots (omega (arith, e)) (λ i l. h (suc i) (omega (arith, l))))
 
--- ---- a settling: the flows that ended are gone
+-- ---- a rate update: the flows that ended are gone
 module _ (s t : Sharing) (rates began marked ended : List ℕ) (without : IsWithout s t ended) (sound : IsSound t) where
   abbrev running : List (Option RunningFlow)
   running = running_in s.slots rates began marked ended

@@ -1,4 +1,4 @@
--- What a settling does to a `Lazy`, and what more room leaves as it was.
+-- What a rate update does to a `Lazy`, and that more room changes nothing else.
 use Rattle.std.proofs.Common.{◌≡◌, ◌≢◌, ℕ, zero, suc, ◌<◌, ◌≤◌, ◌⊎◌, inl, inr, ◌↔◌, Bool, true, false, true≢false, cond, ◌||◌, not, eqb, eq-eqb, ne_eqb, Option, None, Some, IsSome, option_map, List, [], ◌∷◌, length, get_or, sum_by, refl, sym, ap, ap₂, subst, ◌∙◌, arith}
 use Rattle.std.proofs.lemmas.List.{get_or_past}
 use Rattle.std.proofs.lemmas.List.Sums.{sum_by-cons}
@@ -52,7 +52,7 @@ lengths-ended slots (id ∷ ended) there =
       lengths-ended slots ended (λ i h. there (suc i) (omega (arith, h))),
     )
 
--- what holds where nothing is marked holds of these, which are empty
+-- what holds if nothing is marked holds of these, which are empty
 all_empty : (P : List ℕ → List ℕ → List ℕ → List ℕ → Type 0) (b m e r : List ℕ) → b ≡ [] → m ≡ [] → e ≡ [] → r ≡ [] → P [] [] [] [] → P b m e r
 all_empty P b m e r eb em ee er p = subst (λ x. P x m e r) (sym eb) (subst (λ x. P [] x e r) (sym em) (subst (λ x. P [] [] x r) (sym ee) (subst (P [] [] []) (sym er) p)))
 

@@ -1,4 +1,4 @@
--- The work of a settling, whatever the order of the flows.
+-- The work of a rate update, whatever the order of the flows.
 use Rattle.std.proofs.Common.{◌≡◌, ℕ, zero, suc, ◌+◌, ◌-◌, ◌*◌, ◌≤◌, mul-le-mul_left, mul-le-mul_right, subst, Bool, cond, ◌&&◌, ◌||◌, List, [], ◌∷◌, map, length, sum_by, eqb, refl, sym, ap, ap₂, ◌∙◌, arith}
 use Rattle.std.specs.List.{list_any}
 use Rattle.std.specs.List.Sorted.{IsPermutation}

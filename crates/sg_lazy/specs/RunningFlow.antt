@@ -2,7 +2,7 @@
 use Rattle.std.specs.Prelude.{ℕ, ◌==◌, Bool, true, false, Option, None, Some, option_map, List, filter_map, slice_index_or}
 use Rattle.sg_maxmin.specs.Fill.{Flow}
 
--- a flow that runs, the rate that it was given last, whether it began since the last settling, and whether it is marked: it began, or its bound changed since
+-- a flow that runs, its last rate, whether it began since the last rate update, and whether it is marked: it began, or its bound changed since
 pub record RunningFlow : Type 0 where
   pub flow : Flow
   pub rate : ℕ

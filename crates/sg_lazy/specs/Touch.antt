@@ -11,7 +11,7 @@ touches reached flow = list_any reached flow.uses
 unfoldable pub spread : List Flow → (ℕ → Bool) → ℕ → Bool
 spread flows reached resource = reached resource || list_any (λ flow. is_on resource flow && touches reached flow) flows
 
--- what is reached in so many rounds
+-- what is reached in so many steps
 unfoldable pub reach : ℕ → List Flow → (ℕ → Bool) → ℕ → Bool
 reach zero flows first = first
 reach (suc n) flows first = spread flows (reach n flows first)

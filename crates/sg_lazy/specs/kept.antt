@@ -1,4 +1,4 @@
--- How a `Lazy` keeps its flows, and how it settles.
+-- How a `Lazy` keeps its flows, and how it updates their rates.
 pub mod Keeping
 pub mod Held
 pub mod Changes

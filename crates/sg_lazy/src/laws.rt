@@ -1,4 +1,4 @@
-//! Laws of touched parts and of the work of a settling: each function does nothing, and its contract is the law.
+//! Laws of touched components and of the work of a rate update, each the contract of a function that does nothing.
 ghost use Rattle.sg_lazy.specs.Laws.{AllReached, FreeRate, KeepsRate, NamesDontMatter, SettledKeepsNone, TouchedRate};
 
 /// What isn't touched keeps its rate, and what is touched has by itself the rates that it has in the whole.
@@ -9,12 +9,12 @@ pub fn touched_rates()
     ensures free { FreeRate }
 {}
 
-/// How many looks a settling may take doesn't depend on the flows' names or order, nor on the resources' order.
+/// The visits allowed in a rate update don't depend on the flows' names or order, nor on the resources' order.
 pub fn names_dont_matter()
     ensures { NamesDontMatter }
 {}
 
-/// After a settling no flow counts as begun, so a second one changes a flow only by its rate.
+/// After a rate update no flow counts as begun, so a second one changes a flow only by its rate.
 pub fn settled_keeps_none()
     ensures { SettledKeepsNone }
 {}

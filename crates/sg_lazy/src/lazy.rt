@@ -1,11 +1,11 @@
-//! Flows whose rates are brought up to date only where something changed.
+//! Flows whose rates are brought up to date only if something changed.
 ghost use Rattle.std.specs.Prelude.{◌≡◌, ◌≤◌, ◌<◌, ◌+◌, ◌-◌, IsSome, IfSome, IfOk, OnOk, None, Some, length};
 ghost use Rattle.sg_maxmin.specs.Fill.{flow};
 ghost use Rattle.sg_maxmin.specs.Sharing.{HoldsNone, IsFlow};
 ghost use Rattle.sg_lazy.specs.RunningFlow.{is_same_bound, running_at};
 ghost use Rattle.sg_lazy.specs.Lazily.{IsFresh, IsRoomier, IsSettled, KeepUntouched, looks_of, with_bound, with_capacity, with_flow, with_other_bound, with_other_capacity, without_flow};
 
-use crate::room::{all_fit, grow_marks, grow_rates};
+use crate::flow_room::{all_fit, grow_marks, grow_rates};
 use crate::settle::{Pending, Rated, Solver, settle_flows};
 use sg_base::{Marks, Memory, Steps};
 use sg_maxmin::System;
@@ -13,18 +13,18 @@ use std::alloc::Global;
 use std::marker::Model;
 use std::sync::ledger::Ledger;
 
-/// Flows and their rates: the filling of all of them, of which a settling does anew only what changes since the last
-/// one touch. Capacities, bounds and rates are in the caller's units.
+/// Flows and their max-min rates. A rate update solves only what the changes since the last one touch. Capacities,
+/// bounds and rates are in the caller's units.
 ///
 /// Contracts see the capacities, the flow that runs under each number with its rate, whether it began since the last
-/// settling and whether it is marked, the flows that ended since, the resources whose capacities changed since, the
-/// numbers of the flows whose rates the last settling changed, and for how many flows and uses more there is room.
+/// rate update and whether it is marked, the flows that ended since, the resources whose capacities changed since, the
+/// numbers of the flows whose rates the last update changed, and for how many more flows and uses there is room.
 pub struct Lazy {
-    // the flows that run, and until the next settling those that ended
+    // the flows that run, and until the next rate update those that ended
     system: System,
     pending: Pending,
     rated: Rated,
-    // by what a settling brings rates up to date
+    // what brings rates up to date
     solver: Solver,
 }
 
@@ -68,7 +68,7 @@ impl Model for Lazy {
         s.pending.marked.members s.pending.resources.members };
 }
 
-// Whether the bound is this one.
+// Returns whether the bound is this one.
 fn is_bound(bound: Option<u64>, other: u64) -> bool
     ensures { result ≡ is_same_bound bound (Some other) }
 {
@@ -79,8 +79,8 @@ fn is_bound(bound: Option<u64>, other: u64) -> bool
 }
 
 impl Lazy {
-    /// Keeps flows on the resources of a system, with their capacities; no flow runs yet. The system holds no flow.
-    /// It is gone afterwards, also where there is no memory, and so is what room it had.
+    /// Keeps flows on the resources of a system, with their capacities; no flow runs yet. The system holds no flow. The
+    /// call consumes the system and its room, even if memory runs out.
     pub fn new(alloc: Global, system: System) -> Result<Lazy, Memory>
         requires { HoldsNone system.slots }
         ensures { IfOk result (IsFresh system.capacities) }
@@ -103,22 +103,22 @@ impl Lazy {
         })
     }
 
-    /// How many numbers of flows there are, taken and free ones.
+    /// Returns how many numbers of flows there are, taken and free ones.
     pub fn numbers(&self) -> usize
         ensures { result ≡ length self.now.slots }
     {
         self.system.numbers()
     }
 
-    /// For how many flows more there is room.
+    /// Returns for how many more flows there is room.
     pub fn spare(&self) -> usize
         ensures { result ≡ self.now.flow_room }
     {
         self.system.spare()
     }
 
-    /// Makes room for so many flows more, with so many uses in all; numbers come only where too few are free. Nothing
-    /// but the room changes, also where there is no memory, and the room doesn't shrink.
+    /// Makes room for this many more flows, with this many uses in all; new numbers come only if too few are free. Only
+    /// the room changes, even if memory runs out, and the room doesn't shrink.
     pub fn reserve(&mut self, flows: usize, uses: usize) -> Result<(), Memory>
         ensures flow_room { OnOk result (flows ≤ self.new.flow_room) }
         ensures use_room { OnOk result (uses ≤ self.new.use_room) }
@@ -140,7 +140,7 @@ impl Lazy {
     }
 
     /// Starts a flow that uses these resources, each at its place among the capacities, and returns its number. The
-    /// bound limits its rate, which is 0 until the next settling. The room that it takes was made by `reserve`.
+    /// bound limits its rate, which is 0 until the next rate update. The room that it takes was made by `reserve`.
     pub fn start(&mut self, uses: &[usize], weight: u32, bound: Option<u64>) -> usize
         requires flow { IsFlow self.old.capacities (flow uses.now weight bound) }
         requires flow_room { 0 < self.old.flow_room }
@@ -158,7 +158,7 @@ impl Lazy {
         number
     }
 
-    /// Ends a flow. Its number and its room are free again after the next settling.
+    /// Ends a flow. Its number and its room are free again after the next rate update.
     pub fn end(&mut self, flow: usize)
         requires { IsSome (running_at self.old.slots flow) }
         ensures { IfSome (running_at self.old.slots flow)
@@ -167,7 +167,7 @@ impl Lazy {
         self.pending.ended.insert(flow);
     }
 
-    /// Gives a resource this capacity; 0 is one too. The rates stay until the next settling.
+    /// Gives a resource this capacity, which may be 0. The rates stay until the next rate update.
     pub fn set_capacity(&mut self, resource: usize, capacity: u64)
         requires { resource < length self.old.capacities }
         ensures { self.new ≡ with_capacity self.old resource capacity }
@@ -188,7 +188,7 @@ impl Lazy {
         self.pending.resources.insert(resource);
     }
 
-    /// Gives a flow this bound, also one that has none. Its rate stays until the next settling.
+    /// Gives a flow this bound, even if it has none. Its rate stays until the next rate update.
     pub fn set_bound(&mut self, flow: usize, bound: u64)
         requires { IsSome (running_at self.old.slots flow) }
         ensures { self.new ≡ with_bound self.old flow bound }
@@ -209,9 +209,8 @@ impl Lazy {
         self.pending.marked.insert(flow);
     }
 
-    /// Brings all rates up to date. Only flows that began or ended or whose bounds changed since the last settling,
-    /// resources whose capacities changed, and what sharing joins to these is looked at; `steps` counts the looks at
-    /// uses.
+    /// Brings all rates up to date. It visits only the connected components of flows that began or ended or whose
+    /// bounds changed since the last update, and of resources whose capacities changed; `steps` counts visits to uses.
     pub fn settle<L: Ledger>(&mut self, steps: &mut Steps<L>)
         ensures settled { IsSettled self.old self.new }
         ensures looks { steps.new ≤ steps.old + looks_of self.old }
@@ -229,15 +228,15 @@ impl Lazy {
         self.pending.resources.clear();
     }
 
-    /// A flow that no change since the last settling touches has the rate that it has in the whole, so that a settling
-    /// keeps it.
+    /// States that a flow that no change since the last rate update touches has its rate in the whole, so that an
+    /// update keeps it.
     pub fn untouched_keep(&self)
         ensures { KeepUntouched self.now }
     {
         let _numbers = self.system.numbers();
     }
 
-    /// The rate that the last settling gave to a flow; 0 for one that began since.
+    /// Returns the rate that the last rate update gave to a flow; 0 for one that began since.
     pub fn rate(&self, flow: usize) -> u64
         requires { IsSome (running_at self.now.slots flow) }
         ensures { IfSome (running_at self.now.slots flow) (λ running. result ≡ running.rate) }
@@ -245,7 +244,8 @@ impl Lazy {
         self.rated.rates[flow]
     }
 
-    /// The numbers of the flows whose rates the last settling changed, each once. One that began counts as changed.
+    /// Returns the numbers of the flows whose rates the last update changed, each once. One that began counts as
+    /// changed.
     pub fn changed(&self) -> &[usize]
         ensures { result.now ≡ self.now.changed }
     {

@@ -1,13 +1,13 @@
 //! Rates of flows, of which only those that a change touches are brought up to date.
-//! One enters by `Lazy`: `start`, `end`, `set_capacity` and `set_bound` mark what changes, `settle` brings all rates up
-//! to date, `changed` lists those that are other than before.
+//! The type is `Lazy`: `start`, `end`, `set_capacity` and `set_bound` mark what changes, `settle` brings all rates up
+//! to date, `changed` lists those that differ from before.
 //! It stands on `sg_base`, on the `System` of `sg_maxmin`, on `sg_chains`, on the `Levels` of `sg_levels`, and on the
 //! `Parts` of `sg_filling`.
 #![tactic(auto)]
 
+mod flow_room;
 mod laws;
 mod lazy;
-mod room;
 mod settle;
 mod writing;
 

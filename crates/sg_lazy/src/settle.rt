@@ -1,4 +1,4 @@
-//! Settling: levels are brought up to date, and the rates of the flows that moved are written.
+//! The rate update: levels are brought up to date, and the rates of the flows that moved are written.
 ghost use Rattle.std.specs.Prelude.{◌≡◌, ◌≢◌, ◌≤◌, ◌<◌, ◌+◌, ℕ, Bool, [], true, false, IfOk, IsSome, IsTrue, AllPairs, length, slice_index};
 ghost use Rattle.sg_maxmin.specs.Sharing.{IsSound, flow_at, uses_at};
 ghost use Rattle.sg_levels.specs.Kept.{IsBetween, IsWithin, NotesChanged, PassAlong};
@@ -17,19 +17,19 @@ use sg_maxmin::System;
 use std::alloc::Global;
 use std::sync::ledger::Ledger;
 
-/// What changed since the last settling.
+/// What changed since the last rate update.
 #[derive(Drop)]
 pub struct Pending {
     pub began: Marks,
     // the flows that began, and those whose bounds changed
     pub marked: Marks,
     pub ended: Marks,
-    // whose capacities changed; a settling adds the active ones, as those that ended flows used
+    // whose capacities changed; a rate update adds the active ones, as those that ended flows used
     pub resources: Marks,
 }
 
 impl Pending {
-    /// Nothing changed, of so many resources.
+    /// Makes the state in which nothing changed, of so many resources.
     pub fn new(alloc: Global, resources: usize) -> Result<Pending, Memory>
         ensures { IfOk result (IsNothing resources) }
     {
@@ -44,27 +44,27 @@ impl Pending {
     }
 }
 
-/// The rates, and the flows whose rates the last settling changed.
+/// The rates, and the flows whose rates the last rate update changed.
 #[derive(Drop)]
 pub struct Rated {
     pub rates: Vec<u64>,
     pub changed: Marks,
 }
 
-/// By what rates are brought up to date: levels that are kept, and a filling of what is joined.
+/// What brings rates up to date: levels that are kept, and a max-min solve of connected components.
 #[derive(Drop)]
 pub struct Solver {
     pub levels: Levels,
     pub parts: Parts,
-    // how many flows the last filling touched, where few of their rates changed; 0: the next settling fills
+    // how many flows the last solve touched, if few of their rates changed; 0: the next rate update solves
     pub crowd: usize,
 }
 
-// A filling of fewer flows costs less than levels do.
+// A max-min solve of fewer flows costs less than levels do.
 const CROWD: usize = 24;
 
 impl Solver {
-    /// No flow yet, on resources with these capacities.
+    /// Makes a solver without flows, on resources with these capacities.
     pub fn new(alloc: Global, capacities: &[u64]) -> Result<Solver, Memory>
         ensures { IfOk result (IsSolver (length capacities.now)) }
     {
@@ -112,7 +112,7 @@ fn mark_active(levels: &Levels, resources: &mut Marks)
     }
 }
 
-// Fills what is joined to the marked flows and resources, and keeps the levels that this finds.
+// Solves the connected components of the marked flows and resources, and keeps the levels that this finds.
 fn fill_joined<L: Ledger>(
     system: &System,
     solver: &mut Solver,
@@ -134,7 +134,7 @@ fn fill_joined<L: Ledger>(
     solver.crowd = solver.parts.touched().len();
 }
 
-// Settles by levels alone, where many flows are joined and few move. False: a filling is to follow.
+// Updates by levels alone, if many flows are connected and few move. False: a max-min solve is to follow.
 fn settle_levels<L: Ledger>(
     system: &System,
     solver: &mut Solver,
@@ -155,7 +155,7 @@ fn settle_levels<L: Ledger>(
     solver.levels.settle(system, ended, steps)
 }
 
-// Brings the levels up to date, by themselves or by a filling of what is joined.
+// Brings the levels up to date, by themselves or by a max-min solve of connected components.
 fn solve<L: Ledger>(system: &System, solver: &mut Solver, pending: &Pending, steps: &mut Steps<L>)
     requires { IsPendingOn system.now solver.old pending.now }
     ensures solved { IsSolved system.now pending.now solver.old solver.new }
@@ -168,7 +168,7 @@ fn solve<L: Ledger>(system: &System, solver: &mut Solver, pending: &Pending, ste
     fill_joined(system, solver, pending, steps);
 }
 
-// Whether the next settling goes by levels: many flows are joined, and few rates changed.
+// Returns the crowd if the next rate update goes by levels, as many flows are connected and few rates changed; else 0.
 fn next_crowd(crowd: usize, changed: usize) -> usize {
     if crowd < CROWD || crowd / 4 < changed {
         0

@@ -12,7 +12,7 @@ use sg_base::Marks;
 use sg_levels::Levels;
 use sg_maxmin::System;
 
-// A weight's share at a level.
+// Returns a weight's share at a level.
 fn share_at_level(weight: u32, bound: Option<u64>, level: u64) -> u64
     requires { bound ≡ None → weight * level < 2 ^ 64 }
     ensures { result ≡ bounded bound (weight * level) }
@@ -23,7 +23,7 @@ fn share_at_level(weight: u32, bound: Option<u64>, level: u64) -> u64
     }
 }
 
-// What a flow gets at its level; nothing where it has none.
+// Returns what a flow gets at its level; nothing if it has none.
 fn share(system: &System, flow: usize, level: Option<u64>) -> u64
     requires held { IsSome (flow_at system.now.slots flow) }
     requires fits { bound_at system.now.slots flow ≡ None
@@ -36,7 +36,7 @@ fn share(system: &System, flow: usize, level: Option<u64>) -> u64
     }
 }
 
-// Writes the rate of one flow, and notes it where that changed.
+// Writes the rate of one flow, and notes it if that changed.
 fn write_rate(flow: usize, rate: u64, began: &Marks, rates: &mut [u64], changed: &mut Marks)
     requires began { flow < began.now.room }
     requires rates { flow < length rates.old }
@@ -56,7 +56,7 @@ fn write_rate(flow: usize, rate: u64, began: &Marks, rates: &mut [u64], changed:
     rates[flow] = rate;
 }
 
-// The same of a flow by its level, unless it ended.
+// Does the same for a flow by its level, unless it ended.
 fn rate_flow(
     system: &System,
     levels: &Levels,
@@ -79,7 +79,7 @@ fn rate_flow(
     write_rate(flow, rate, &pending.began, rates, changed);
 }
 
-/// Writes the rates of the flows that moved, but for those that ended, and notes those that changed.
+/// Writes the rates of the flows that moved, except for those that ended, and notes those that changed.
 pub fn write_rates(
     system: &System,
     levels: &Levels,

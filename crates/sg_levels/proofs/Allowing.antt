@@ -1,4 +1,4 @@
--- What a settling knows is so of all that is joined.
+-- What a rate update knows holds of the whole component.
 use Rattle.std.proofs.Common.{◌≡◌, ◌≢◌, ℕ, ◌+◌, ◌-◌, ◌<◌, ◌≤◌, ◌⊎◌, inl, inr, Bool, true, false, cond, ◌||◌, true≢false, max, All, AllPairs, IsTrue, IsSome, Option, Some, None, List, length, get_or, slice_index, refl, sym, ap, ◌∙◌, arith}
 use Rattle.std.proofs.lemmas.List.{get_or_past}
 use Rattle.std.proofs.lemmas.List.Elements.{All-get_or}
@@ -50,7 +50,7 @@ either : (a b : Bool) → (a || b) ≡ true → (a ≡ true) ⊎ (b ≡ true)
 either true b h = inl refl
 either false b h = inr h
 
--- ---- the flows that a settling noted, and those that it began with
+-- ---- the flows that a rate update noted, and those that it began with
 module _ (s : Sharing) (sound : IsSound s) (first now : Levels) (new : AreNew s first) (stays : StaysWithin s first now) (p q : ℕ → Bool) (along : PassAlong s p q) (within : IsWithin p q first) where
   -- it passes, and was noted before or is held
   abbrev test : ℕ → Bool
@@ -102,7 +102,7 @@ users_joined s sound first now stays r on p q along within =
     let here = (stays p q along within).active r on in
     (row_count s sound r p (λ id i. along.users r id here i), row_uses s sound r p (λ id i. along.users r id here i))
 
--- ---- what is known in one more round
+-- ---- what is known one step later
 pub round_joined : (s : Sharing) → IsSound s → (first now : Levels) → AreNew s first → StaysWithin s first now → IsKept s now → (given : Allowance) (flows most : ℕ) → ((n : ℕ) → ((r : ℕ) → is_active now.active.members r ≡ true → slice_index now.counts.items r ≤ n) → most ≤ n) → IsJoined s first given → flows ≡ length now.moved.members - (length first.moved.members - length first.stale.members) →
     AllPairs (λ a b. a ≢ b) first.stale.members → AllPairs (λ a b. a ≢ b) now.moved.members → All (λ number. number < first.stale.room) first.stale.members → All (λ number. number < first.moved.room) first.moved.members → All (λ number. number < now.moved.room) now.moved.members →
     (p q : ℕ → Bool) → PassAlong s p q → IsWithin p q first → (max (max given.known flows) most ≤ joined_count s.slots p) × (max given.row most ≤ joined_uses s.slots p)
@@ -112,7 +112,7 @@ round_joined s sound first now new stays kept given flows most told joined is on
     let uses = told (joined_uses s.slots p) (λ r on. omega (arith, kept.counts r, (users_joined s sound first now stays r on p q along within).1)) in
     (omega (arith, before.0, is, count, flows_count s sound first now new stays p q along within once once' bx by bz), omega (arith, before.1, uses))
 
--- ---- what is known allows no more than what is joined
+-- ---- what is known allows no more than the component
 pub spared : (s : Sharing) (first : Levels) (k r m before now : ℕ) → ((p q : ℕ → Bool) → PassAlong s p q → IsWithin p q first → (k ≤ joined_count s.slots p) × (r ≤ joined_uses s.slots p)) → now ≤ before + spare_looks k r m → SparesLooks s first m before now
 spared s first k r m before now joined looks p q along within =
     let known = joined p q along within in

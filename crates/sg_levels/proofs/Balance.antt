@@ -1,4 +1,4 @@
--- Balanced levels are those of the filling.
+-- Balanced levels are the max-min levels.
 use Rattle.std.proofs.Common.{◌≡◌, ℕ, zero, suc, ◌+◌, ◌-◌, ◌*◌, ◌/◌, ◌<◌, ◌≤◌, ◌⊎◌, inl, inr, Bool, true, false, cond, ◌&&◌, ◌==◌, lt-ltb, le-ltb, true≢false, eqb-true, Option, Some, None, is_none, List, [], ◌∷◌, slice_index, refl, sym, ap, ap₂, subst, ◌∙◌, arith, mul-add, le-div_iff_mul-le, div-mul-le_self, mul-le-mul_left, mul_comm}
 use Rattle.sg_maxmin.specs.Fill.{Flow, Fixed, is_on, taken, waiting, level, limits, level_of, bound_level, share_of_fixed}
 use Rattle.sg_maxmin.proofs.Members.{In, In-from_contains, contains_from_In, list_any_back}
@@ -60,7 +60,7 @@ any_at levels c t (x ∷ xs) =
 less_or : (n t : ℕ) → ((n ≡ t) → ⊥) → (n < t) ⊎ (t + 1 ≤ n)
 less_or n t h = grind arith
 
--- where none has the level t, nothing changes from t to t + 1
+-- if none has the level t, nothing changes from t to t + 1
 pub none_at : (caps : List ℕ) (flows : List Flow) (levels : Flow → ℕ) (c t : ℕ) → ((g : Flow) → In g flows → is_on c g ≡ true → (levels g ≡ t) → ⊥) →
     level caps flows (below levels t) c ≡ level caps flows (below levels (t + 1)) c
 none_at caps flows levels c t none = level_same_on caps flows (below levels t) (below levels (t + 1)) c (λ g i on.
@@ -69,7 +69,7 @@ none_at caps flows levels c t none = level_same_on caps flows (below levels t) (
       | inr more ↦ below_no levels t g (omega (arith, more)) ∙ sym (below_no levels (t + 1) g more)
     ])
 
--- ---- from the conditions to what a filling is
+-- ---- from the conditions to the max-min solve
 above_step : (caps : List ℕ) (flows : List Flow) (levels : Flow → ℕ) → IsBalanced caps flows levels → (f : Flow) → In f flows → (c : ℕ) → is_on c f ≡ true → (t : ℕ) → t < levels f →
     t + 1 ≤ level caps flows (below levels (t + 1)) c → t < level caps flows (below levels t) c
 above_step caps flows levels balanced f i c on t under next = elim (any_at levels c t flows) [
@@ -163,7 +163,7 @@ level_kept cap t w t' w' q pos less e h =
     let room : q * (w' + d) ≤ cap - t = subst (λ x. q * x ≤ cap - t) split.1 h in
     (le-div_iff_mul-le pos).1 (kept cap t w' t' d q room given)
 
--- from x on to y the flows of the levels between are fixed; where these are at the level of the resource at most, it doesn't fall
+-- from x on to y the flows of the levels between are fixed; if these are at the level of the resource at most, it doesn't fall
 pub rises : (caps : List ℕ) (flows : List Flow) (levels : Flow → ℕ) (c x y : ℕ) → x ≤ y → y ≤ level caps flows (below levels x) c + 1 → 0 < waiting flows (below levels y) c →
     level caps flows (below levels x) c ≤ level caps flows (below levels y) c
 unfolding level

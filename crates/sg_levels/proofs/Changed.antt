@@ -27,7 +27,7 @@ not_there id slots none flow e = none_some (sym none ∙ e)
 
 -- ---- a flow begins
 module _ (s t : Sharing) (sound : IsSound s) (sound' : IsSound t) (id : ℕ) (its : Flow) (free : flow_at s.slots id ≡ None) (added : Changes s.slots t.slots id (Some its)) (numbers : length t.slots ≡ length s.slots) (capacities : t.capacities ≡ s.capacities) where
-  -- each of its resources has it as a user more
+  -- each of its resources has it as one more user
   pub started_users : (c : ℕ) → length (users_on t.users c) ≡ length (users_on s.users c) + times c its.uses
   started_users c =
       let below = flow_below t.slots id its added.changed in

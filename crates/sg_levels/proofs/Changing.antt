@@ -40,7 +40,7 @@ local_waiting : (slots slots' : List (Option Flow)) (levels levels' : List (Opti
 unfolding row_waiting
 local_waiting slots slots' levels levels' row x same = sum_by_same _ _ row (λ id i. let s = same id (in_is id row i) in ap₂ (λ f o. cond (is_none (when_below o x)) (slot_weight f) 0) s.0 s.1)
 
--- where both are the same at each level up to the hold, so is the hold
+-- if both are the same at each level up to the hold, so is the hold
 pub hold_from : (capacity : ℕ) (slots slots' : List (Option Flow)) (levels levels' : List (Option ℕ)) (row : List ℕ) (hold : Option ℕ) →
     ((x : ℕ) → IsUnder x hold ⊎ (hold ≡ Some x) → row_waiting slots' (below_at levels' x) row ≡ row_waiting slots (below_at levels x) row) →
     ((x : ℕ) → IsUnder x hold ⊎ (hold ≡ Some x) → row_level capacity slots' (below_at levels' x) row ≡ row_level capacity slots (below_at levels x) row) →
@@ -98,7 +98,7 @@ hold_stays_from_lem capacity slots old new row least before (Some h) changes is 
 min_cases : (a b : ℕ) → (min a b ≡ a) ⊎ (min a b ≡ b)
 min_cases a b = grind arith
 
--- a flow has all of its level but a part of one
+-- a flow has all of its level except a part of one
 nearly : (bound : Option ℕ) (w n : ℕ) → 0 < w → IsAtMost (Some n) (option_map (bound_level w) bound) → n * w ≤ bounded bound (w * n) + w
 unfolding bound_level
 nearly None w n pos within = omega (arith, mul_comm n w)

@@ -1,4 +1,4 @@
--- The levels of the filling are those at which all flows are held.
+-- The max-min levels are those at which all flows are held.
 use Rattle.std.proofs.Common.{◌≡◌, ℕ, ◌<◌, ◌≤◌, inl, inr, true, IfSome, Option, None, Some, option_map, List, length, slice_index, refl, sym, ap, subst, ◌∙◌, arith}
 use Rattle.sg_base.specs.MarkSet.{is_in}
 use Rattle.sg_chains.specs.Chained.{users_on}

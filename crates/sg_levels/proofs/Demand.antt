@@ -58,7 +58,7 @@ few n d h m =
     let big : 2 ^ 32 * 2 ^ 65 < 2 ^ 127 = lit< tt in
     omega (arith, h, top, big)
 
--- also with one part more at each of a flow's resources
+-- also with one more part at each of a flow's resources
 pub parts_fit : (s : Sharing) → IsSound s → (parts : List ℕ) → ((id : ℕ) → slice_index parts id ≤ 2 ^ 65) → (id part : ℕ) → part ≤ 2 ^ 65 → (c : ℕ) → sum_by (slice_index parts) (users_on s.users c) + times c (uses_at s.slots id) * part < 2 ^ 128
 parts_fit s sound parts fit id part le c =
     let once : times c (uses_at s.slots id) * part ≤ 2 ^ 65 = subst (λ n. n * part ≤ 2 ^ 65) (sym (times-once (uses_at s.slots id) c (rows_once s sound id))) (cond_le (list_any (λ d. eqb d c) (uses_at s.slots id)) part le) in
@@ -119,7 +119,7 @@ parts_move s sound parts id part below c =
     let moves = sum_moves f g id (users_on s.users c) (λ other ne. get_or-set_other parts id other part 0 ne) in
     omega (arith, moves, ap (λ n. n * f id) (sound.both id c), ap (λ n. n * g id) (sound.both id c), ap (λ x. times c (uses_at s.slots id) * x) (get_or-set_same parts id part 0 below))
 
--- where each flow's part is what it asks for
+-- if each flow's part is what it asks for
 pub parts_demand : (s : Sharing) → IsSound s → (parts : List ℕ) (levels : List (Option ℕ)) → ((id : ℕ) → IsSome (flow_at s.slots id) → slice_index parts id ≡ demand_of (flow_in s.slots id) (level_at levels id)) → (c : ℕ) →
     sum_by (slice_index parts) (users_on s.users c) ≡ row_demand s.slots levels (users_on s.users c)
 unfolding row_demand

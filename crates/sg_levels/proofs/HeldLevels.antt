@@ -1,4 +1,4 @@
--- Levels at which all flows are held are those of the filling.
+-- Levels at which all flows are held are the max-min levels.
 use Rattle.std.proofs.Common.{◌≡◌, ℕ, zero, suc, ◌+◌, ◌-◌, ◌/◌, ◌<◌, ◌≤◌, ◌⊎◌, inl, inr, cond, lt-ltb, le-ltb, is_none, IfSome, Option, None, Some, option_map, List, [], ◌∷◌, length, slice_index, sum_by, refl, sym, ap, ap₂, subst, ◌∙◌, arith, le_trans}
 use Rattle.std.proofs.lemmas.List.Sums.{sum_by-cons}
 use Rattle.sg_base.specs.MarkSet.{is_in}
@@ -67,7 +67,7 @@ none_waits : (o : Option ℕ) (w : ℕ) → 0 < cond (is_none o) w 0 → o ≡ N
 none_waits None w pos = refl
 none_waits (Some x) w pos = absurd (omega (arith, pos))
 
--- where a weight waits, a flow does
+-- if a weight waits, a flow does
 pub waits_one : (slots : List (Option Flow)) (fixed : ℕ → Option ℕ) (row : List ℕ) → 0 < row_waiting slots fixed row → (id : ℕ) × In id row × (fixed id ≡ None)
 unfolding row_waiting
 waits_one slots fixed row pos = let r = sum_some (λ id. cond (is_none (fixed id)) (weight_at slots id) 0) row pos in (r.0, r.1, none_waits (fixed r.0) (weight_at slots r.0) r.2)
@@ -114,7 +114,7 @@ module _ (s : Sharing) (levels : List (Option ℕ)) (holds : ℕ → Option ℕ)
   abbrev Agree : ℕ → Type 0
   Agree t = (id : ℕ) (flow : Flow) → flow_at s.slots id ≡ Some flow → below_at levels t id ≡ below_share t (level_of s.capacities (held s.slots)) flow
 
-  -- where the levels agree below t, so do the levels of the resources
+  -- if the levels agree below t, so do the levels of the resources
   seen : (t c : ℕ) → Agree t → level s.capacities (held s.slots) (below_share t (level_of s.capacities (held s.slots))) c ≡ row_level (slice_index s.capacities c) s.slots (below_at levels t) (users_on s.users c)
   seen t c agree =
       row_tells_lem s (below_share t (level_of s.capacities (held s.slots))) c sound
@@ -123,7 +123,7 @@ module _ (s : Sharing) (levels : List (Option ℕ)) (holds : ℕ → Option ℕ)
       let f = on_held s sound c id (in_is id (users_on s.users c) i) in
       ap (below_share t (level_of s.capacities (held s.slots))) (flow_in_is s.slots id f.0 f.1) ∙ sym (agree id f.0 f.1))
 
-  -- the filling's level isn't lower
+  -- the max-min level isn't lower
   not_lower : (t id x : ℕ) (flow : Flow) → Agree t → flow_at s.slots id ≡ Some flow → level_at levels id ≡ Some x → level_of s.capacities (held s.slots) flow ≡ t → t < x → ⊥
   not_lower t id x flow agree e is filled_is over =
       let i = held_in s.slots id flow e in

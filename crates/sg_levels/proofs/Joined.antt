@@ -1,4 +1,4 @@
--- Numbers that are listed once, as sums over all numbers; and how many looks are allowed.
+-- Numbers that are listed once, as sums over all numbers; and the number of visits allowed.
 use Rattle.std.proofs.Common.{◌≡◌, ◌≢◌, ℕ, zero, suc, ◌+◌, ◌-◌, ◌*◌, ◌<◌, ◌≤◌, ◌⊎◌, inl, inr, Bool, true, false, cond, eqb, eq-eqb, ne_eqb, max, AllPairs, IsTrue, IsSome, Option, Some, None, List, [], ◌∷◌, length, get_or, sum_by, mul-le-mul, refl, sym, ap, subst, ◌∙◌, arith}
 use Rattle.std.proofs.lemmas.List.Sums.{sum_by-cons}
 use Rattle.sg_base.specs.MarkSet.{is_in}
@@ -159,7 +159,7 @@ part_listed slots p xs amount once same id = from (flow_at slots id) refl
     from None e = zero_both (p id) (times id xs) (ap (slot_part amount) e)
     from (Some f) e = ap {B = ℕ} (λ b. cond b (slot_part amount (flow_at slots id)) 0) (same id (subst IsSome (sym e) refl)) ∙ one_both (is_in id xs) (slot_part amount (flow_at slots id)) ∙ ap (λ n. n * slot_part amount (flow_at slots id)) (sym (times-once xs id once))
 
--- the users of a resource, where all pass
+-- the users of a resource, if all pass
 module _ (s : Sharing) (sound : IsSound s) (c : ℕ) where
   row : List ℕ
   row = users_on s.users c
@@ -196,7 +196,7 @@ module _ (s : Sharing) (sound : IsSound s) (c : ℕ) where
       all zero = refl
       all (suc n) = omega (arith, all n)
 
--- where just what is listed passes of what is held
+-- if just what is listed passes of what is held
 pub joined_listed : (slots : List (Option Flow)) (p : ℕ → Bool) (xs : List ℕ) → AllPairs (λ a b. a ≢ b) xs → ((i : ℕ) → i < length xs → IsSome (flow_at slots (get_or xs i 0))) → ((id : ℕ) → IsSome (flow_at slots id) → p id ≡ is_in id xs) →
     (joined_count slots p ≡ length xs) × (joined_uses slots p ≡ all_uses slots xs)
 joined_listed slots p xs once held same = (
@@ -216,7 +216,7 @@ joined_listed slots p xs once held same = (
       | inr off ↦ ap (λ n. n * slot_part (λ flow. 1) (flow_at slots id)) (times_out id xs off) ∙ none_times (slot_part (λ flow. 1) (flow_at slots id)) ∙ sym (times_out id xs off)
     ]
 
--- how many users a resource has, where each flow uses it as often, or one more does
+-- how many users a resource has, if each flow uses it as often, or one more does
 module _ (s t : Sharing) (sound : IsSound s) (sound' : IsSound t) (c : ℕ) where
   in_s : (i : ℕ) → i < length (users_on s.users c) → get_or (users_on s.users c) i 0 < length s.slots + length t.slots
   in_s i h = omega (arith, on_below s sound c i h)
@@ -286,7 +286,7 @@ past_none slots p n few none = go (n - length slots) n (omega (arith, few))
         next : m ≡ length slots + suc k → m ≡ suc (length slots + k)
         next e = omega (arith, e)
 
--- ---- how many looks are allowed
+-- ---- the number of visits allowed
 pub spare_more : (k k' u u' m : ℕ) → k ≤ k' → u ≤ u' → spare_looks k u m ≤ spare_looks k' u' m
 spare_more k k' u u' m le le' =
     let a : (k + m) * (k + m + 1) ≤ (k' + m) * (k' + m + 1) = mul-le-mul (omega (arith, le)) (omega (arith, le)) in

@@ -57,7 +57,7 @@ one_off number x ne = elim (bool_cases (is_in number (x ∷ []))) [
     one zero h e = sym e
     one (suc i) h e = absurd (omega arith)
 
--- ---- one mark more
+-- ---- one more mark
 pub in_more : (id number : ℕ) (xs : List ℕ) → is_in id xs ≡ true → is_in id (xs ++ number ∷ []) ≡ true
 in_more id number [] h = absurd (true≢false (sym h))
 in_more id number (x ∷ xs) h = elim (eqb x id) as (λ b. (b || is_in id xs) ≡ true → (b || is_in id (xs ++ number ∷ [])) ≡ true) [ true ↦ λ k. refl | false ↦ λ k. in_more id number xs k ] h
@@ -108,7 +108,7 @@ same_in x y xs ys e i = elim (bool_cases (is_in y ys)) [
     pos : (n : ℕ) → 0 < n → n ≡ 0 → ⊥
     pos n h z = omega arith
 
--- where each number stands once, it is counted once
+-- if each number stands once, it is counted once
 pub times-once : (xs : List ℕ) (c : ℕ) → AllPairs (λ a b. a ≢ b) xs → times c xs ≡ cond (list_any (λ d. eqb d c) xs) 1 0
 times-once [] c h = refl
 times-once (x ∷ xs) c h =

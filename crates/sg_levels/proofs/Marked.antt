@@ -115,7 +115,7 @@ module _ (s t : Sharing) (old new holds : List (Option ℕ)) (active active' : L
 pub changes_keep_lem : ChangesKeep
 changes_keep_lem s t old new holds active active' stale stale' sound sound' marked are = changes_kept s t old new holds active active' stale stale' sound sound' marked are
 
--- ---- where none is stale it is as in a settling
+-- ---- if none is stale, it is as within a rate update
 pub none_but : (s : Sharing) (levels holds : List (Option ℕ)) (active : List ℕ) → AreSettling s levels holds active → AreSettlingBut s levels holds active []
 none_but s levels holds active are = record {
   resources = λ r l clean none. are.resources r l clean;

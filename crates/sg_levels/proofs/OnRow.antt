@@ -118,7 +118,7 @@ once_le : (b : Bool) (w most : ℕ) → w ≤ most → cond b 1 0 * w ≤ most
 once_le true w most l = omega (arith, l)
 once_le false w most l = omega arith
 
--- a sum over the flows on a resource, where each adds no more than so much
+-- a sum over the flows on a resource, if each adds no more than so much
 pub row_le : (s : Sharing) → IsSound s → (c : ℕ) (h : ℕ → ℕ) (most : ℕ) → ((id : ℕ) → h id ≤ most) → sum_by h (users_on s.users c) ≤ length s.slots * most
 row_le s sound c h most le =
     let row = users_on s.users c in

@@ -1,4 +1,4 @@
--- One pass more over the users of a resource, on the way to its hold.
+-- Another pass over the users of a resource, on the way to its hold.
 use Rattle.std.proofs.Common.{◌≡◌, ◌≢◌, ℕ, ◌+◌, ◌-◌, ◌*◌, ◌<◌, ◌≤◌, Option, None, Some, IfSome, List, length, slice_index, refl, sym, ap, subst, ◌∙◌, arith}
 use Rattle.sg_chains.specs.Chained.{users_on}
 use Rattle.sg_maxmin.specs.Sharing.{Sharing}
@@ -9,7 +9,7 @@ use Rattle.sg_levels.proofs.Listed.{none_some}
 use Rattle.sg_levels.proofs.HeldLevels.{row_same, waiting_same}
 use Rattle.sg_levels.proofs.RowRise.{IsOnWay, Looked, looked_all, looked_first, looked_next}
 
--- what a pass found, after so many looks, of which so many were to be had
+-- what a pass over the users found, after so many of the available visits
 pub record IsNext (s : Sharing) (c : ℕ) (levels : List (Option ℕ)) (low left looks before now : ℕ) (next : Option Above) : Type 0 where
   pub level : IfSome next (λ a. IsLevelAbove s c levels low a.level)
   pub users : IfSome next (λ a. IsPass s c left a.users)
@@ -63,7 +63,7 @@ module _ (s : Sharing) (c : ℕ) (levels : List (Option ℕ)) (looks before : �
         same : (x y : ℕ) → Some x ≡ Some y → x ≡ y
         same x y h = cc h
 
-    -- with one pass more the looks are still as few
+    -- with another pass over the users the visits stay as few
     more_looked : (next : Option ℕ) (then : ℕ) → then ≡ now + length (users_on s.users c) → (next ≡ None → row_waiting s.slots (below_at levels new) (users_on s.users c) ≡ 0) → IfSome next (λ x. (0 < row_waiting s.slots (below_at levels new) (users_on s.users c)) × (x ≡ row_level (slice_index s.capacities c) s.slots (below_at levels new) (users_on s.users c))) →
         Looked levels (users_on s.users c) new next before then
     more_looked next then e none some =
@@ -102,7 +102,7 @@ module _ (s : Sharing) (c : ℕ) (levels : List (Option ℕ)) (looks before : �
           enough = λ e. absurd (none_some (sym e));
         }
 
--- the same with so many looks more on both sides
+-- the same with as many more visits before and after
 pub shifted : (after now more : ℕ) (o : Option Above) → IfSome o (λ b. after ≡ now + b.users) → IfSome o (λ b. after + more ≡ now + more + b.users)
 shifted after now more None told = tt
 shifted after now more (Some b) told = omega (arith, told)

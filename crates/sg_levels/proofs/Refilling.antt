@@ -1,4 +1,4 @@
--- What a filling found is written.
+-- The result of a max-min solve is written.
 use Rattle.std.proofs.Common.{◌≡◌, ◌≢◌, ℕ, ◌+◌, ◌^◌, ◌<◌, ◌≤◌, ◌⊎◌, inl, inr, Bool, true, false, ◌||◌, is_none, true≢false, IsSome, Option, None, Some, List, [], ◌∷◌, ◌++◌, length, get_or, get_or-set_same, get_or-set_other, set, take, slice_index, sum_by, refl, sym, ap, subst, ◌∙◌, arith}
 use Rattle.std.proofs.lemmas.List.{take_more}
 use Rattle.sg_base.specs.MarkSet.{MarkSet, is_in}
@@ -18,7 +18,7 @@ use Rattle.sg_levels.proofs.Changing.{hold_is_local_lem}
 use Rattle.sg_levels.proofs.Steps.{held_settles_lem}
 use Rattle.sg_levels.proofs.WayBack.{way_back_lem}
 
--- ---- one number more of a list
+-- ---- one more number of a list
 pub in_take : (id : ℕ) (xs : List ℕ) (k : ℕ) → k < length xs → is_in id (take (k + 1) xs) ≡ true → (id ≡ get_or xs k 0) ⊎ (is_in id (take k xs) ≡ true)
 in_take id xs k less i = elim (in_append id (get_or xs k 0) (take k xs) (is_in_In id (take k xs ++ get_or xs k 0 ∷ []) (subst (λ ys. is_in id ys ≡ true) (take_more xs k 0 less) i))) [ inl e ↦ inl e | inr j ↦ inr (in_is id (take k xs) j) ]
 
@@ -29,7 +29,7 @@ out_take id xs k less off =
       elim (bool_cases (is_in id (take k xs))) [ inl on ↦ absurd (true≢false (sym (in_more id (get_or xs k 0) (take k xs) on) ∙ off')) | inr none ↦ none ],
     )
 
--- ---- one flow more is given its level
+-- ---- one more flow is given its level
 pub moved_gives : (s : Sharing) (old new : Levels) (flow : ℕ) (level : Option ℕ) → flow < length old.levels.items → flow < length old.parts.items → IsMoved s old new flow level → IsGiven s old new flow level
 moved_gives s old new flow level below below' m =
     let part = demand_of (flow_in s.slots flow) level in
@@ -69,7 +69,7 @@ given_parts s flows levels first now id parts are held off = elim (bool_cases (i
   | inr out ↦ are.other_parts id out ∙ parts id held (subst (λ (m : MarkSet). is_in id m.members ≡ false) are.stale off) ∙ ap (demand_of (flow_in s.slots id)) (sym (are.others id out))
 ]
 
--- ---- one resource more
+-- ---- one more resource
 pub held_on : (resources : List ℕ) (holds : List (Option ℕ)) (k : ℕ) (first old new : Levels) → k < length resources → get_or resources k 0 < length old.holds.items →
     new.holds.items ≡ set old.holds.items (get_or resources k 0) (level_at holds (get_or resources k 0)) → KeepsFlows first new →
     AreHeldAt (take k resources) holds first old → AreHeldAt (take (k + 1) resources) holds first new

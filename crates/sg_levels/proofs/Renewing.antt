@@ -1,4 +1,4 @@
--- Flows with another bound are given the level of their bound, and a settling ends.
+-- Flows with another bound are given the level of their bound, and a rate update ends.
 use Rattle.std.proofs.Common.{◌≡◌, ◌≢◌, ℕ, ◌<◌, ◌⊎◌, inl, inr, true, false, true≢false, None, List, [], ◌∷◌, length, get_or-set_same, get_or-set_other, refl, sym, ap, subst, ◌∙◌, arith}
 use Rattle.sg_base.specs.MarkSet.{MarkSet, is_in}
 use Rattle.sg_maxmin.specs.Sharing.{Sharing, IsSound, flow_at, uses_at}
@@ -44,7 +44,7 @@ module _ (s : Sharing) (sound : IsSound s) (old new : Levels) (id : ℕ) (rest :
       (parts_moved s old new id (bound_of (flow_in s.slots id)) rest below below' moved before.parts)
       (λ other i. before.alive other (in_tail other id rest i))
 
--- none has another bound: a settling goes on
+-- none has another bound: a rate update continues
 pub settling_from : (s : Sharing) (all : Levels) → IsBetweenBut s all [] → IsSettling s all
 settling_from s all are = record { kept = are.kept; parts = are.parts; written = but_none s all.levels.items all.holds.items all.active.members are.written }
 
@@ -56,7 +56,7 @@ settling_to s all are = record {
   written = none_but s all.levels.items all.holds.items all.active.members are.written;
 }
 
--- other flows may be told to have another bound
+-- other flows may be listed as having another bound
 pub told_between : (s : Sharing) (all : Levels) (stale : MarkSet) (but : List ℕ) → stale.room ≡ all.stale.room → IsBetweenBut s all but → IsBetweenBut s (record all { stale = stale }) but
 told_between s all stale but room are =
     let kept = are.kept in
@@ -75,6 +75,6 @@ told_between s all stale but room are =
       written = are.written;
     }
 
--- and where nothing is active each level is that of the filling
+-- and if nothing is active each level is the max-min level
 pub filled_from : (s : Sharing) → IsSound s → (all : Levels) → IsSettling s all → ((r : ℕ) → is_active all.active.members r ≡ false) → AreFilled s all.levels.items
 filled_from s sound all are clean = held_is_filling_lem s all.levels.items (level_at all.holds.items) sound (settling_ends_lem s all.levels.items all.holds.items all.active.members sound are.written clean)

@@ -102,7 +102,7 @@ module _ (capacity : ℕ) (slots : List (Option Flow)) (levels : List (Option �
         reached = λ w. row_rises capacity slots levels row low l up (omega arith) w;
       }
 
-  -- where nothing waits there is no hold
+  -- if nothing waits there is no hold
   pub way_none : (low : ℕ) → IsOnWay capacity slots levels row low → row_waiting slots (below_at levels low) row ≡ 0 → IsHold capacity slots levels row None
   way_none low way none = record {
     above = λ x u w. elim (lt_cases x low) [ inl under ↦ way.above x under w | inr over ↦ absurd (omega (arith, waits_less slots levels row low x over, none, w)) ];
@@ -167,7 +167,7 @@ fewer levels x y less (id ∷ row) = elim (fewer levels x y less row) [
   ]
 ]
 
--- so many looks, where the next pass may be the last
+-- so many visits; the next pass over the users may be the last
 abbrev pub Looked : List (Option ℕ) → List ℕ → ℕ → Option ℕ → ℕ → ℕ → Type 0
 Looked levels row low next before after =
     (after + row_count levels low row * length row ≤ before + (length row + 1) * length row)

@@ -1,4 +1,4 @@
--- The steps of settling.
+-- The steps of a rate update.
 use Rattle.std.proofs.Common.{◌≡◌, ◌≢◌, ℕ, zero, suc, ◌+◌, ◌<◌, ◌≤◌, ◌⊎◌, inl, inr, true, false, true≢false, Option, None, Some, IsSome, option_map, All, drop, take, List, [], ◌∷◌, length, get_or, set, get_or-set_same, get_or-set_other, slice_index, refl, sym, ap, subst, ◌∙◌, arith}
 use Rattle.sg_base.specs.MarkSet.{is_in}
 use Rattle.sg_chains.specs.Chained.{users_on}
@@ -73,7 +73,7 @@ module _ (s : Sharing) (sound : IsSound s) (levels holds : List (Option ℕ)) wh
     ];
   }
 
-  -- a user's new level, where all its resources are active, but for c maybe
+  -- a user's new level, if all its resources are active, except for c maybe
   changed : (active active' : List ℕ) (c : ℕ) (old : Option ℕ) (id : ℕ) (todo : List ℕ) (flow : Flow) (v : Option ℕ) → AreSettlingOn s levels holds active c old (id ∷ todo) → flow_at s.slots id ≡ Some flow → id < length levels →
       IsAtMost v (bound_of flow) → HasCause holds flow v →
       ((r : ℕ) → is_active active' r ≡ false → (is_active active r ≡ false) × (is_in r flow.uses ≡ true → (IsAtMost v (level_at holds r)) × (IsHold (slice_index s.capacities r) s.slots levels (users_on s.users r) (level_at holds r) → IsHold (slice_index s.capacities r) s.slots (set levels id v) (users_on s.users r) (level_at holds r)))) →
@@ -144,7 +144,7 @@ module _ (s : Sharing) (sound : IsSound s) (levels holds : List (Option ℕ)) wh
       changed active active' c old id todo flow (bound_of flow) are e below (at_most_self (bound_of flow)) (at_bound refl)
       (λ r d. let m = marks r d in (m.0, λ u. absurd (true≢false (sym u ∙ m.1))))
 
-  -- what is written of a resource is its hold again, and its users are looked at
+  -- what is written of a resource is its hold again, and its users are updated
   pub start_keeps : (active active' : List ℕ) (c' : ℕ) (old' : Option ℕ) (c : ℕ) (hold : Option ℕ) → AreSettlingOn s levels holds active c' old' [] → c < length holds → ((r : ℕ) → r ≢ c → is_active active' r ≡ is_active active r) → IsHold (slice_index s.capacities c) s.slots levels (users_on s.users c) hold →
       AreSettlingOn s levels (set holds c hold) active' c (level_at holds c) (users_on s.users c)
   start_keeps active active' c' old' c hold are below rests is = record {
@@ -173,7 +173,7 @@ module _ (s : Sharing) (sound : IsSound s) (levels holds : List (Option ℕ)) wh
         | inr ne ↦ inl (at_hold r u (set_other holds c r hold ne ∙ k))
       ]
 
-  -- what held none and holds none has no user to look at
+  -- what held none and holds none has no user to update
   pub rest_keeps : (active active' : List ℕ) (c' : ℕ) (old' : Option ℕ) (c : ℕ) → AreSettlingOn s levels holds active c' old' [] → ((r : ℕ) → r ≢ c → is_active active' r ≡ is_active active r) → level_at holds c ≡ None → IsHold (slice_index s.capacities c) s.slots levels (users_on s.users c) None → AreSettlingOn s levels holds active' c' old' []
   rest_keeps active active' c' old' c are rests none is = record {
     resources = λ r l d. elim (eq_cases r c) [
@@ -251,7 +251,7 @@ user_below s sound c id n i most = omega (arith, flow_below s.slots id (flow_in 
 pub rows_fit : (s : Sharing) → IsSound s → (id n : ℕ) → n ≡ length s.capacities → All (λ c. c < n) (uses_at s.slots id)
 rows_fit s sound id n e = subst (λ m. All (λ c. c < m) (uses_at s.slots id)) (sym e) (rows_exist s sound id)
 
--- with no user left to look at, it doesn't matter whose they were
+-- with no user left to update, it doesn't matter whose they were
 pub any_end : (s : Sharing) (levels holds : List (Option ℕ)) (active : List ℕ) (c c' : ℕ) (old old' : Option ℕ) → AreSettlingOn s levels holds active c old [] → AreSettlingOn s levels holds active c' old' []
 any_end s levels holds active c c' old old' are = record {
   resources = are.resources;

@@ -76,7 +76,7 @@ module _ (s : Sharing) (sound : IsSound s) where
       let f = on_held c id (in_at id (users_on s.users c) i h refl) in
       flow_below s.slots id f.0 f.1
 
--- ---- what a call tells of a flow's weight and bound
+-- ---- what a call returns of a flow's weight and bound
 pub weight_is : (slots : List (Option Flow)) (id w : ℕ) → IsSome (flow_at slots id) → IfSome (flow_at slots id) (λ (f : Flow). w ≡ f.weight) → w ≡ weight_at slots id
 weight_is slots id w some told =
     let f = some_of (flow_at slots id) some in

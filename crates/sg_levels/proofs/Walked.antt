@@ -41,7 +41,7 @@ over next value uses [] k at e h = omega arith
 over next value uses (c ∷ row) zero at e h = absurd (none_some (sym e ∙ h.2))
 over next value uses (c ∷ row) (suc k) at e h = omega (arith, over next value uses row k at e h)
 
--- the same of the use that was looked at
+-- the same of the use that was visited
 pub goes_at : (next : Use → Option ℕ) (value : Use → ℕ) (uses : List (Option Use)) (row : List ℕ) (k i : ℕ) (at : Option ℕ) (u : Use) → at ≡ Some i → Leads next value uses at (drop k row) → get_or uses i None ≡ Some u → Goes next value uses row k i u
 goes_at next value uses row k i at u e h is = let r = goes next value uses row k i at e h in subst (Goes next value uses row k i) (some_same r.0 u (sym r.1.there ∙ is)) r.1
 
@@ -54,7 +54,7 @@ smaller next value uses row k i at u e h fits is =
     let g = goes_at next value uses row k i at u e h is in
     omega (arith, left_is (length uses) next value uses (next u) (drop (suc k) row) g.leads (omega (arith, fits, length-drop (suc k) row)), left_is (length uses) next value uses at (drop k row) h (omega (arith, fits, length-drop k row)), length-drop (suc k) row, length-drop k row, g.less)
 
--- a walk along a row, of which so many are behind
+-- a walk along a row, of which so many are after
 pub record IsWalk (next : Use → Option ℕ) (value : Use → ℕ) (uses : List (Option Use)) (row : List ℕ) (k : ℕ) (at : Option ℕ) : Type 0 where
   pub leads : Leads next value uses at (drop k row)
   pub within : k ≤ length row

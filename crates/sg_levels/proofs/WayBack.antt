@@ -1,4 +1,4 @@
--- The way back: what is joined to what changed is filled, and all flows are held.
+-- The fallback: the connected components of all that changed are solved, and all flows are held.
 use Rattle.std.proofs.Common.{◌≡◌, ℕ, zero, suc, ◌-◌, ◌<◌, ◌≤◌, ◌⊎◌, inl, inr, Bool, true, false, true≢false, cond, IsTrue, Option, None, Some, option_map, List, [], ◌∷◌, map, length, slice_index, refl, sym, ap, subst, ◌∙◌, arith}
 use Rattle.sg_base.specs.MarkSet.{is_in}
 use Rattle.sg_chains.specs.Chained.{users_on}
@@ -44,7 +44,7 @@ module _ (capacity : ℕ) (slots : List (Option Flow)) (levels : List (Option �
   has_hold : (hold : Option ℕ) × IsHold capacity slots levels row hold
   has_hold = hold_from capacity 0 (omega arith) (way_starts capacity slots levels row)
 
--- ---- the levels of the filling, of all flows
+-- ---- the max-min levels of all flows
 filled : List (Option Flow) → (Flow → ℕ) → List (Option ℕ)
 filled slots level = map (option_map level) slots
 
@@ -81,7 +81,7 @@ module _ (s : Sharing) (sound : IsSound s) (old new : Levels) (p q : ℕ → Boo
   whole : AreHeld s all holds
   whole = filling_is_held_lem s all holds sound are_filled holds_are
 
-  -- ---- a flow that isn't joined
+  -- ---- a flow outside the component
   away_uses : (id r : ℕ) (flow : Flow) → flow_at s.slots id ≡ Some flow → is_in r flow.uses ≡ true → p id ≡ false → q r ≡ false
   away_uses id r flow e u away = elim (bool_cases (q r)) [
     | inl here ↦ absurd (true≢false (sym (along.users r id here (in_is id (users_on s.users r) (users_of s sound id r flow e (is_in_In r flow.uses u)))) ∙ away))

@@ -1,4 +1,4 @@
--- A settling stays within what is joined to what was active, noted or stale.
+-- A rate update stays within the connected components of what was active, noted or stale.
 use Rattle.std.proofs.Common.{◌≡◌, ◌≢◌, ℕ, ◌⊎◌, inl, inr, true, false, true≢false, cond, IsTrue, Option, List, [], ◌∷◌, ◌++◌, sym, ap, subst, ◌∙◌}
 use Rattle.sg_base.specs.MarkSet.{MarkSet, is_in, with_mark}
 use Rattle.sg_maxmin.specs.Sharing.{Sharing, uses_at}

@@ -1,4 +1,4 @@
--- What a change of levels leaves of the holds, which holds a filling has, and when a resource holds none.
+-- What a change of levels leaves of the holds, which holds max-min levels have, when a resource holds none.
 use Rattle.std.specs.Prelude.{◌≡◌, ◌≢◌, ℕ, ◌+◌, ◌*◌, ◌<◌, ◌≤◌, ◌⊎◌, true, Option, None, Some, option_map, List, sum_by, slice_index}
 use Rattle.sg_base.specs.MarkSet.{is_in}
 use Rattle.sg_chains.specs.Chained.{users_on}
@@ -48,7 +48,7 @@ HoldStaysFrom =
 abbrev pub AreWithin : List (Option Flow) → List (Option ℕ) → List ℕ → Type 0
 AreWithin slots levels row = (id : ℕ) → is_in id row ≡ true → IsAtMost (level_at levels id) (option_map (bound_level (weight_at slots id)) (bound_at slots id))
 
--- Where the shares, twice all weights, and a level for each unit of weight of the flows without one fit the capacity, a resource
+-- If the shares, twice all weights, and a level for each unit of weight of the flows without one fit the capacity, a resource
 -- is above that level.
 abbrev pub SlackIsAbove : Type 0
 SlackIsAbove =
@@ -58,7 +58,7 @@ SlackIsAbove =
     0 < row_waiting s.slots (below_at levels x) row →
     x < row_level (slice_index s.capacities c) s.slots (below_at levels x) row
 
--- Where all flows have levels, and the shares and twice all weights fit the capacity, a resource holds none.
+-- If all flows have levels, and the shares and twice all weights fit the capacity, a resource holds none.
 abbrev pub SlackHoldsNone : Type 0
 SlackHoldsNone =
     (s : Sharing) (levels : List (Option ℕ)) (c : ℕ) → IsSound s → let row = users_on s.users c in
@@ -66,7 +66,7 @@ SlackHoldsNone =
     row_taken s.slots (level_at levels) row + 2 * sum_by (weight_at s.slots) row ≤ slice_index s.capacities c →
     IsHold (slice_index s.capacities c) s.slots levels row None
 
--- Of the levels of the filling: a resource that is at the level of one of its users holds at it,
+-- Of the max-min levels: a resource that is at the level of one of its users holds at it,
 abbrev pub FullHolds : Type 0
 FullHolds =
     (s : Sharing) (levels : List (Option ℕ)) (c id x : ℕ) → IsSound s → AreFilled s levels → let row = users_on s.users c in

@@ -1,4 +1,4 @@
--- The demand on a resource: a sum over its flows by which a resource that holds none is known without a look.
+-- The demand on a resource: a sum over its flows that shows without a visit that a resource holds none.
 use Rattle.std.specs.Prelude.{ℕ, ◌+◌, ◌-◌, ◌*◌, ◌^◌, ◌<◌, min, Option, None, Some, List, sum_by, slice_index}
 use Rattle.sg_chains.specs.Chained.{users_on}
 use Rattle.sg_maxmin.specs.Fill.{Flow, share_at}

@@ -34,15 +34,15 @@ pub record AreHeld (s : Sharing) (levels : List (Option ℕ)) (holds : ℕ → O
   pub under : (id c : ℕ) (flow : Flow) → flow_at s.slots id ≡ Some flow → is_in c flow.uses ≡ true → IsAtMost (level_at levels id) (holds c)
   pub cause : (id : ℕ) (flow : Flow) → flow_at s.slots id ≡ Some flow → (x : ℕ) × (level_at levels id ≡ Some x) × IsCause holds flow x
 
--- each level is that of the filling
+-- each level is the max-min level
 abbrev pub AreFilled : Sharing → List (Option ℕ) → Type 0
 AreFilled s levels = (id : ℕ) (flow : Flow) → flow_at s.slots id ≡ Some flow → level_at levels id ≡ Some (level_of s.capacities (held s.slots) flow)
 
--- Levels at which all flows are held are those of the filling.
+-- Levels at which all flows are held are the max-min levels.
 abbrev pub HeldIsFilling : Type 0
 HeldIsFilling = (s : Sharing) (levels : List (Option ℕ)) (holds : ℕ → Option ℕ) → IsSound s → AreHeld s levels holds → AreFilled s levels
 
--- The levels of the filling are those at which all flows are held.
+-- The max-min levels are those at which all flows are held.
 abbrev pub FillingIsHeld : Type 0
 FillingIsHeld =
     (s : Sharing) (levels : List (Option ℕ)) (holds : ℕ → Option ℕ) → IsSound s → AreFilled s levels →

@@ -1,4 +1,4 @@
--- How much is joined: sums over the flows whose numbers pass, and how many looks these allow.
+-- The size of a connected component, as sums over flow numbers, and the visits that it allows.
 use Rattle.std.specs.Prelude.{ℕ, zero, suc, ◌+◌, ◌-◌, ◌*◌, Bool, Option, List, length, if◌then◌else◌}
 use Rattle.sg_maxmin.specs.Fill.{Flow}
 use Rattle.sg_maxmin.specs.Sharing.{flow_at, slot_part}
@@ -18,6 +18,6 @@ joined_count slots passes = sum_below (joined_part slots (λ flow. 1) passes) (l
 abbrev pub joined_uses : List (Option Flow) → (ℕ → Bool) → ℕ
 joined_uses slots passes = sum_below (joined_part slots (λ flow. length flow.uses) passes) (length slots)
 
--- so many looks may be taken where so many flows with so many uses are joined, and so many ended
+-- the visits allowed for a component of so many flows with so many uses, after so many flows ended
 abbrev pub spare_looks : ℕ → ℕ → ℕ → ℕ
 spare_looks flows uses ended = 4 * ((flows + ended) * (flows + ended + 1)) + (flows + 4 * ended - 1) * uses

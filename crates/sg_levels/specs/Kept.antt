@@ -1,4 +1,4 @@
--- What a `Levels` keeps, and what a change and a look at a resource do to it.
+-- What a `Levels` keeps, and what a change and the processing of a resource do to it.
 use Rattle.std.specs.Prelude.{◌≡◌, ◌≢◌, ℕ, ◌+◌, ◌-◌, ◌*◌, ◌^◌, ◌<◌, ◌≤◌, Bool, true, false, ◌||◌, is_none, Option, None, Some, IsTrue, IsSome, IfSome, List, [], ◌∷◌, All, length, sum_by, slice_index, slice_set, ◌==◌, if◌then◌else◌}
 use Rattle.sg_base.specs.MarkSet.{is_in, with_mark}
 use Rattle.sg_chains.specs.Chained.{times, users_on}
@@ -29,7 +29,7 @@ pub record HasResource (s : Sharing) (all : Levels) (r : ℕ) : Type 0 where
   pub places : HasPlaces s all
   pub resource : r < length s.capacities
 
--- The demand on each resource is the sum of its flows' parts in it; where there is no flow there is no part; and no flow has more
+-- The demand on each resource is the sum of its flows' parts in it; if there is no flow there is no part; and no flow has more
 -- uses than the longest. A resource has as many users as are counted, or more.
 pub record IsKept (s : Sharing) (kept : Levels) : Type 0 where
   pub places : HasPlaces s kept
@@ -50,7 +50,7 @@ pub record IsUser (s : Sharing) (all : Levels) (r id : ℕ) : Type 0 where
   pub resource : r < length s.capacities
   pub user : is_in id (users_on s.users r) ≡ true
 
--- a flow's part is what it asks for at its level, but for some flows
+-- a flow's part is what it asks for at its level, except for some flows
 abbrev pub AreParts : Sharing → Levels → List ℕ → Type 0
 AreParts s kept but = (id : ℕ) → IsSome (flow_at s.slots id) → is_in id but ≡ false → slice_index kept.parts.items id ≡ demand_of (flow_in s.slots id) (level_at kept.levels.items id)
 
@@ -70,12 +70,12 @@ pub record HasHold (s : Sharing) (all : Levels) (r : ℕ) (hold : Option ℕ) : 
   pub at : IsSettlingAt s all r
   pub hold_is : IsHold (slice_index s.capacities r) s.slots all.levels.items (users_on s.users r) hold
 
--- the same while the users of a resource are looked at
+-- the same while the users of a resource are updated
 pub record IsSettlingOn (s : Sharing) (all : Levels) (resource : ℕ) (was : Option ℕ) (todo : List ℕ) : Type 0 where
   pub parts : AreParts s all []
   pub written : AreSettlingOn s all.levels.items all.holds.items all.active.members resource was todo
 
--- the same between settlings, where these flows, which are held, began or have another bound since they were given their levels
+-- the same between rate updates; these flows, which are held, began or got another bound since they were given their levels
 pub record IsBetweenBut (s : Sharing) (all : Levels) (stale : List ℕ) : Type 0 where
   pub kept : IsKept s all
   pub parts : AreParts s all stale
@@ -103,13 +103,13 @@ pub record IsMoved (s : Sharing) (old new : Levels) (flow : ℕ) (level : Option
   pub stale : new.stale ≡ old.stale
   pub holds : new.holds.items ≡ old.holds.items
 
--- and what is kept is right still; each use of the flow is looked at once
+-- and what is kept stays right; each use of the flow is visited once
 pub record MovesTo (s : Sharing) (flow : ℕ) (level : Option ℕ) (old new : Levels) (before after : ℕ) : Type 0 where
   pub moved : IsMoved s old new flow level
   pub kept : IsKept s new
   pub looks : after ≡ before + length (uses_at s.slots flow)
 
--- nothing changes but the demands and the counts, and which resources are active
+-- only the demands and the counts change, and which resources are active
 pub record KeepsLevels (old new : Levels) : Type 0 where
   pub levels : new.levels.items ≡ old.levels.items
   pub parts : new.parts.items ≡ old.parts.items
@@ -121,7 +121,7 @@ pub record KeepsLevels (old new : Levels) : Type 0 where
   pub counts : length new.counts.items ≡ length old.counts.items
   pub active : new.active.room ≡ old.active.room
 
--- nothing changes but the room, which doesn't shrink
+-- only the room changes, and it doesn't shrink
 pub record KeepsAll (old new : Levels) : Type 0 where
   pub levels : (id : ℕ) → level_at new.levels.items id ≡ level_at old.levels.items id
   pub parts : (id : ℕ) → slice_index new.parts.items id ≡ slice_index old.parts.items id
@@ -148,7 +148,7 @@ pub record HasRoom (n : ℕ) (kept : Levels) : Type 0 where
 abbrev pub IsFresh : ℕ → Levels → Type 0
 IsFresh resources kept = (s : Sharing) → IsSound s → s.slots ≡ [] → length s.capacities ≡ resources → IsBetween s kept
 
--- a flow more, under a number that was free
+-- one more flow, under a number that was free
 pub record IsStarted (s t : Sharing) (id : ℕ) (flow : Flow) : Type 0 where
   pub free : flow_at s.slots id ≡ None
   pub in_range : id < length s.slots
@@ -183,7 +183,7 @@ pub record CanShift (before after : ℕ) (resources demands : List ℕ) : Type 0
 abbrev pub Shifts : ℕ → ℕ → List ℕ → List ℕ → List ℕ → Type 0
 Shifts before after resources old new = (c : ℕ) → slice_index new c + times c resources * before ≡ slice_index old c + times c resources * after
 
--- no more users are counted, and where a part ends one less at each of these resources
+-- no more users are counted, and if a part ends one less at each of these resources
 abbrev pub Lessens : ℕ → List ℕ → Levels → Levels → Type 0
 Lessens after resources old new = (c : ℕ) → slice_index new.counts.items c ≤ slice_index old.counts.items c - (if after == 0 then times c resources else 0)
 
@@ -200,11 +200,11 @@ pub record Activates (resources old new : List ℕ) : Type 0 where
   pub all : ActivatesAll resources old new
   pub only : ActivatesOnly resources old new
 
--- the same but for one of them, which stays as it was
+-- the same except for one of them, which stays as it was
 abbrev pub ActivatesBut : ℕ → List ℕ → List ℕ → List ℕ → Type 0
 ActivatesBut but resources old new = (r : ℕ) → is_active new r ≡ false → (is_active old r ≡ false) × (is_in r resources ≡ true → r ≡ but)
 
--- a test of flows and one of resources hold along all uses, where the one or the other holds
+-- a test of flows and one of resources hold along all uses, if the one or the other holds
 pub record PassAlong (s : Sharing) (flows resources : ℕ → Bool) : Type 0 where
   pub uses : (id r : ℕ) → IsTrue (flows id) → is_in r (uses_at s.slots id) ≡ true → IsTrue (resources r)
   pub users : (r id : ℕ) → IsTrue (resources r) → is_in id (users_on s.users r) ≡ true → IsTrue (flows id)
@@ -223,7 +223,7 @@ IsUnmarked all = (p q : ℕ → Bool) → IsWithin p q all
 abbrev pub MarksNoMore : Levels → Levels → Type 0
 MarksNoMore old new = (p q : ℕ → Bool) → IsWithin p q old → IsWithin p q new
 
--- where they hold of this flow, of this resource or of these, and of all that was active, noted or stale, they hold of all that is
+-- if they hold of this flow, of this resource or of these, and of all that was active, noted or stale, they hold of all that is
 abbrev pub FlowJoins : ℕ → Levels → Levels → Type 0
 FlowJoins flow old new = (p q : ℕ → Bool) → IsTrue (p flow) → IsWithin p q old → IsWithin p q new
 
@@ -233,13 +233,13 @@ ResourceJoins resource old new = (p q : ℕ → Bool) → IsTrue (q resource) �
 abbrev pub FlowStaysWithin : Sharing → ℕ → Levels → Levels → Type 0
 FlowStaysWithin s flow old new = (p q : ℕ → Bool) → PassAlong s p q → IsTrue (p flow) → IsWithin p q old → IsWithin p q new
 
--- what is kept is right still, and what a flow moves is noted and joined
+-- what is kept stays right, and what a flow moves is noted and connected
 pub record Moves (s : Sharing) (flow : ℕ) (old new : Levels) : Type 0 where
   pub kept : IsKept s new
   pub moved : NotesMoved old new
   pub within : FlowStaysWithin s flow old new
 
--- what a look at a user of a resource does, of which another hold was written before; the flow's uses are looked at so often
+-- a user of a resource with a new hold is updated; the flow's uses are visited so often
 pub record SettlesUser (s : Sharing) (resource : ℕ) (was : Option ℕ) (flow : ℕ) (old new : Levels) (times before after : ℕ) : Type 0 where
   pub settles : (todo : List ℕ) → IsSettlingOn s old resource was (flow ∷ todo) → IsSettlingOn s new resource was todo
   pub moves : Moves s flow old new
@@ -249,7 +249,7 @@ pub record SettlesUser (s : Sharing) (resource : ℕ) (was : Option ℕ) (flow :
 abbrev pub ResourceStaysWithin : Sharing → ℕ → Levels → Levels → Type 0
 ResourceStaysWithin s resource old new = (p q : ℕ → Bool) → PassAlong s p q → IsTrue (q resource) → IsWithin p q old → IsWithin p q new
 
--- what is written is right still, and what a look at a resource moves is noted and joined
+-- what is written stays right, and what the processing of a resource moves is noted and connected
 pub record Settles (s : Sharing) (resource : ℕ) (old new : Levels) : Type 0 where
   pub settling : IsSettling s new
   pub moved : NotesMoved old new
@@ -258,7 +258,7 @@ pub record Settles (s : Sharing) (resource : ℕ) (old new : Levels) : Type 0 wh
 abbrev pub UsesStayWithin : List ℕ → Levels → Levels → Type 0
 UsesStayWithin resources old new = (p q : ℕ → Bool) → ((r : ℕ) → is_in r resources ≡ true → IsTrue (q r)) → IsWithin p q old → IsWithin p q new
 
--- What a change of the system does: what is kept is right of it, each flow that changed is noted, and what is active, noted or stale is what was and what the change joins to it.
+-- What a change of the system does: what is kept stays right, each flow that changed is noted, and what is active, noted or stale is what was, and what the change adds.
 pub record KeepsUp (s t : Sharing) (Joins : Levels → Levels → Type 0) (old new : Levels) : Type 0 where
   pub between : IsBetween t new
   pub changed : NotesChanged s t old new
@@ -277,7 +277,7 @@ pub record IsLevelAbove (s : Sharing) (resource : ℕ) (levels : List (Option �
   pub none : level ≡ None → row_waiting s.slots (below_at levels low) (users_on s.users resource) ≡ 0
   pub some : IfSome level (λ x. (0 < row_waiting s.slots (below_at levels low) (users_on s.users resource)) × (x ≡ row_level (slice_index s.capacities resource) s.slots (below_at levels low) (users_on s.users resource)))
 
--- a pass over the users of a resource takes a look at each, and so many suffice
+-- a pass over the users of a resource visits each once, and so many visits suffice
 pub record IsPass (s : Sharing) (resource looks users : ℕ) : Type 0 where
   pub all : users ≡ length (users_on s.users resource)
   pub few : users ≤ looks
@@ -300,7 +300,7 @@ pub record IsFirstPass (s : Sharing) (resource : ℕ) (levels : List (Option ℕ
   pub level_is : IsLevelAbove s resource levels 0 first.level
   pub pass : IsPass s resource looks first.users
 
--- so many looks suffice for the hold of a resource with so many users
+-- the visits that suffice for the hold of a resource with so many users
 abbrev pub hold_looks : ℕ → ℕ
 hold_looks users = (users + 2) * users
 
@@ -308,21 +308,21 @@ hold_looks users = (users + 2) * users
 abbrev pub NotesAddUp : Type 0
 NotesAddUp = (s t u : Sharing) (a b c : Levels) → NotesChanged s t a b → NotesChanged t u b c → NotesChanged s u a c
 
--- Where the levels before and after are those of the filling, a flow that isn't noted was there before, with the share that it has now.
+-- If the levels before and after are the max-min levels, a flow that isn't noted was there before, with the same share.
 abbrev pub SharesAreNoted : Type 0
 SharesAreNoted =
     (s t : Sharing) (old new : Levels) → NotesChanged s t old new → AreFilled s old.levels.items → AreFilled t new.levels.items →
     (id : ℕ) (flow : Flow) → flow_at t.slots id ≡ Some flow → is_in id new.moved.members ≡ false →
     (flow_at s.slots id ≡ Some flow) × (share_of s.capacities (held s.slots) flow ≡ share_of t.capacities (held t.slots) flow)
 
--- What is joined has its levels of the filling, and holds that are right of them; all else is as it was.
+-- The component has its max-min levels, and holds that are right of them; all else is unchanged.
 pub record IsRefilled (s : Sharing) (flows resources : ℕ → Bool) (old new : Levels) : Type 0 where
   pub filled : (id : ℕ) (flow : Flow) → flow_at s.slots id ≡ Some flow → IsTrue (flows id) → level_at new.levels.items id ≡ Some (level_of s.capacities (held s.slots) flow)
   pub other_flows : (id : ℕ) → flows id ≡ false → level_at new.levels.items id ≡ level_at old.levels.items id
   pub held_at : (r : ℕ) → r < length s.capacities → IsTrue (resources r) → IsHold (slice_index s.capacities r) s.slots new.levels.items (users_on s.users r) (level_at new.holds.items r)
   pub other_resources : (r : ℕ) → resources r ≡ false → level_at new.holds.items r ≡ level_at old.holds.items r
 
--- The way back, where a settling has no looks left: what is joined to all that is active or stale is filled, and then all flows are held.
+-- The fallback when no visits remain: the connected components of all that is active or stale are solved, and then all flows are held.
 abbrev pub WayBack : Type 0
 WayBack =
     (s : Sharing) (old new : Levels) (flows resources : ℕ → Bool) → IsSound s → IsBetween s old → PassAlong s flows resources → IsWithin flows resources old →
@@ -350,7 +350,7 @@ pub record AreGiven (s : Sharing) (flows : List ℕ) (levels : List (Option ℕ)
   pub holds : new.holds.items ≡ old.holds.items
   pub stale : new.stale ≡ old.stale
 
--- nothing changes but the holds
+-- only the holds change
 pub record KeepsFlows (old new : Levels) : Type 0 where
   pub levels : new.levels.items ≡ old.levels.items
   pub parts : new.parts.items ≡ old.parts.items
@@ -368,7 +368,7 @@ pub record AreHeldAt (resources : List ℕ) (holds : List (Option ℕ)) (old new
   pub others : (r : ℕ) → is_in r resources ≡ false → level_at new.holds.items r ≡ level_at old.holds.items r
   pub flows : KeepsFlows old new
 
--- these flows are held and have these levels in the filling, and these resources hold their flows at these
+-- these flows are held and have these max-min levels, and these resources hold their flows at these
 pub record IsFound (s : Sharing) (flows resources : List ℕ) (levels holds : List (Option ℕ)) : Type 0 where
   pub flows_held : All (λ id. IsSome (flow_at s.slots id)) flows
   pub places : length s.slots ≤ length levels

@@ -1,4 +1,4 @@
--- Levels and holds while they are made to agree: some resources wait to be looked at, and some users of one of them.
+-- Levels and holds while they are made to agree: some resources wait to be processed, and some users of one of them.
 use Rattle.std.specs.Prelude.{◌≡◌, ℕ, ◌<◌, ◌⊎◌, Bool, true, false, Option, None, Some, List, [], length, slice_index}
 use Rattle.sg_base.specs.MarkSet.{MarkSet, is_in}
 use Rattle.sg_chains.specs.Chained.{users_on}
@@ -7,7 +7,7 @@ use Rattle.sg_maxmin.specs.Sharing.{Sharing, IsSound, flow_at, uses_at}
 use Rattle.sg_levels.specs.Numbered.{bound_of, level_at}
 use Rattle.sg_levels.specs.Held.{IsHold, AreHeld, IsAtMost}
 
--- whether a resource waits to be looked at
+-- whether a resource waits to be processed
 abbrev pub is_active : List ℕ → ℕ → Bool
 is_active active r = is_in r active
 
@@ -16,39 +16,39 @@ pub data HasCause (holds : List (Option ℕ)) (flow : Flow) (level : Option ℕ)
   at_bound : bound_of flow ≡ level → HasCause holds flow level
   at_hold : (r : ℕ) → is_in r flow.uses ≡ true → level_at holds r ≡ level → HasCause holds flow level
 
--- What is written of a resource that isn't active is its hold, and its users are no higher, but for those of c in `todo`.
--- Each flow has a cause, but for those in `todo` that have the level which was written of c before.
+-- What is written of a resource that isn't active is its hold, and its users are no higher, except for those of c in `todo`.
+-- Each flow has a cause, except for those in `todo` that have the level which was written of c before.
 pub record AreSettlingOn (s : Sharing) (levels holds : List (Option ℕ)) (active : List ℕ) (c : ℕ) (old : Option ℕ) (todo : List ℕ) : Type 0 where
   pub resources : (r : ℕ) → r < length s.capacities → is_active active r ≡ false → IsHold (slice_index s.capacities r) s.slots levels (users_on s.users r) (level_at holds r)
   pub within : (id : ℕ) (flow : Flow) → flow_at s.slots id ≡ Some flow → IsAtMost (level_at levels id) (bound_of flow)
   pub under : (id r : ℕ) (flow : Flow) → flow_at s.slots id ≡ Some flow → is_in r flow.uses ≡ true → is_active active r ≡ false → IsAtMost (level_at levels id) (level_at holds r) ⊎ ((r ≡ c) × (is_in id todo ≡ true))
   pub cause : (id : ℕ) (flow : Flow) → flow_at s.slots id ≡ Some flow → HasCause holds flow (level_at levels id) ⊎ ((is_in id todo ≡ true) × (level_at levels id ≡ old))
 
--- the same where no user is left to be looked at
+-- the same if no user is left to update
 abbrev pub AreSettling : Sharing → List (Option ℕ) → List (Option ℕ) → List ℕ → Type 0
 AreSettling s levels holds active = AreSettlingOn s levels holds active 0 None []
 
--- Once no resource is active, all flows are held, so their levels are those of the filling.
+-- Once no resource is active, all flows are held, so their levels are the max-min levels.
 abbrev pub SettlingEnds : Type 0
 SettlingEnds =
     (s : Sharing) (levels holds : List (Option ℕ)) (active : List ℕ) → IsSound s →
     AreSettling s levels holds active → ((r : ℕ) → is_active active r ≡ false) → AreHeld s levels (level_at holds)
 
--- Where all flows are held, no resource need be active: so a settling may begin after a filling.
+-- If all flows are held, no resource need be active: an update may begin after a max-min solve.
 abbrev pub HeldSettles : Type 0
 HeldSettles =
     (s : Sharing) (levels holds : List (Option ℕ)) (active : List ℕ) → AreHeld s levels (level_at holds) →
     AreSettling s levels holds active
 
--- The same between settlings, where some flows began or have another bound since they were given their levels. Of these, and of the
--- holds of what they use, nothing is said.
+-- The same between rate updates, with some flows that began or got another bound since they were given their levels. Nothing is
+-- said of these, nor of the holds of what they use.
 pub record AreSettlingBut (s : Sharing) (levels holds : List (Option ℕ)) (active : List ℕ) (stale : List ℕ) : Type 0 where
   pub resources : (r : ℕ) → r < length s.capacities → is_active active r ≡ false → ((id : ℕ) → is_in id stale ≡ true → is_in r (uses_at s.slots id) ≡ false) → IsHold (slice_index s.capacities r) s.slots levels (users_on s.users r) (level_at holds r)
   pub within : (id : ℕ) (flow : Flow) → flow_at s.slots id ≡ Some flow → is_in id stale ≡ false → IsAtMost (level_at levels id) (bound_of flow)
   pub under : (id r : ℕ) (flow : Flow) → flow_at s.slots id ≡ Some flow → is_in id stale ≡ false → is_in r flow.uses ≡ true → is_active active r ≡ false → IsAtMost (level_at levels id) (level_at holds r)
   pub cause : (id : ℕ) (flow : Flow) → flow_at s.slots id ≡ Some flow → is_in id stale ≡ false → HasCause holds flow (level_at levels id)
 
--- a flow that is as it was, with its level, and isn't stale where it wasn't
+-- a flow that is as it was, with its level, and isn't stale if it wasn't
 pub record IsSame (s t : Sharing) (old new : List (Option ℕ)) (stale stale' : List ℕ) (id : ℕ) : Type 0 where
   pub flow : flow_at t.slots id ≡ flow_at s.slots id
   pub level : level_at new id ≡ level_at old id

@@ -1,8 +1,8 @@
-//! How many looks a settling may take: as many as what is known to be joined to what it looks at allows.
+//! The number of visits allowed in a rate update, by the size of the connected component as far as it is known.
 ghost use Rattle.std.specs.Prelude.{◌≡◌, ◌≤◌, ◌<◌, ◌+◌, ◌-◌, ◌*◌, ◌^◌, ℕ, IsTrue, None, IfSome, max};
 ghost use Rattle.sg_levels.specs.Joined.{spare_looks};
 
-/// What is known of the flows that are joined, and the looks that were taken.
+/// What is known of the flows in the component, and the visits so far.
 #[derive(Clone, Copy)]
 pub(crate) struct Allowance {
     // there are so many of them
@@ -11,11 +11,11 @@ pub(crate) struct Allowance {
     pub(crate) row: u64,
     // so many flows ended
     pub(crate) ended: u64,
-    // so many looks were taken
+    // the number of visits so far
     pub(crate) spent: u64,
 }
 
-// So many looks may be taken.
+// Returns the number of visits that are allowed.
 fn allowed(known: u64, row: u64, ended: u64) -> u64
     ensures { result ≤ spare_looks known row ended }
 {
@@ -30,7 +30,7 @@ fn allowed(known: u64, row: u64, ended: u64) -> u64
 }
 
 impl Allowance {
-    // So many flows are known, and so many users of a resource.
+    // Returns the same with so many known flows, and so many users of a resource.
     pub(crate) fn with_flows(self, flows: u64, users: u64) -> Allowance
         ensures known { result.known ≡ max (max self.known flows) users }
         ensures row { result.row ≡ max self.row users }
@@ -44,8 +44,8 @@ impl Allowance {
         }
     }
 
-    // Whether a pass over the users of any resource may be taken: where these are more than all that are known, they allow
-    // it themselves.
+    // Returns whether a pass over the users of any resource may be taken: if these are more than all that are known,
+    // they allow it themselves.
     pub(crate) fn is_enough(self) -> bool
         requires { self.spent ≤ spare_looks self.known self.row self.ended }
         ensures { IsTrue result
@@ -54,7 +54,7 @@ impl Allowance {
         self.known <= allowed(self.known, self.row, self.ended).saturating_sub(self.spent)
     }
 
-    // How many looks are left where there are so many users; None where these are more.
+    // Returns how many visits remain with so many users; None if the users are more.
     pub(crate) fn left_for(self, users: u64) -> Option<u64>
         ensures pass { IfSome result (λ looks. users ≤ looks) }
         ensures fits { IfSome result (λ looks. self.spent + looks < 2 ^ 64) }
@@ -68,7 +68,7 @@ impl Allowance {
         }
     }
 
-    // The same where there are so many users, after so many looks.
+    // Returns the same with so many users, after so many visits.
     pub(crate) fn with_row(self, users: u64, looks: u64) -> Allowance
         requires { self.spent + looks < 2 ^ 64 }
         ensures known { result.known ≡ max self.known users }

@@ -1,4 +1,4 @@
-//! What changes between settlings: flows begin and end, and have other bounds, and resources have other capacities.
+//! What changes between rate updates: flows begin and end or get other bounds, and resources get other capacities.
 ghost use Rattle.std.specs.Prelude.{◌≡◌, ◌≤◌, ◌<◌, ◌+◌, ◌*◌, ◌^◌, ℕ, All, IsSome, IfSome, Some, length, slice_index, slice_set, ◌-◌};
 ghost use Rattle.sg_chains.specs.Chained.{times};
 ghost use Rattle.sg_maxmin.specs.Fill.{flow};
@@ -12,7 +12,7 @@ use sg_base::Steps;
 use sg_maxmin::{FlowId, System};
 use std::sync::ledger::Ledger;
 
-// At each of these resources there is a user more.
+// Counts one more user at each of these resources.
 fn count_in(uses: &[usize], counts: &mut Vec<u64>)
     requires { All (λ c. c < length counts.old.items) uses.now }
     ensures places { length counts.new.items ≡ length counts.old.items }
@@ -24,7 +24,7 @@ fn count_in(uses: &[usize], counts: &mut Vec<u64>)
     }
 }
 
-// A flow that ends has no part any more; its resources are active.
+// Takes the part of a flow that ends away; its resources become active.
 fn leave<L: Ledger>(system: &System, flow: usize, kept: &mut Levels, steps: &mut Steps<L>)
     requires { HasFlow system.now kept.old flow }
     ensures left { HasLeft kept.old kept.new flow }
@@ -41,8 +41,8 @@ fn leave<L: Ledger>(system: &System, flow: usize, kept: &mut Levels, steps: &mut
 }
 
 impl Levels {
-    /// A flow begins, as `System::add` adds it. It is noted as moved, and the next settling gives it a level; nothing is
-    /// looked at.
+    /// Starts a flow, as `System::add` adds it. It is noted as moved, and gets a level at the next rate update; no use
+    /// is visited.
     pub fn start(
         &mut self,
         system: &mut System,
@@ -67,8 +67,8 @@ impl Levels {
         flow
     }
 
-    /// A flow ends, as `System::remove` removes it. The resources that it used are active; each of its uses is looked
-    /// at.
+    /// Ends a flow, as `System::remove` removes it. The resources that it used become active; it visits each of its
+    /// uses.
     pub fn end<L: Ledger>(&mut self, system: &mut System, flow: FlowId, steps: &mut Steps<L>)
         requires held { IsSome (flow_at system.old.slots flow) }
         requires between { IsBetween system.old self.old }
@@ -84,8 +84,8 @@ impl Levels {
         self.stale.remove(flow);
     }
 
-    /// A flow has another bound. It is noted as moved, and keeps its level until the next settling; nothing is looked
-    /// at. Where the bound is the one that it has, nothing changes.
+    /// Gives a flow another bound. It is noted as moved, and keeps its level until the next rate update; no use is
+    /// visited. If the bound is the one that it has, nothing changes.
     pub fn set_bound(&mut self, system: &mut System, flow: FlowId, bound: u64)
         requires held { IsSome (flow_at system.old.slots flow) }
         requires between { IsBetween system.old self.old }
@@ -94,6 +94,8 @@ impl Levels {
               slots = slice_set system.old.slots flow (Some (record held { bound = Some bound }));
             }) }
         ensures keeps { KeepsUp system.old system.new (FlowJoins flow) self.old self.new }
+        ensures same { IfSome (flow_at system.old.slots flow) (λ held.
+            held.bound ≡ Some bound → self.new ≡ self.old) }
     {
         system.is_sound();
         let before = system.bound(flow);
@@ -105,7 +107,7 @@ impl Levels {
         }
     }
 
-    /// A resource has another capacity, and is active. Where the capacity is the one that it has, nothing changes.
+    /// Gives a resource another capacity, and makes it active. If it has this capacity already, nothing changes.
     pub fn set_capacity(&mut self, system: &mut System, resource: usize, capacity: u64)
         requires resource { resource < length system.old.capacities }
         requires between { IsBetween system.old self.old }
@@ -113,6 +115,7 @@ impl Levels {
           capacities = slice_set system.old.capacities resource capacity;
         } }
         ensures keeps { KeepsUp system.old system.new (ResourceJoins resource) self.old self.new }
+        ensures same { slice_index system.old.capacities resource ≡ capacity → self.new ≡ self.old }
     {
         system.is_sound();
         let before = system.capacity(resource);

@@ -18,14 +18,14 @@ struct Rest {
     users: u64,
 }
 
-// The level of a resource, where a flow waits there, and how many flows use it.
+// The level of a resource, if a flow waits there, and how many flows use it.
 #[derive(Clone, Copy)]
 pub(crate) struct Above {
     pub(crate) level: Option<u64>,
     pub(crate) users: u64,
 }
 
-// The level at which a resource holds its flows, if at any, how many flows use it, and how many looks are left.
+// The level at which a resource holds its flows, if at any, how many flows use it, and how many visits remain.
 #[derive(Clone, Copy)]
 pub(crate) struct Found {
     pub(crate) hold: Option<u64>,
@@ -33,7 +33,7 @@ pub(crate) struct Found {
     pub(crate) looks: u64,
 }
 
-// The level of a flow, where it is below another.
+// Returns the level of a flow, if it is below another.
 fn below(levels: &[Option<u64>], flow: usize, low: u64) -> Option<u64>
     requires { flow < length levels.now }
     ensures { result ≡ below_at levels.now low flow }
@@ -44,7 +44,7 @@ fn below(levels: &[Option<u64>], flow: usize, low: u64) -> Option<u64>
     }
 }
 
-// The share at a level, or the greatest number where that is less.
+// Returns the share at a level, or the greatest number if that is less.
 pub(crate) fn capped_share(weight: u32, bound: Option<u64>, level: u64) -> u64
     ensures { result ≡ min (bounded bound (weight * level)) (2 ^ 64 - 1) }
 {
@@ -55,14 +55,14 @@ pub(crate) fn capped_share(weight: u32, bound: Option<u64>, level: u64) -> u64
     }
 }
 
-// What is left where a share is given.
+// Returns what remains if a share is given.
 fn less(left: u64, weight: u32, bound: Option<u64>, level: u64) -> u64
     ensures { result ≡ left - bounded bound (weight * level) }
 {
     left.saturating_sub(capped_share(weight, bound, level))
 }
 
-// One flow more on the resource, fixed or not.
+// Returns the rest with one more flow on the resource, fixed or not.
 fn with_flow(system: &System, flow: usize, fixed: Option<u64>, rest: Rest) -> Rest
     requires { CanCount system.now flow rest }
     ensures left { result.left ≡ rest.left - share_of_fixed (flow_in system.now.slots flow) fixed }
@@ -85,7 +85,7 @@ fn with_flow(system: &System, flow: usize, fixed: Option<u64>, rest: Rest) -> Re
     }
 }
 
-// What the flows of levels below this one leave, and the weight of the others; None where so many looks don't suffice.
+// Returns what flows of levels below this one leave, and the weight of the others; None if the visits don't suffice.
 fn rest_of<L: Ledger>(
     system: &System,
     resource: usize,
@@ -119,7 +119,7 @@ fn rest_of<L: Ledger>(
     Some(rest)
 }
 
-// The level of a resource, if a flow waits there.
+// Returns the level of a resource, if a flow waits there.
 fn level_of(rest: Rest) -> Option<u64>
     ensures none { result ≡ None → rest.waiting ≡ 0 }
     ensures some { IfSome result (λ level. (0 < rest.waiting)
@@ -132,8 +132,8 @@ fn level_of(rest: Rest) -> Option<u64>
     }
 }
 
-// The level of a resource with the flows of levels below this one fixed, if a flow waits there; None where so many looks
-// don't suffice.
+// Returns the level of a resource with the flows of levels below this one fixed, if a flow waits there; None if the
+// visits don't suffice.
 pub(crate) fn level_above<L: Ledger>(
     system: &System,
     resource: usize,
@@ -159,8 +159,8 @@ pub(crate) fn level_above<L: Ledger>(
     })
 }
 
-// The level at which a resource holds its flows, where these have these levels, after a first pass over its users, with none
-// of them fixed; None where so many looks in all don't suffice. It takes a pass more for each step of the levels below.
+// Returns the level at which a resource holds its flows with these levels, after a first pass over its users with none of
+// them fixed; None if the visits don't suffice. Each step of the levels below takes another pass over the users.
 pub(crate) fn hold_of<L: Ledger>(
     system: &System,
     resource: usize,

@@ -7,12 +7,12 @@ ghost use Rattle.sg_levels.specs.Kept.{NotesAddUp, SharesAreNoted, WayBack};
 ghost use Rattle.sg_levels.specs.Numbered.{RowTells};
 ghost use Rattle.sg_levels.specs.Settling.{ChangesKeep, HeldSettles, SettlingEnds};
 
-/// Levels that balance at each flow and at each resource are those of the filling.
+/// Levels that balance at each flow and at each resource are the max-min levels.
 pub fn balance_is_filling()
     ensures { BalanceIsFilling }
 {}
 
-/// The levels of the filling balance.
+/// The max-min levels balance.
 pub fn filling_balances()
     ensures { FillingBalances }
 {}
@@ -22,13 +22,12 @@ pub fn row_tells()
     ensures { RowTells }
 {}
 
-/// Where each flow's level is the least of its bound's level and of its resources' holds, the levels are those of the
-/// filling.
+/// If each flow's level is the least of its bound's level and its resources' holds, the levels are the max-min levels.
 pub fn held_is_filling()
     ensures { HeldIsFilling }
 {}
 
-/// In the filling each flow's level is the least of its bound's level and of its resources' holds.
+/// Each flow's max-min level is the least of its bound's level and of its resources' holds.
 pub fn filling_is_held()
     ensures { FillingIsHeld }
 {}
@@ -68,12 +67,12 @@ pub fn demand_holds_none()
     ensures { DemandHoldsNone }
 {}
 
-/// After a filling a resource that is at the level of one of its users holds at it.
+/// After a max-min solve a resource that is at the level of one of its users holds at it.
 pub fn full_holds()
     ensures { FullHolds }
 {}
 
-/// After a filling a resource that is at the level of none of its users holds none.
+/// After a max-min solve a resource that is at the level of none of its users holds none.
 pub fn others_hold_none()
     ensures { OthersHoldNone }
 {}
@@ -83,7 +82,7 @@ pub fn settling_ends()
     ensures { SettlingEnds }
 {}
 
-/// Where all flows are held, a settling may begin.
+/// If all flows are held, a rate update may begin.
 pub fn held_settles()
     ensures { HeldSettles }
 {}
@@ -103,7 +102,7 @@ pub fn shares_are_noted()
     ensures { SharesAreNoted }
 {}
 
-/// Where what is joined to all that is active or stale is filled, all flows are held.
+/// If the connected components of all that is active or stale are solved, all flows are held.
 pub fn way_back()
     ensures { WayBack }
 {}

@@ -1,4 +1,4 @@
-//! What is kept of flows and resources from one settling to the next.
+//! What is kept of flows and resources from one rate update to the next.
 ghost use Rattle.std.specs.Prelude.{◌≡◌, ◌≢◌, ◌<◌, ◌≤◌, ◌-◌, ℕ, [], All, AllPairs, IfOk, OnOk, length, slice_index};
 ghost use Rattle.sg_maxmin.specs.Sharing.{IsExtended, Sharing};
 ghost use Rattle.sg_levels.specs.Kept.{HasRoom, IsBetween, IsFresh, IsUnmarked, KeepsAll, MarksNoMore, NotesChanged};
@@ -14,7 +14,7 @@ use std::alloc::Global;
 pub struct Levels {
     // under each flow its level; None: nothing holds it yet
     pub(crate) levels: Vec<Option<u64>>,
-    // and its part in the demand on each of its resources; 0 where there is no flow
+    // and its part in the demand on each of its resources; 0 if there is no flow
     pub(crate) parts: Vec<u128>,
     // under each resource the level at which it holds its flows; None: at none
     pub(crate) holds: Vec<Option<u64>>,
@@ -22,7 +22,7 @@ pub struct Levels {
     pub(crate) demands: Vec<u128>,
     // and how many users it has at least
     pub(crate) counts: Vec<u64>,
-    // the resources that wait to be looked at
+    // the resources that wait to be processed
     pub(crate) active: Marks,
     // the flows whose levels or bounds changed
     pub(crate) moved: Marks,
@@ -32,7 +32,7 @@ pub struct Levels {
     pub(crate) longest: usize,
 }
 
-// Places for the flows of numbers below n.
+// Makes places for the flows of numbers below n.
 fn grow_rows(n: usize, levels: &mut Vec<Option<u64>>, parts: &mut Vec<u128>) -> Result<(), Memory>
     ensures levels { (id : ℕ) → level_at levels.new.items id ≡ level_at levels.old.items id }
     ensures parts { (id : ℕ) → slice_index parts.new.items id ≡ slice_index parts.old.items id }
@@ -50,7 +50,7 @@ fn grow_rows(n: usize, levels: &mut Vec<Option<u64>>, parts: &mut Vec<u128>) -> 
 }
 
 impl Levels {
-    /// Nothing is written yet, of so many resources.
+    /// Makes the state of so many resources, with nothing written yet.
     pub fn new(alloc: Global, resources: usize) -> Result<Levels, Memory>
         ensures fresh { IfOk result (IsFresh resources) }
         ensures nothing { IfOk result IsUnmarked }
@@ -78,7 +78,7 @@ impl Levels {
         })
     }
 
-    // Room for flows of numbers below n.
+    // Makes room for flows of numbers below n.
     fn grow(&mut self, n: usize) -> Result<(), Memory>
         ensures kept { KeepsAll self.old self.new }
         ensures room { OnOk result (HasRoom n self.new) }
@@ -88,8 +88,8 @@ impl Levels {
         self.stale.reserve(n)
     }
 
-    /// Makes room for so many flows more in the system, with so many uses in all, and for their levels: numbers come only
-    /// where too few are free. Nothing but the room changes, also where there is no memory, and the room doesn't shrink.
+    /// Makes room for this many more flows in the system, with this many uses in all, and for their levels: new numbers
+    /// come only if too few are free. Only the room changes, even if memory runs out, and the room doesn't shrink.
     pub fn reserve(&mut self, system: &mut System, flows: usize, uses: usize) -> Result<(), Memory>
         requires { IsBetween system.old self.old }
         ensures between { IsBetween system.new self.new }
@@ -114,8 +114,8 @@ impl Levels {
         reserved
     }
 
-    /// The level of a flow, where something holds it. That of a flow which began or has another bound since the last
-    /// settling says nothing.
+    /// Returns the level of a flow, if something holds it. That of a flow which began or got another bound since the
+    /// last rate update says nothing.
     pub fn level(&self, flow: usize) -> Option<u64>
         requires { flow < length self.now.levels.items }
         ensures { result ≡ level_at self.now.levels.items flow }
@@ -123,7 +123,7 @@ impl Levels {
         self.levels[flow]
     }
 
-    // The part of a flow in the demand on each of its resources.
+    // Returns the part of a flow in the demand on each of its resources.
     pub(crate) fn part(&self, flow: usize) -> u128
         requires { flow < length self.now.parts.items }
         ensures { result ≡ slice_index self.now.parts.items flow }
@@ -131,7 +131,7 @@ impl Levels {
         self.parts[flow]
     }
 
-    /// The level at which a resource holds its flows, as it was written last; None: at none.
+    /// Returns the level at which a resource holds its flows, as it was written last; None: at none.
     pub fn hold(&self, resource: usize) -> Option<u64>
         requires { resource < length self.now.holds.items }
         ensures { result ≡ level_at self.now.holds.items resource }
@@ -139,7 +139,7 @@ impl Levels {
         self.holds[resource]
     }
 
-    /// Whether a resource waits to be looked at.
+    /// Returns whether a resource waits to be processed.
     pub fn is_active(&self, resource: usize) -> bool
         requires { resource < self.now.active.room }
         ensures { result ≡ is_active self.now.active.members resource }
@@ -147,7 +147,7 @@ impl Levels {
         self.active.contains(resource)
     }
 
-    /// The resources that wait to be looked at, each once.
+    /// Returns the resources that wait to be processed, each once.
     pub fn active(&self) -> &[usize]
         ensures members { result.now ≡ self.now.active.members }
         ensures once { AllPairs (λ a b. a ≢ b) result.now }
@@ -156,8 +156,8 @@ impl Levels {
         self.active.members()
     }
 
-    /// The flows that began, and those whose levels or bounds changed, since `forget_moved`, each once. A number may be
-    /// that of a flow that has ended.
+    /// Returns the flows that began, and those whose levels or bounds changed, since `forget_moved`, each once. A
+    /// number may be that of a flow that has ended.
     pub fn moved(&self) -> &[usize]
         ensures members { result.now ≡ self.now.moved.members }
         ensures once { AllPairs (λ a b. a ≢ b) result.now }
@@ -165,7 +165,7 @@ impl Levels {
         self.moved.members()
     }
 
-    /// None is told as moved any more.
+    /// Empties the list of moved flows.
     pub fn forget_moved(&mut self)
         ensures none { self.new.moved.members ≡ [] }
         ensures between { (s : Sharing) → IsBetween s self.old → IsBetween s self.new }

@@ -1,7 +1,7 @@
-//! Levels of a filling that are kept up to date: which levels are those of the filling, told of each flow and of each
-//! resource by itself, and a settling that makes them so, one resource at a time.
-//! One enters by `Levels`, which settles by `Levels::settle`; `balance_is_filling` is the law that it rests on.
-//! It stands on `sg_base`, on the filling and the `System` of `sg_maxmin`, and on `sg_chains`.
+//! Max-min levels that are kept up to date: conditions on each flow and each resource alone that make levels the
+//! max-min levels, and a rate update that establishes them, one resource at a time.
+//! The type is `Levels`, updated by `Levels::settle`; `balance_is_filling` is the law on which that rests.
+//! It stands on `sg_base`, on the max-min solve and the `System` of `sg_maxmin`, and on `sg_chains`.
 #![tactic(auto)]
 
 mod allowance;

@@ -1,4 +1,4 @@
-//! The way back of a settling: the levels and the holds that a filling found are written.
+//! The fallback of a rate update: it writes the levels and the holds that a max-min solve found.
 ghost use Rattle.std.specs.Prelude.{◌≡◌, ◌≤◌, ◌<◌, ◌+◌, ◌-◌, ◌*◌, ◌^◌, ℕ, [], false, All, IsSome, length, slice_set, slice_index};
 ghost use Rattle.sg_base.specs.MarkSet.{is_in};
 ghost use Rattle.sg_maxmin.specs.Sharing.{IsSound, flow_at, uses_at};
@@ -14,8 +14,8 @@ use sg_base::Steps;
 use sg_maxmin::System;
 use std::sync::ledger::Ledger;
 
-/// What a filling of some flows and resources found: under the number of each flow its level, and under that of each
-/// resource its hold.
+/// The result of a max-min solve of some flows and resources: under the number of each flow its level, and under that
+/// of each resource its hold.
 #[derive(Clone, Copy)]
 pub struct Filled<'a> {
     pub flows: &'a [usize],
@@ -24,7 +24,7 @@ pub struct Filled<'a> {
     pub holds: &'a [Option<u64>],
 }
 
-// What stands under a number.
+// Returns what stands under a number.
 fn under(list: &[Option<u64>], number: usize) -> Option<u64>
     requires { number < length list.now }
     ensures { result ≡ level_at list.now number }
@@ -32,7 +32,7 @@ fn under(list: &[Option<u64>], number: usize) -> Option<u64>
     list[number]
 }
 
-// In the demand on a resource one part stands for another.
+// Replaces one part in the demand on a resource by another.
 fn shift(resource: usize, before: u128, after: u128, demands: &mut Vec<u128>)
     requires demand { resource < length demands.old.items }
     requires some { before ≤ slice_index demands.old.items resource }
@@ -43,7 +43,7 @@ fn shift(resource: usize, before: u128, after: u128, demands: &mut Vec<u128>)
     demands[resource] = demands[resource] - before + after;
 }
 
-// The same at each resource of the flow.
+// Does the same at each resource of the flow.
 fn shift_uses<L: Ledger>(
     system: &System,
     flow: usize,
@@ -68,7 +68,7 @@ fn shift_uses<L: Ledger>(
     }
 }
 
-// A flow has another level, and is noted. What is active is of no account any more.
+// Gives a flow another level, and notes it. What is active no longer counts.
 fn write_level<L: Ledger>(
     system: &System,
     flow: usize,
@@ -89,7 +89,7 @@ fn write_level<L: Ledger>(
     shift_uses(system, flow, before, after, &mut kept.demands, steps);
 }
 
-// A flow has the level that was found. Where it has it already nothing is looked at.
+// Gives a flow the level that was found. If it has it already no use is visited.
 fn give<L: Ledger>(
     system: &System,
     flow: usize,
@@ -110,7 +110,7 @@ fn give<L: Ledger>(
     }
 }
 
-// The same of each of these flows.
+// Does the same for each of these flows.
 fn give_all<L: Ledger>(
     system: &System,
     flows: &[usize],
@@ -133,7 +133,7 @@ fn give_all<L: Ledger>(
     }
 }
 
-// A resource holds its flows there.
+// Writes the level at which a resource holds its flows.
 fn put_hold(resource: usize, hold: Option<u64>, kept: &mut Levels)
     requires { resource < length kept.old.holds.items }
     ensures hold { kept.new.holds.items ≡ slice_set kept.old.holds.items resource hold }
@@ -142,7 +142,7 @@ fn put_hold(resource: usize, hold: Option<u64>, kept: &mut Levels)
     kept.holds[resource] = hold;
 }
 
-// The same of each of these resources.
+// Does the same for each of these resources.
 fn put_holds(resources: &[usize], holds: &[Option<u64>], kept: &mut Levels)
     requires exist { All (λ r. r < length holds.now) resources.now }
     requires holds { length kept.old.holds.items ≡ length holds.now }
@@ -154,8 +154,8 @@ fn put_holds(resources: &[usize], holds: &[Option<u64>], kept: &mut Levels)
 }
 
 impl Levels {
-    /// Writes what a filling of some flows and resources found, where all that is active, or whose bounds changed, is
-    /// among them and sharing joins none to others. Each use of the flows is looked at once at most.
+    /// Writes the result of a max-min solve of some flows and resources: whole connected components that contain all
+    /// that is active and all flows with another bound. Each use of the flows is visited at most once.
     pub fn refill<L: Ledger>(&mut self, system: &System, filled: Filled<'_>, steps: &mut Steps<L>)
         requires between { IsBetween system.now self.old }
         requires joined { PassAlong system.now (λ id. is_in id filled.flows.now)

@@ -1,4 +1,4 @@
-//! A settling: looks at active resources, one at a time in whatever order, until none is left or the looks run out.
+//! A rate update: processes active resources, in any order, until none is active or the visits run out.
 ghost use Rattle.std.specs.Prelude.{◌≡◌, ◌≢◌, ◌≤◌, ◌<◌, ◌+◌, ◌*◌, ◌^◌, ℕ, [], ◌∷◌, true, false, IsTrue, List, Option, None, IfSome, IsSome, AllPairs, length, max, slice_index};
 ghost use Rattle.sg_base.specs.MarkSet.{is_in};
 ghost use Rattle.sg_chains.specs.Chained.{users_on};
@@ -18,18 +18,18 @@ use sg_base::Steps;
 use sg_maxmin::System;
 use std::sync::ledger::Ledger;
 
-// Where more resources wait to be looked at, a filling of all that is joined is cheaper than to choose among them.
+// With more active resources than this, solving the whole connected component is cheaper than choosing among them.
 const MOST_ACTIVE: usize = 64;
 
-// Whether there is neither.
+// Returns whether there is neither.
 fn are_none(one: Option<u64>, other: Option<u64>) -> bool
     ensures { IsTrue result → (one ≡ None) × (other ≡ None) }
 {
     one.is_none() && other.is_none()
 }
 
-// A level below which a resource that holds none has nothing to do, by what it offers and the demand on it: what is left is
-// shared by those without a level, of which each asks for more than any capacity.
+// Returns a level below which a resource that holds none has nothing to do, by its capacity and the demand on it: the
+// rest is shared by those without a level, of which each asks for more than any capacity.
 fn slack_level(capacity: u64, demand: u128) -> u64 {
     let each = u128::from(u64::MAX) + 1;
     let loose = (demand / each) as u64;
@@ -43,14 +43,14 @@ fn slack_level(capacity: u64, demand: u128) -> u64 {
     }
 }
 
-// Whether so many looks suffice for a walk over so many users, of which none has more uses, and for all that these take.
+// Returns whether the visits suffice for a walk over so many users, none with more uses, and for all that these take.
 fn suffice(looks: u64, users: u64, longest: usize) -> bool
     ensures { IsTrue result → users * (2 * longest + 1) ≤ looks }
 {
     users <= looks && users.saturating_mul(longest as u64) <= (looks - users) / 2
 }
 
-// How many looks are left after that walk, where the uses of one were looked at so often.
+// Returns how many visits remain after that walk, if the uses of one user were visited so often.
 fn after_walk(looks: u64, users: u64, times: u64, longest: usize) -> u64
     requires enough { users * (2 * longest + 1) ≤ looks }
     requires few { times ≤ 2 * users }
@@ -59,7 +59,7 @@ fn after_walk(looks: u64, users: u64, times: u64, longest: usize) -> u64
     looks - users - times * longest as u64
 }
 
-// A flow that began or has another bound has the level of its bound.
+// Gives a flow that began or has another bound the level of its bound.
 fn renew<L: Ledger>(system: &System, flow: usize, kept: &mut Levels, steps: &mut Steps<L>)
     requires { HasFlow system.now kept.old flow }
     ensures renewed { (rest : List ℕ) → IsBetweenBut system.now kept.old (flow ∷ rest)
@@ -72,7 +72,7 @@ fn renew<L: Ledger>(system: &System, flow: usize, kept: &mut Levels, steps: &mut
     move_flow(system, flow, bound_of(system, flow), kept, steps);
 }
 
-// The same of each such flow.
+// Does the same for each such flow.
 fn renew_all<L: Ledger>(system: &System, kept: &mut Levels, steps: &mut Steps<L>)
     requires { IsBetween system.now kept.old }
     ensures settling { IsSettling system.now kept.new }
@@ -89,7 +89,7 @@ fn renew_all<L: Ledger>(system: &System, kept: &mut Levels, steps: &mut Steps<L>
 }
 
 impl Levels {
-    // Whether a resource offers more than the demand on it.
+    // Returns whether a resource offers more than the demand on it.
     fn has_slack(&self, system: &System, resource: usize) -> bool
         requires { HasResource system.now self.now resource }
         ensures { IsTrue result
@@ -100,7 +100,7 @@ impl Levels {
         self.demands[resource] < u128::from(system.capacity(resource))
     }
 
-    // A resource that held none and holds none needs no look.
+    // Makes a resource inactive that held none and holds none: it needs no visit.
     fn put_to_rest(&mut self, system: &System, resource: usize)
         requires none { HasHold system.now self.old resource None }
         requires held { level_at self.old.holds.items resource ≡ None }
@@ -111,8 +111,8 @@ impl Levels {
     }
 
     // Writes the hold of a resource: its flows above it come down to it, and those that it held before and that nothing
-    // holds now go up to their bounds. The other resources of flows that moved are active. It tells how often the uses of a
-    // flow were looked at.
+    // holds now go up to their bounds. The other resources of flows that moved become active. Returns how often the uses of
+    // a flow were visited.
     fn write_hold<L: Ledger>(
         &mut self,
         system: &System,
@@ -133,9 +133,9 @@ impl Levels {
         settle_users(system, resource, was, self, steps)
     }
 
-    // Looks at a resource after a first pass over its users: its hold is written, its flows above it come down to it, and
-    // those that it held before and that nothing holds now go up to their bounds. It tells how many looks are left; None
-    // where they may not suffice, and then nothing changes.
+    // Processes a resource after a first pass over its users: writes its hold; its flows above it come down to it, and
+    // those that it held before and that nothing holds now go up to their bounds. Returns how many visits remain; None if
+    // they may not suffice, and then nothing changes.
     fn look_at<L: Ledger>(
         &mut self,
         system: &System,
@@ -168,8 +168,8 @@ impl Levels {
         Some(after_walk(found.looks, found.users, times, longest))
     }
 
-    // The same from the start, unless the resource held none and offers more than the demand on it, which needs no look.
-    // It tells what is known and spent then.
+    // Does the same from the start, unless the resource held none and offers more than the demand on it, which needs no
+    // visit. Returns what is known and spent then.
     fn refresh<L: Ledger>(
         &mut self,
         system: &System,
@@ -208,7 +208,7 @@ impl Levels {
         Some(given.with_row(first.users, looks.saturating_sub(left)))
     }
 
-    // A level below which an active resource has nothing to do. Only the order is by it: any is right.
+    // Returns a level below which an active resource has nothing to do. Only the order is by it: any is right.
     fn key(&self, system: &System, resource: usize) -> u64
         requires { HasResource system.now self.now resource }
     {
@@ -218,7 +218,7 @@ impl Levels {
         }
     }
 
-    // The active resource of least key.
+    // Returns the active resource of least key.
     fn least_active(&self, system: &System) -> Option<usize>
         requires { HasPlaces system.now self.now }
         ensures none { result ≡ None
@@ -238,7 +238,7 @@ impl Levels {
         found
     }
 
-    // How many users an active resource has at least, where it is that of most.
+    // Returns how many users an active resource has at least, if it is that of most.
     fn most_users(&self) -> u64
         requires { self.now.active.room ≤ length self.now.counts.items }
         ensures { (n : ℕ) → ((r : ℕ) → is_active self.now.active.members r ≡ true
@@ -251,7 +251,7 @@ impl Levels {
         most
     }
 
-    // Looks at active resources until none is left, or very many are, or the looks may not suffice.
+    // Processes active resources until none is active, or very many are, or the visits may not suffice.
     fn look_on<L: Ledger>(&mut self, system: &System, ended: usize, steps: &mut Steps<L>) -> bool
         requires settling { IsSettling system.now self.old }
         requires stale { AreNew system.now self.old }
@@ -292,10 +292,10 @@ impl Levels {
         false
     }
 
-    /// Brings the levels up to date, where so many flows ended since the last time. Besides one look for each use of the
-    /// flows that began or have another bound it takes no more than what is joined allows. True: each flow has its level
-    /// of the filling. False: very many resources were active, or the looks may not have sufficed. It ends either way,
-    /// and the flows whose levels changed are noted.
+    /// Brings the levels up to date, after so many flows ended since the last time. It visits each use of the flows that
+    /// began or got another bound once; its further visits are bounded by the size of the connected component. True:
+    /// each flow has its max-min level. False: very many resources were active, or the visits may not have sufficed. It
+    /// ends either way, and the flows whose levels changed are noted.
     pub fn settle<L: Ledger>(&mut self, system: &System, ended: usize, steps: &mut Steps<L>) -> bool
         requires { IsBetween system.now self.old }
         ensures between { IsBetween system.now self.new }

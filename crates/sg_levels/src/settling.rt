@@ -1,4 +1,4 @@
-//! A settling: levels and holds are made to agree, one resource at a time, in whatever order.
+//! A rate update: it makes levels and holds agree, one resource at a time, in any order.
 ghost use Rattle.std.specs.Prelude.{◌≡◌, ◌≤◌, ◌<◌, ◌+◌, ◌-◌, ◌*◌, ◌^◌, ℕ, true, false, IsTrue, Option, None, Some, IfSome, IsSome, [], ◌∷◌, length, option_map, slice_index, slice_set, ◌==◌, if◌then◌else◌};
 ghost use Rattle.sg_base.specs.MarkSet.{is_in};
 ghost use Rattle.sg_chains.specs.Chained.{times, users_on};
@@ -16,7 +16,7 @@ use sg_base::Steps;
 use sg_maxmin::System;
 use std::sync::ledger::Ledger;
 
-// Whether two levels are the same.
+// Returns whether two levels are the same.
 pub(crate) fn is_same(one: Option<u64>, other: Option<u64>) -> bool
     ensures same { IsTrue result → one ≡ other }
     ensures told { one ≡ other → IsTrue result }
@@ -30,7 +30,7 @@ pub(crate) fn is_same(one: Option<u64>, other: Option<u64>) -> bool
     }
 }
 
-// The hold, where the level is above it.
+// Returns the hold, if the level is above it.
 fn hold_below(level: Option<u64>, hold: Option<u64>) -> Option<u64>
     ensures some { IfSome result (λ h. (hold ≡ Some h) × IsUnder h level) }
     ensures none { result ≡ None → IsAtMost level hold }
@@ -44,7 +44,7 @@ fn hold_below(level: Option<u64>, hold: Option<u64>) -> Option<u64>
     }
 }
 
-// The level of a bound.
+// Returns the level of a bound.
 fn bound_level(weight: u32, bound: Option<u64>) -> Option<u64>
     requires { 0 < weight }
     ensures { result ≡ option_map (level_of_bound weight) bound }
@@ -55,7 +55,7 @@ fn bound_level(weight: u32, bound: Option<u64>) -> Option<u64>
     }
 }
 
-// The level of a flow's bound.
+// Returns the level of a flow's bound.
 pub(crate) fn bound_of(system: &System, flow: usize) -> Option<u64>
     requires { IsHeld system.now flow }
     ensures { result ≡ bound_of_flow (flow_in system.now.slots flow) }
@@ -63,7 +63,7 @@ pub(crate) fn bound_of(system: &System, flow: usize) -> Option<u64>
     bound_level(system.weight(flow), system.bound(flow))
 }
 
-// What a flow adds to the demand on each of its resources, at this level.
+// Returns what a flow adds to the demand on each of its resources, at this level.
 pub(crate) fn part_of(system: &System, flow: usize, level: Option<u64>) -> u128
     requires { IsSome (flow_at system.now.slots flow) }
     ensures { result ≡ demand_of (flow_in system.now.slots flow) level }
@@ -77,7 +77,7 @@ pub(crate) fn part_of(system: &System, flow: usize, level: Option<u64>) -> u128
     }
 }
 
-// How many users are counted, where one has this part now.
+// Returns how many users are counted, if one has this part now.
 fn fewer(count: u64, after: u128) -> u64
     ensures { result ≡ count - (if after == 0 then 1 else 0) }
 {
@@ -88,8 +88,8 @@ fn fewer(count: u64, after: u128) -> u64
     }
 }
 
-// A resource of a flow that moves is active, and in the demand on it one part stands for another. Where this is none it
-// has a user less.
+// Makes a resource of a flow that moves active, and replaces one part in the demand on it by another. If that is none
+// the resource has one user less.
 pub(crate) fn visit(resource: usize, before: u128, after: u128, kept: &mut Levels)
     requires active { resource < kept.old.active.room }
     requires demand { resource < length kept.old.demands.items }
@@ -109,7 +109,7 @@ pub(crate) fn visit(resource: usize, before: u128, after: u128, kept: &mut Level
     kept.counts[resource] = fewer(kept.counts[resource], after);
 }
 
-// The same of each resource of the flow.
+// Does the same for each resource of the flow.
 pub(crate) fn visit_uses<L: Ledger>(
     system: &System,
     flow: usize,
@@ -136,7 +136,7 @@ pub(crate) fn visit_uses<L: Ledger>(
     }
 }
 
-// Whether a flow's level is that of its bound, or what is written of one of its resources.
+// Returns whether a flow's level is that of its bound, or what is written of one of its resources.
 fn has_cause<L: Ledger>(
     system: &System,
     flow: usize,
@@ -184,7 +184,7 @@ pub(crate) fn move_flow<L: Ledger>(
     visit_uses(system, flow, before, after, kept, steps);
 }
 
-// A user of a resource comes down to its hold; its other resources are active.
+// Lowers a user of a resource to its hold; its other resources become active.
 fn lower<L: Ledger>(
     system: &System,
     resource: usize,
@@ -207,7 +207,7 @@ fn lower<L: Ledger>(
     }
 }
 
-// A user of a resource that held it goes up, where nothing holds it now. It tells how often its uses were looked at.
+// Raises a user of a resource that held it, if nothing holds it now. Returns how often its uses were visited.
 fn settle_held<L: Ledger>(
     system: &System,
     resource: usize,
@@ -233,7 +233,7 @@ fn settle_held<L: Ledger>(
     }
 }
 
-// A user of a resource is looked at, of which another hold was written before. It tells how often its uses were.
+// Updates a user of a resource, of which another hold was written before. Returns how often its uses were visited.
 fn settle_user<L: Ledger>(
     system: &System,
     resource: usize,
@@ -262,8 +262,8 @@ fn settle_user<L: Ledger>(
     }
 }
 
-// The users of a resource come down to the hold that is written of it, and those that it held before and that nothing
-// holds now go up to their bounds. It tells how often the uses of one were looked at.
+// Brings the users of a resource down to the hold that is written of it, and raises those that it held before and that
+// nothing holds now to their bounds. Returns how often the uses of one were visited.
 pub(crate) fn settle_users<L: Ledger>(
     system: &System,
     resource: usize,

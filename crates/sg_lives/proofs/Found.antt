@@ -1,4 +1,4 @@
--- The key of each serial, as an activity comes, changes and goes.
+-- The key of each activity id, as an activity comes, changes and goes.
 use Rattle.std.proofs.Common.{◌≡◌, ◌≢◌, ℕ, ◌<◌, inl, inr, nat_eq, true, false, Option, None, Some, List, length, set, sym, ap, ◌∙◌, arith}
 use Rattle.sg_lives.specs.declared.lives.Live.{Live}
 use Rattle.sg_lives.specs.Pool.{slot_at, IsMissing, FindsEach, SameSlots}
@@ -64,7 +64,7 @@ found_wider old new find next same finds is = record {
   back = λ serial key e. let f = is.back serial key (sym (finds serial) ∙ e) in (f.0, record { at = same key ∙ f.1.at; is = f.1.is });
 }
 
--- ---- what the map says of each serial
+-- ---- what the map says of each activity id
 pub agrees : (a : ℕ) → nat_eq a a ≡ true
 agrees a = grind arith
 

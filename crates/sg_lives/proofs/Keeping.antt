@@ -55,7 +55,7 @@ count_listed (suc n) (o ∷ cells) = omega (arith, sum_by-cons (λ (o : Option L
 pub len_with : (slab : Slab Cell) (key : ℕ) (cell : Cell) → ContainsKey slab key → slab_len (with_value slab key cell) ≡ slab_len slab
 len_with slab key cell there = omega (arith, sum_by-set (λ (o : Option Cell). cond (is_some o) 1 0) slab.slots key (Some cell) None (ContainsKey-within slab key there), ap {B = ℕ} (λ b. cond b 1 0) there)
 
--- where one of so many keys is free, the slab has room
+-- if one of so many keys is free, the slab has room
 pub roomy : (n capacity : ℕ) (cells : List (Option Cell)) → length cells ≤ capacity → n ≤ capacity → count_by is_some (listed n (held cells)) < n → count_by is_some cells < capacity
 unfolding listed
 roomy zero capacity cells long fits free = absurd (omega (arith, free))

@@ -1,4 +1,4 @@
--- How many activities go on, as one comes, changes and goes.
+-- How many activities progress, as one comes, changes and goes.
 use Rattle.std.proofs.Common.{◌≡◌, ℕ, zero, suc, ◌+◌, ◌<◌, Bool, true, false, Option, None, Some, count_by, cond, List, [], ◌∷◌, length, set, IsSome, refl, arith}
 use Rattle.std.proofs.lemmas.List.Sums.{sum_by-cons, sum_by-set}
 use Rattle.sg_lives.specs.declared.lives.Live.{Live}
@@ -6,7 +6,7 @@ use Rattle.sg_lives.specs.Pool.{slot_at, goes_on}
 use Rattle.sg_lives.specs.Slots.{passes}
 use Rattle.sg_lives.proofs.Places.{there_within}
 
--- whether none goes on
+-- whether none progresses
 pub none_counts : (slots : List (Option Live)) → count_by (passes goes_on) slots ≡ 0 → (k : ℕ) → passes goes_on (slot_at slots k) ≡ false
 none_counts [] e k = refl
 none_counts (o ∷ slots) e zero = first (passes goes_on o) (omega (arith, e, sum_by-cons (λ (o : Option Live). cond (passes goes_on o) 1 0) o slots))

@@ -9,7 +9,7 @@ use Rattle.sg_lives.specs.Slots.{passes}
 use Rattle.sg_lives.specs.Kinds.{goes_by}
 use Rattle.sg_lives.specs.Cells.{lives_in}
 
--- the activity under each key, or nothing, and room for so many activities more
+-- the activity under each key, or nothing, and room for so many more activities
 pub record Pool : Type 0 where
   pub slots : List (Option Live)
   pub room : ℕ
@@ -25,16 +25,16 @@ SameSlots old new = (key : ℕ) → slot_at new key ≡ slot_at old key
 abbrev pub goes_on : Live → Bool
 goes_on live = goes_by live.kind
 
--- over how many links a flow goes that begins once a phase of this kind is over, which is over a way of so many
+-- how many links a flow uses that begins once a phase of this kind completes, on a route of so many links
 abbrev pub uses_ahead : PhaseKind → ℕ → ℕ
 uses_ahead phase.Latency links = links
 uses_ahead other links = 0
 
--- no activity is of this serial
+-- no activity has this id
 abbrev pub IsMissing : List (Option Live) → ℕ → Type 0
 IsMissing slots serial = (k : ℕ) (live : Live) → slot_at slots k ≡ Some live → live.serial ≢ serial
 
--- the activity under the key is of this serial
+-- the activity under the key has this id
 pub record IsFound (slots : List (Option Live)) (serial key : ℕ) (live : Live) : Type 0 where
   pub at : slot_at slots key ≡ Some live
   pub is : live.serial ≡ serial
@@ -44,7 +44,7 @@ pub record IsSet (old new : Pool) (key : ℕ) (slot : Option Live) : Type 0 wher
   pub slots : new.slots ≡ slice_set old.slots key slot
   pub room : new.room ≡ old.room
 
--- by serial the key of its activity, and nothing else
+-- by activity id the key of its activity, and nothing else
 pub record FindsEach (slots : List (Option Live)) (find : ℕ → Option ℕ) : Type 0 where
   pub each : (key : ℕ) (live : Live) → slot_at slots key ≡ Some live → find live.serial ≡ Some key
   pub back : (serial key : ℕ) → find serial ≡ Some key → (live : Live) × IsFound slots serial key live
@@ -60,7 +60,7 @@ pub record IsPool (keys : ℕ) (slab : Slab Cell) (room : ℕ) : Type 0 where
   pub fits : keys ≤ slab.capacity
   pub free : slab_len slab + room ≤ keys
 
--- All that `Lives` keeps is of one mind.
+-- All that `Lives` keeps is consistent.
 pub record IsLives (keys : ℕ) (slab : Slab Cell) (find : ℕ → Option ℕ) (spare going room : ℕ) : Type 0 where
   pub pool : IsPool keys slab room
   pub keyed : FindsEach (lives_in keys slab) find

@@ -1,7 +1,7 @@
--- Lists of what may be there, by serial from 1 on, and numbers that may be none.
+-- Lists of what may be there, by activity id from 1 on, and numbers that may be none.
 use Rattle.std.specs.Prelude.{ℕ, zero, suc, ◌+◌, ◌==◌, min, Bool, false, Option, None, Some, option_and_then, if◌then◌else◌, List, [], ◌∷◌}
 
--- the less of two numbers, where none is without end
+-- the less of two numbers, if none is without end
 abbrev pub sooner : Option ℕ → Option ℕ → Option ℕ
 sooner None b = b
 sooner (Some a) None = Some a
@@ -17,16 +17,17 @@ abbrev pub passes : {X : Type 0} → (X → Bool) → Option X → Bool
 passes test None = false
 passes test (Some x) = test x
 
--- the serials at which the test is passed, where the first place has this serial
+-- the activity ids at which the test is passed, if the first place has this one
 unfoldable pub serials : {X : Type 0} → (X → Bool) → ℕ → List (Option X) → List ℕ
 serials test serial [] = []
 serials test serial (slot ∷ rest) =
     if passes test slot then serial ∷ serials test (serial + 1) rest
     else serials test (serial + 1) rest
 
-abbrev pub is_at : Option ℕ → ℕ → Bool
-is_at None span = false
-is_at (Some time) span = time == span
+-- whether a wait ends after exactly this many nanoseconds
+abbrev pub is_over_after : Option ℕ → ℕ → Bool
+is_over_after None span = false
+is_over_after (Some time) span = time == span
 
 -- what the function gives of each number below this one
 unfoldable pub listed : {X : Type 0} → ℕ → (ℕ → X) → List X

@@ -23,14 +23,14 @@ pub(crate) struct Cell {
     has_bound: bool,
 }
 
-// A bound where there is one.
+// Returns a bound if there is one.
 fn bound_if(has: bool, bound: u64) -> Option<u64>
     ensures { result ≡ (if has then Some bound else None) }
 {
     if has { Some(bound) } else { None }
 }
 
-/// The activity that is kept so.
+/// Returns the activity that is kept so.
 pub(crate) fn live_of(cell: &Cell) -> Live
     ensures is { result ≡ live_of_spec cell.now }
     ensures ends { HasEnds result }
@@ -51,7 +51,7 @@ pub(crate) fn live_of(cell: &Cell) -> Live
     }
 }
 
-/// This activity, as it is kept.
+/// Returns this activity, as it is kept.
 pub(crate) fn cell_of(live: Live) -> Cell
     requires { HasEnds live }
     ensures { live_of_spec result ≡ live }

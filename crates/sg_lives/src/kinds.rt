@@ -12,18 +12,18 @@ pub enum PhaseKind {
     Exec,
     /// It lets a time pass.
     Timer,
-    /// It is held as it computes: it keeps what is left of it, and gets nothing until it goes on.
+    /// Its execution is suspended: it keeps its remaining work, and gets nothing until it is resumed.
     Kept,
 }
 
-/// A phase that is due.
+/// A phase that completes.
 #[derive(Clone, Copy)]
 pub struct Phase {
     pub serial: Serial,
     pub kind: PhaseKind,
 }
 
-/// What a host takes, in milliwatts: without an execution, at the least load, at full load, and where it is off.
+/// What a host takes, in milliwatts: without an execution, at the least load, at full load, and while it is off.
 #[derive(Clone, Copy)]
 pub struct Power {
     pub idle: u64,
@@ -33,7 +33,7 @@ pub struct Power {
 }
 
 /// What a host offers: so many flops a second on each of its cores. Executions get together at most what all
-/// the cores offer, and one execution at most what one core offers. Its energy is counted where its power is known.
+/// the cores offer, and one execution at most what one core offers. Its energy is counted if its power is known.
 #[derive(Clone, Copy)]
 pub struct HostCap {
     pub speed: u64,

@@ -1,7 +1,7 @@
-//! What activities are made of, and those under way, by key and by serial.
-//! One enters by `Lives`: `put` gives an activity a key, `get` and `find` tell the one of a key or of a serial, `set` puts
-//! another in its place, and `remove` takes it away.
-//! It stands on the kit's `slab` for keys, on `sg_serials` for who is under a serial, and on `sg_base`.
+//! What activities are made of, and the running ones, by key and by activity id.
+//! The type is `Lives`: `put` gives an activity a key, `get` and `find` return the one of a key or of an id, `set`
+//! replaces it, and `remove` removes it.
+//! It stands on the kit's `slab` for keys, on `sg_serials` for keys by activity id, and on `sg_base`.
 #![tactic(auto)]
 
 mod cells;

@@ -1,4 +1,4 @@
-//! The activities under way, by key.
+//! The running activities, by key.
 
 ghost use Rattle.std.specs.Prelude.{◌≡◌, ◌<◌, ◌≤◌, ◌+◌, ◌-◌, ◌==◌, None, Some, IfSome, IsSome, MatchOption, OnOk, [], if◌then◌else◌, count_by, length, slice_set};
 ghost use Rattle.slab.specs.Slab.{get, slab_len, Updates};
@@ -16,12 +16,12 @@ use slab::Slab;
 use std::alloc::Global;
 use std::marker::Model;
 
-/// An activity under way, as it was at a stamp.
+/// A running activity, as it was at a stamp.
 #[derive(Clone, Copy)]
 pub struct Live {
     pub serial: u64,
     pub kind: PhaseKind,
-    /// How many links the way of a communication has.
+    /// How many links the route of a communication has.
     pub links: u32,
     /// What was left of its phase at the stamp.
     pub kept: u128,
@@ -43,7 +43,7 @@ pub struct Live {
     pub flow: usize,
 }
 
-/// Whether phases of this kind take shares of resources.
+/// Returns whether phases of this kind take shares of resources.
 pub fn takes_share(kind: PhaseKind) -> bool
     ensures { result ≡ takes_share_spec kind }
 {
@@ -53,7 +53,7 @@ pub fn takes_share(kind: PhaseKind) -> bool
     }
 }
 
-/// How many flows begin once a phase of this kind is over.
+/// Returns how many flows begin once a phase of this kind completes.
 pub fn flows_ahead(kind: PhaseKind) -> usize
     ensures { result ≡ flows_ahead_spec kind }
 {
@@ -63,7 +63,7 @@ pub fn flows_ahead(kind: PhaseKind) -> usize
     }
 }
 
-/// How many uses the flow takes that begins once the phase of this activity is over.
+/// Returns how many uses the flow takes that begins once the phase of this activity completes.
 pub fn uses_ahead(live: &Live) -> usize
     ensures { result ≡ uses_ahead_spec live.now.kind live.now.links }
 {
@@ -73,7 +73,7 @@ pub fn uses_ahead(live: &Live) -> usize
     }
 }
 
-/// Whether it is an execution that goes on.
+/// Returns whether it is an execution that isn't suspended.
 pub fn is_exec(kind: PhaseKind) -> bool
     ensures { result ≡ is_exec_spec kind }
 {
@@ -83,7 +83,7 @@ pub fn is_exec(kind: PhaseKind) -> bool
     }
 }
 
-/// Whether it is an execution that is held.
+/// Returns whether it is a suspended execution.
 pub fn is_held(kind: PhaseKind) -> bool
     ensures { result ≡ is_held_spec kind }
 {
@@ -93,7 +93,7 @@ pub fn is_held(kind: PhaseKind) -> bool
     }
 }
 
-// 1 where a phase of this kind goes on, and else 0.
+// Returns 1 if a phase of this kind progresses, and else 0.
 fn going_by(kind: PhaseKind) -> usize
     ensures { result ≡ (if goes_by kind then 1 else 0) }
 {
@@ -124,15 +124,15 @@ fn insert_below(slab: &mut Slab<Cell>, keys: usize, cell: Cell) -> usize
 }
 
 /// Activities under keys from 0 on, as many as there were at once at most. The key of one that is done is given to
-/// another. Nothing but `reserve` takes memory.
+/// another. Only `reserve` takes memory.
 #[derive(Drop)]
 pub struct Lives {
     slab: Slab<Cell>,
     // keys are below it
     keys: usize,
-    // by serial the key of its activity
+    // by activity id the key of its activity
     by_serial: BySerial<usize>,
-    // how many go on
+    // how many progress
     going: usize,
     // room for so many more
     room: usize,
@@ -157,7 +157,7 @@ impl Model for Lives {
 }
 
 impl Lives {
-    /// No activities, and no keys.
+    /// Makes a state without activities and keys.
     pub fn new(alloc: Global) -> Lives
         ensures slots { result.slots ≡ [] }
         ensures room { result.room ≡ 0 }
@@ -171,21 +171,21 @@ impl Lives {
         }
     }
 
-    /// How many keys there are.
+    /// Returns how many keys there are.
     pub fn numbers(&self) -> usize
         ensures { result ≡ length self.now.slots }
     {
         self.keys
     }
 
-    /// Whether no activity goes on.
+    /// Returns whether no activity progresses.
     pub fn is_idle(&self) -> bool
         ensures { result ≡ (count_by (passes goes_on) self.now.slots == 0) }
     {
         self.going == 0
     }
 
-    /// The activity under a key.
+    /// Returns the activity under a key.
     pub fn get(&self, key: usize) -> Option<Live>
         requires { key < length self.now.slots }
         ensures { result ≡ slot_at self.now.slots key }
@@ -196,7 +196,7 @@ impl Lives {
         }
     }
 
-    /// The activity of a serial, and its key.
+    /// Returns the activity of an id, and its key.
     pub fn find(&self, serial: Serial) -> Option<(usize, Live)>
         ensures { MatchOption result (IsMissing self.now.slots serial.0)
             (λ found. IsFound self.now.slots serial.0 found.0 found.1) }
@@ -210,7 +210,7 @@ impl Lives {
         Some((key, live_of(cell)))
     }
 
-    /// Puts an activity under a free key, and answers the key. No other is of its serial.
+    /// Puts an activity under a free key, and returns the key. No other has its id.
     pub fn put(&mut self, live: Live) -> usize
         requires room { 0 < self.old.room }
         requires apart { IsMissing self.old.slots live.serial }
@@ -227,7 +227,7 @@ impl Lives {
         key
     }
 
-    /// Puts an activity of the same serial, on the same hosts, in place of the one under a key.
+    /// Puts an activity of the same id, on the same hosts, in place of the one under a key.
     pub fn set(&mut self, key: usize, live: Live)
         requires there { IsSome (slot_at self.old.slots key) }
         requires same { IfSome (slot_at self.old.slots key) (λ old. old.serial ≡ live.serial) }

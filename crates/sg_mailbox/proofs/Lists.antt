@@ -28,7 +28,7 @@ pub box_same : (a : BoxId) → box_eq a a ≡ true
 box_same (Pair a b) = grind (arith, nat_tests)
 box_same (Named a) = grind (arith, nat_tests)
 
--- all but the last are pairs, too, each with the last
+-- all except the last are pairs, too, each with the last
 pub pairs_before : {X : Type 0} (R : X → X → Type 0) (xs : List X) (y : X) → AllPairs R (xs ++ y ∷ []) → AllPairs R xs × All (λ x. R x y) xs
 pairs_before {X} R xs y all =
     let long : length (xs ++ y ∷ []) ≡ length xs + 1 = length_push xs y in
@@ -37,7 +37,7 @@ pairs_before {X} R xs y all =
       λ k d below. subst (R (get_or xs k d)) (get_or_push xs y d (length xs) refl) (subst (λ x. R x (get_or (xs ++ y ∷ []) (length xs) d)) (at k d below) (all k (length xs) d below (omega (arith, long)))),
     )
 
--- ---- whom a side meets
+-- ---- whom an arriving endpoint matches
 other_is : (sends : Bool) (post : Post) → is_other sends post ≡ not (beq post.sends sends)
 other_is sends post = go sends post.sends
   where
@@ -51,7 +51,7 @@ none_other : (sends : Bool) (posts : List Post) → All (λ post. is_other sends
 none_other sends [] none = refl
 none_other sends (post ∷ posts) none = rw (All-head (λ p. is_other sends p ≡ false) post posts none) (none_other sends posts (All-tail (λ p. is_other sends p ≡ false) post posts none))
 
--- those behind the first are of its kind
+-- those after the first are of its kind
 alike : (sends : Bool) (first : Post) (rest : List Post) → AreOrdered (first ∷ rest) → is_other sends first ≡ false → find (is_other sends) rest ≡ None
 alike sends first rest ordered isnt =
     none_other sends rest (λ k d below. other_is sends (get_or rest k d) ∙ ap (λ kind. not (beq kind sends)) (sym (ordered zero (suc k) d (omega arith) (omega (arith, below))).0) ∙ sym (other_is sends first) ∙ isnt)
@@ -78,7 +78,7 @@ met_first sends (first ∷ rest) post ordered met = elim (cases_Bool (is_other s
 ]
 
 -- ---- slots
--- an element of this slot, where there is one
+-- an element of this slot, if there is one
 pub entry_in : (P : ℕ × Post → Type 0) (slot : ℕ) (queue : List (ℕ × Post)) → holds slot queue ≡ true → All P queue → (entry : ℕ × Post) × (entry.0 ≡ slot) × P entry
 entry_in P slot [] there all = absurd (cc there)
 entry_in P slot (entry ∷ queue) there all = elim (cases_Bool (eqb slot entry.0)) [
@@ -91,7 +91,7 @@ holds_without slot other queue apart =
     any-filter_same (λ (entry : ℕ × Post). eqb other entry.0) (λ (entry : ℕ × Post). not (eqb entry.0 slot)) true
     (λ entry same. ap not (ne_eqb entry.0 slot (λ e. apart (eqb-true other entry.0 same ∙ e)))) queue
 
--- without a slot the posts are those without its serial
+-- without a slot the posts are those without its activity id
 pub without_posts : (slot : ℕ) (serial : Serial) (queue : List (ℕ × Post)) → All (λ (entry : ℕ × Post). eqb entry.0 slot ≡ eqb entry.1.serial.0 serial.0) queue → map value (without_slot slot queue) ≡ posts_without serial (map value queue)
 without_posts slot serial [] same = refl
 without_posts slot serial (entry ∷ queue) same =
@@ -102,7 +102,7 @@ without_posts slot serial (entry ∷ queue) same =
       | inr isnt ↦ rw (isnt, sym here ∙ isnt) (ap (λ l. entry.1 ∷ l) rest)
     ]
 
--- where no other kind waits, all are of one kind
+-- if no other kind waits, all are of one kind
 pub none_met : (sends : Bool) (posts : List Post) → find (is_other sends) posts ≡ None → All (λ (post : Post). post.sends ≡ sends) posts
 none_met sends [] none = All-nil (λ (post : Post). post.sends ≡ sends)
 none_met sends (first ∷ rest) none = elim (cases_Bool (is_other sends first)) [

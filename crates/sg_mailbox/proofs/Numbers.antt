@@ -23,7 +23,7 @@ numbered_as f g empty queues moved less more stay old = record {
   distinct = old.distinct;
 }
 
--- one queue more is free
+-- one more queue is free
 numbered_free : (f : BoxId → Option ℕ) (empty : List ℕ) (queues : List (List (ℕ × Post))) (queue : ℕ) → AreNumbered f empty queues → IsFree f queues queue → All (λ other. other ≢ queue) empty → AreNumbered f (empty ++ queue ∷ []) queues
 numbered_free f empty queues queue old free apart = record { within = old.within; once = old.once; free = All-push (IsFree f queues) empty queue old.free free; distinct = all_pairs_push (λ a b. a ≢ b) empty queue old.distinct apart }
 

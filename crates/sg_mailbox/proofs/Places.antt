@@ -1,4 +1,4 @@
--- Where each side waits, as one comes and as one leaves.
+-- The place of each waiting endpoint, as one arrives and as one leaves.
 use Rattle.std.proofs.Common.{◌≡◌, ◌≢◌, ℕ, ◌<◌, inl, inr, Bool, true, false, true≢false, not, ◌||◌, cond, eqb, nat_eq, Option, None, Some, List, [], ◌∷◌, ◌++◌, length, get_or, refl, sym, ap, subst, ◌∙◌}
 use Rattle.std.specs.Prelude.{All, IfSome, filter, map}
 use Rattle.std.proofs.lemmas.Bool.{cases_eq, eq-eqb, ne_eqb, eqb-true, not-true, or_left, or_right}
@@ -21,7 +21,7 @@ carried : (f g : BoxId → Option ℕ) (queues later : List (List (ℕ × Post))
 carried f g queues later None keep held = tt
 carried f g queues later (Some p) keep held = keep p refl held
 
--- the same sides wait in the same places
+-- the same endpoints wait in the same places
 pub placed_like : (f g : BoxId → Option ℕ) (place other : ℕ → Option Place) (queues same : List (List (ℕ × Post))) → ((queue : ℕ) → queue_at same queue ≡ queue_at queues queue) → ((serial : ℕ) → other serial ≡ place serial)
     → ((mailbox : BoxId) (queue slot : ℕ) → f mailbox ≡ Some queue → holds slot (queue_at queues queue) ≡ true → g mailbox ≡ Some queue) → ArePlaced f place queues → ArePlaced g other same
 placed_like f g place other queues same like is keep old = record {
@@ -29,19 +29,19 @@ placed_like f g place other queues same like is keep old = record {
   held = λ s. rw (is s) (carried f g queues same (place s) (λ p e held. record { queue = keep p.mailbox p.queue p.slot held.queue held.there; there = rw (like p.queue) held.there }) (old.held s));
 }
 
--- the side that waits in a place has its serial
+-- the endpoint that waits in a place has its activity id
 pub side_at : (f : BoxId → Option ℕ) (place : ℕ → Option Place) (queues : List (List (ℕ × Post))) (serial : ℕ) (p : Place) → ArePlaced f place queues → place serial ≡ Some p → IsPlace f queues p → (P : ℕ × Post → Type 0) → All P (queue_at queues p.queue)
     → (entry : ℕ × Post) × (entry.0 ≡ p.slot) × (entry.1.serial.0 ≡ serial) × P entry
 side_at f place queues serial p were is held P all =
     let one = entry_in (λ (e : ℕ × Post). (is_at e.0 (place serial) ≡ eqb e.1.serial.0 serial) × P e) p.slot (queue_at queues p.queue) held.there (λ k d below. (were.told p.queue serial k d below, all k d below)) in
     (one.0, one.1, eqb-true one.0.1.serial.0 serial (sym one.2.0 ∙ ap (is_at one.0.0) is ∙ eq-eqb one.0.0 p.slot one.1), one.2.1)
 
--- no side has a slot that holds nothing
+-- no endpoint has a slot that holds nothing
 unused : (f : BoxId → Option ℕ) (queues : List (List (ℕ × Post))) (slot : ℕ) → ((q : ℕ) → holds slot (queue_at queues q) ≡ false) → (o : Option Place) → IfSome o (IsPlace f queues) → is_at slot o ≡ false
 unused f queues slot fresh None held = refl
 unused f queues slot fresh (Some p) held = ne_eqb slot p.slot (λ e. true≢false (sym held.there ∙ ap (λ n. holds n (queue_at queues p.queue)) (sym e) ∙ fresh p.queue))
 
--- ---- a side comes to the end of a queue
+-- ---- an endpoint is put at the end of a queue
 module _ (f : BoxId → Option ℕ) (old new : ℕ → Option Place) (queues : List (List (ℕ × Post))) (place : Place) (post : Post) where
   pub placed_put : f place.mailbox ≡ Some place.queue → place.queue < length queues → old post.serial.0 ≡ None → ((q : ℕ) → holds place.slot (queue_at queues q) ≡ false)
       → ((s : ℕ) → new s ≡ cond (nat_eq post.serial.0 s) (Some place) (old s)) → ArePlaced f old queues → ArePlaced f new (queued queues place.queue (place.slot, post))
@@ -81,8 +81,8 @@ module _ (f : BoxId → Option ℕ) (old new : ℕ → Option Place) (queues : L
         ];
       }
 
--- ---- the side of a serial leaves
--- its slot tells it from all others
+-- ---- the endpoint of an activity id leaves
+-- its slot distinguishes it from all others
 pub posts_left : (f : BoxId → Option ℕ) (place : ℕ → Option Place) (queues : List (List (ℕ × Post))) (serial : Serial) (gone : Place) → ArePlaced f place queues → place serial.0 ≡ Some gone → (q : ℕ) → map value (without_slot gone.slot (queue_at queues q)) ≡ posts_without serial (map value (queue_at queues q))
 posts_left f place queues serial gone were is q =
     without_posts gone.slot serial (queue_at queues q) (subst (λ o. All (λ (entry : ℕ × Post). is_at entry.0 o ≡ eqb entry.1.serial.0 serial.0) (queue_at queues q)) is (were.told q serial.0))
@@ -110,7 +110,7 @@ placed_taken f place new queues serial gone were is now =
       ];
     }
 
--- a side of one serial waits in one queue
+-- an endpoint of one activity id waits in one queue
 pub one_queue : (f : BoxId → Option ℕ) (place : ℕ → Option Place) (queues : List (List (ℕ × Post))) (p q : ℕ) (first : ℕ × Post) → ArePlaced f place queues → AreSlots queues → front (queue_at queues p) ≡ Some first
     → All (λ (entry : ℕ × Post). entry.1.serial.0 ≡ first.1.serial.0 → p ≡ q) (queue_at queues q)
 one_queue f place queues p q first were slots is k d below same =

@@ -1,4 +1,4 @@
--- Who waits in the mailboxes, as a side comes and as one leaves.
+-- Who waits in the mailboxes, as an endpoint arrives and as one leaves.
 use Rattle.std.proofs.Common.{◌≡◌, ◌≢◌, ℕ, ◌<◌, ◌≤◌, Bool, cond, Option, None, Some, List, [], ◌∷◌, ◌++◌, inl, inr, length, get_or, refl, sym, ap, subst, ◌∙◌, arith}
 use Rattle.std.specs.Prelude.{All, map, vec_capacity, IfSome}
 use Rattle.std.specs.HashMap.{spare, hash_map_len}
@@ -15,7 +15,7 @@ use Rattle.sg_queues.specs.Rings.{queue_at, front, behind}
 use Rattle.sg_queues.specs.Queues.{value, values_of, queued, let_go, without_slot}
 use Rattle.sg_queues.proofs.Lists.{map_at, from_front}
 use Rattle.sg_queues.proofs.Values.{values_at, queued_values}
-use Rattle.sg_mailbox.specs.declared.kept.Kept.{Kept}
+use Rattle.sg_mailbox.specs.declared.box_queues.Kept.{Kept}
 use Rattle.sg_mailbox.specs.declared.sides.Post.{Post}
 use Rattle.sg_mailbox.specs.declared.sides.Place.{Place}
 use Rattle.sg_mailbox.specs.Posts.{box_eq, posts_in, waiters, partner, partner_side, posts_without, AreBelow, AreRising}
@@ -39,7 +39,7 @@ ordered_in kept ordered = in_waiting AreOrdered kept (λ i j d less below. absur
 pub rising_in : (kept : Kept) → IsKept kept → (mailbox : BoxId) → AreRising (waiters (posts_of kept) mailbox)
 rising_in kept was mailbox = λ i j d less below. (ordered_in kept was.ordered mailbox i j d less below).1
 
--- no side waits under a serial that is above all
+-- no endpoint waits under an activity id that is above all
 pub unknown : (more : ℕ) (may : BoxId → Type 0) (kept : Kept) (serial : Serial) → AreKept more may kept → AreBelow serial.0 (posts_of kept) → place kept serial.0 ≡ None
 unknown more may kept serial was above = go (place kept serial.0) refl (was.placed.held serial.0)
   where
@@ -51,7 +51,7 @@ unknown more may kept serial was above = go (place kept serial.0) refl (was.plac
         let one = side_at (number kept) (place kept) kept.queues.queues serial.0 p was.placed is held (λ (e : ℕ × Post). e.1.serial.0 < serial.0) (λ k d less. subst (λ (post : Post). post.serial.0 < serial.0) (get_or-map value queue k d d.1 less) (below k d.1 (omega (arith, less, length-map queue value)))) in
         absurd (omega (arith, one.2, one.3))
 
--- the same sides wait, in maps and queues with room for those that come, and as much room is told
+-- the same endpoints wait, in maps and queues with room for those that arrive, and the room is counted alike
 pub alike : (old new : Kept) → IsKept old → ((m : BoxId) → number new m ≡ number old m) → hash_map_len new.numbers ≡ hash_map_len old.numbers → old.room ≤ spare new.numbers → ((s : ℕ) → place new s ≡ place old s) → old.room ≤ serials.room new.places
     → new.queues.queues ≡ old.queues.queues → old.queues.room ≤ new.queues.room → new.empty ≡ old.empty → new.room ≡ old.room → Stays old new
 alike old new was numbers count numbers_fit places places_fit queues queues_fit empty room =
@@ -81,7 +81,7 @@ pub grown : (old new : Kept) → IsKept old → ((m : BoxId) → number new m �
 grown old new was numbers count numbers_fit places places_fit queues queues_fit empty room =
     alike old new was numbers count (omega (arith, was.roomy.numbers, numbers_fit)) places (omega (arith, was.roomy.places, places_fit)) queues queues_fit empty room
 
--- nobody waits where no mailbox has a queue
+-- nobody waits if no mailbox has a queue
 pub nobody : (kept : Kept) → hash_map_len kept.numbers ≡ 0 → (mailbox : BoxId) → waiters (posts_of kept) mailbox ≡ []
 nobody kept none mailbox = ap (posts_in (values_of kept.queues.queues)) (ap (λ (es : List (BoxId × ℕ)). lookup (box_eq mailbox) es) (empty kept.numbers.entries none))
   where
@@ -89,7 +89,7 @@ nobody kept none mailbox = ap (posts_in (values_of kept.queues.queues)) (ap (λ 
     empty [] h = refl
     empty (e ∷ es) h = absurd (omega (arith, h))
 
--- ---- a side comes to the end of a queue
+-- ---- an endpoint is put at the end of a queue
 module _ (queues : List (List (ℕ × Post))) (queue slot : ℕ) (post : Post) where
   pub put_there : queue < length queues → queue_at (values_of (queued queues queue (slot, post))) queue ≡ queue_at (values_of queues) queue ++ post ∷ []
   put_there below =
@@ -116,14 +116,14 @@ module _ (f g : BoxId → Option ℕ) (mailbox : BoxId) (queues : List (List (�
     | inr apart ↦ ap (posts_in (values_of queues)) apart.1
   ]
 
--- ---- a side leaves
+-- ---- an endpoint leaves
 pub taken_in : (queues : List (List (ℕ × Post))) (slot : ℕ) (serial : Serial) → ((q : ℕ) → map value (without_slot slot (queue_at queues q)) ≡ posts_without serial (map value (queue_at queues q)))
     → (o : Option ℕ) → posts_in (values_of (let_go slot queues)) o ≡ posts_without serial (posts_in (values_of queues) o)
 taken_in queues slot serial each None = refl
 taken_in queues slot serial each (Some q) =
     values_at (let_go slot queues) q ∙ ap (map value) (map_at (without_slot slot) [] queues q) ∙ each q ∙ ap (posts_without serial) (sym (values_at queues q))
 
--- ---- a side is met
+-- ---- an endpoint is matched
 pub nobody_met : (o : Option Post) → None ≡ partner_side o → o ≡ None
 nobody_met None e = refl
 nobody_met (Some post) e = absurd (cc e)
@@ -153,14 +153,14 @@ only_there kept was mailbox other apart post is = go (number kept mailbox) (numb
         (All-map (λ (p : Post). p.serial.0 ≢ post.serial.0) value (queue_at kept.queues.queues q)
         (λ k d below same. apart (was.numbered.once other mailbox q b_is (a_is ∙ ap (λ n. Some n) (one k d below (same ∙ sym (ap (λ (p : Post). p.serial.0) first.2)))))))
 
--- no side waits under a serial that has no place
+-- no endpoint waits under an activity id that has no place
 pub unplaced : (kept : Kept) (serial : Serial) → IsKept kept → place kept serial.0 ≡ None → (mailbox : BoxId) → All (λ (post : Post). post.serial.0 ≢ serial.0) (waiters (posts_of kept) mailbox)
 unplaced kept serial was none =
     let differs : Post → Type 0 = λ post. post.serial.0 ≢ serial.0 in
     in_waiting (All differs) kept (All-nil differs) (λ q. All-map differs value (queue_at kept.queues.queues q) (λ k d below.
     let entry : ℕ × Post = get_or (queue_at kept.queues.queues q) k d in eqb-false entry.1.serial.0 serial.0 (sym (was.placed.told q serial.0 k d below) ∙ ap (is_at entry.0) none)))
 
--- who is first tells whom a side meets
+-- the first of a queue decides whom an arriving endpoint matches
 pub front_met : (kept : Kept) → IsKept kept → (mailbox : BoxId) (sends : Bool) (queue : ℕ) (first : ℕ × Post) → number kept mailbox ≡ Some queue → front (queue_at kept.queues.queues queue) ≡ Some first
     → partner sends (waiters (posts_of kept) mailbox) ≡ cond (beq first.1.sends sends) None (Some first.1)
 front_met kept was mailbox sends queue first has is =

@@ -1,4 +1,4 @@
--- Communications of which one side is there, mailbox by mailbox.
+-- Communications with one endpoint, mailbox by mailbox.
 use Rattle.std.specs.Prelude.{◌≡◌, ◌≢◌, ℕ, ◌-◌, ◌<◌, Bool, true, false, not, ◌==◌, Option, None, Some, option_map, List, [], ◌∷◌, ◌++◌, All, filter, slice_index_or, if◌then◌else◌}
 use Rattle.std.specs.List.{find, AllPairs}
 use Rattle.std.specs.Map.{lookup}
@@ -11,12 +11,13 @@ use Rattle.sg_mailbox.specs.declared.sides.Meeting.{Meeting}
 use Rattle.sg_mailbox.specs.declared.sides.Meeting.TheVariants.{Posted, Met}
 use Rattle.sg_mailbox.specs.declared.sides.Post.{Post}
 
--- the queue of each mailbox in which somebody waits, who waits in each queue in the order of arrival, and room for so many more sides that come
+-- the queue of each mailbox in which somebody waits, who waits in each queue in the order of arrival, and room for so many more arriving endpoints
 pub record Posts : Type 0 where
   pub numbers : List (BoxId × ℕ)
   pub queues : List (List Post)
   pub room : ℕ
 
+-- whether two mailboxes are the same
 abbrev pub box_eq : BoxId → BoxId → Bool
 box_eq = (box_eq_impl.ghosts).eq
 
@@ -32,12 +33,12 @@ posts_in queues (Some queue) = slice_index_or queues queue []
 abbrev pub waiters : Posts → BoxId → List Post
 waiters posts mailbox = posts_in posts.queues (queue_of posts mailbox)
 
--- whether the other kind of side waits: a receiver for one that sends, and a sender for one that receives
+-- whether the other kind of endpoint waits: a receiver for one that sends, and a sender for one that receives
 abbrev pub is_other : Bool → Post → Bool
 is_other true post = not post.sends
 is_other false post = post.sends
 
--- whom a side meets: the first of the other kind, which has the least serial
+-- whom an arriving endpoint matches: the first of the other kind, which has the least activity id
 abbrev pub partner : Bool → List Post → Option Post
 partner sends posts = find (is_other sends) posts
 
@@ -50,7 +51,7 @@ abbrev pub posts_by_partner : Option Post → Bool → Side → Serial → List 
 posts_by_partner None sends side serial posts = posts ++ record { serial = serial; sends = sends; side = side } ∷ []
 posts_by_partner (Some post) sends side serial posts = without (is_other sends) posts
 
--- a side that comes takes whom it meets away, and waits where it meets nobody
+-- an arriving endpoint removes its match, and waits if it has none
 abbrev pub posts_after : Bool → Side → Serial → List Post → List Post
 posts_after sends side serial posts = posts_by_partner (partner sends posts) sends side serial posts
 
@@ -58,41 +59,41 @@ abbrev pub meeting : Option Post → Serial → Meeting
 meeting None serial = Posted serial
 meeting (Some post) serial = Met post.serial post.side
 
--- whom a side would meet, as its communication's serial and the other side
+-- the match of an arriving endpoint, as its communication's activity id and its endpoint
 abbrev pub partner_side : Option Post → Option (Serial × Side)
 partner_side found = option_map (λ post. (post.serial, post.side)) found
 
--- what a side that comes to this mailbox finds there
+-- what an endpoint arriving at this mailbox finds there
 pub record IsFound (posts : Posts) (mailbox : BoxId) (sends : Bool) (found : Found) : Type 0 where
   pub queue : found.queue ≡ queue_of posts mailbox
   pub met : found.met ≡ partner_side (partner sends (waiters posts mailbox))
 
--- the post of this serial has left
+-- the post of this activity id has left
 abbrev pub posts_without : Serial → List Post → List Post
 posts_without serial posts = filter (λ (post : Post). not (post.serial.0 == serial.0)) posts
 
--- all that wait have lower serials
+-- all that wait have lower activity ids
 abbrev pub AreBelow : ℕ → Posts → Type 0
 AreBelow serial posts = (mailbox : BoxId) → All (λ (post : Post). post.serial.0 < serial) (waiters posts mailbox)
 
--- the same sides wait
+-- the same endpoints wait
 abbrev pub AllStay : Posts → Posts → Type 0
 AllStay old new = (mailbox : BoxId) → waiters new mailbox ≡ waiters old mailbox
 
--- the same sides wait in all mailboxes but this one
+-- the same endpoints wait in all mailboxes except this one
 abbrev pub OthersStay : BoxId → Posts → Posts → Type 0
 OthersStay mailbox old new = (other : BoxId) → other ≢ mailbox → waiters new other ≡ waiters old other
 
--- serials rise in the order of arrival
+-- activity ids rise in the order of arrival
 abbrev pub AreRising : List Post → Type 0
 AreRising posts = AllPairs (λ (first later : Post). first.serial.0 < later.serial.0) posts
 
--- there is room for a side that comes, and its serial is above those that wait
+-- there is room for an arriving endpoint, and its activity id is above those that wait
 pub record CanCome (serial : ℕ) (posts : Posts) : Type 0 where
   pub room : 0 < posts.room
   pub above : AreBelow serial posts
 
--- a side came to a mailbox, met whom it meets there or waits, and took its room
+-- an endpoint arrived at a mailbox, matched one there or waits, and took its room
 pub record Comes (mailbox : BoxId) (sends : Bool) (side : Side) (serial : Serial) (old new : Posts) (met : Meeting) : Type 0 where
   pub meeting : met ≡ meeting (partner sends (waiters old mailbox)) serial
   pub there : waiters new mailbox ≡ posts_after sends side serial (waiters old mailbox)

@@ -3,17 +3,17 @@ ghost use Rattle.std.specs.Prelude.{◌≡◌, ◌<◌, ◌≤◌, [], true, fal
 ghost use Rattle.sg_base.specs.declared.ids.BoxId.{BoxId};
 ghost use Rattle.sg_mailbox.specs.Posts.{waiters, partner, partner_side, posts_without, AllStay, AreBelow, AreRising, CanCome, Comes, IsFound};
 
-use crate::kept::{Kept, enter, first, look, reserve, withdraw};
+use crate::box_queues::{Kept, enter, first, look, reserve, withdraw};
 use crate::sides::{Found, Meeting, Side};
 use sg_base::{BoxId, Memory, Serial};
 use std::alloc::Global;
 use std::marker::Model;
 
-/// Communications of which one side is there, mailbox by mailbox.
+/// Communications with one endpoint, mailbox by mailbox.
 ///
-/// A side that comes meets the one that has waited longest, where the other kind waits; else it waits itself. No
-/// other mailbox is looked at. What a call costs depends on no number of mailboxes or of sides that wait, and only
-/// `new` and `reserve` take memory.
+/// An arriving endpoint matches the one of the other kind that has waited longest; if none waits, it waits itself. No
+/// other mailbox is searched. The cost of a call doesn't depend on the number of mailboxes or of waiting endpoints, and
+/// only `new` and `reserve` take memory.
 pub struct Boxes {
     kept: Kept,
 }
@@ -37,7 +37,7 @@ impl Model for Boxes {
 }
 
 impl Boxes {
-    /// Nobody waits, and there is no room.
+    /// Makes mailboxes in which nobody waits, without room.
     pub fn new(alloc: Global) -> Result<Boxes, Memory>
         ensures empty { IfOk result (λ boxes. (mailbox : BoxId) → waiters boxes mailbox ≡ []) }
         ensures room { IfOk result (λ boxes. boxes.room ≡ 0) }
@@ -47,7 +47,7 @@ impl Boxes {
         })
     }
 
-    /// Makes room for so many sides that come.
+    /// Makes room for so many arriving endpoints.
     pub fn reserve(&mut self, n: usize) -> Result<(), Memory>
         ensures room { OnOk result (n ≤ self.new.room) }
         ensures grows { self.old.room ≤ self.new.room }
@@ -56,7 +56,7 @@ impl Boxes {
         reserve(&mut self.kept, n)
     }
 
-    /// What a side finds that comes to a mailbox: nothing changes.
+    /// Returns what an endpoint arriving at a mailbox finds; nothing changes.
     pub fn look(&self, mailbox: BoxId, sends: bool) -> Found
         ensures found { IsFound self.now mailbox sends result }
         ensures rising { AreRising (waiters self.now mailbox) }
@@ -64,7 +64,7 @@ impl Boxes {
         look(&self.kept, mailbox, sends)
     }
 
-    /// A side comes that found this there. Where it meets nobody it waits under the serial.
+    /// Enters an arriving endpoint that found this. If it matches nobody it waits under the activity id.
     pub fn enter(
         &mut self,
         mailbox: BoxId,
@@ -81,8 +81,8 @@ impl Boxes {
         enter(&mut self.kept, mailbox, sends, found, side, serial)
     }
 
-    /// The side of this serial leaves its mailbox, from wherever it waits there. Nothing changes where no side of
-    /// this serial waits.
+    /// Removes the endpoint of this activity id from its mailbox, from wherever it waits there. Nothing changes if no
+    /// endpoint of this id waits.
     pub fn withdraw(&mut self, serial: Serial)
         ensures left { (mailbox : BoxId) → waiters self.new mailbox
             ≡ posts_without serial (waiters self.old mailbox) }
@@ -91,7 +91,7 @@ impl Boxes {
         withdraw(&mut self.kept, serial);
     }
 
-    /// A side comes that sends.
+    /// Enters an arriving sender.
     pub fn send(&mut self, mailbox: BoxId, side: Side, serial: Serial) -> Meeting
         requires { CanCome serial.0 self.old }
         ensures { Comes mailbox true side serial self.old self.new result }
@@ -100,7 +100,7 @@ impl Boxes {
         self.enter(mailbox, true, found, side, serial)
     }
 
-    /// A side comes that receives.
+    /// Enters an arriving receiver.
     pub fn recv(&mut self, mailbox: BoxId, side: Side, serial: Serial) -> Meeting
         requires { CanCome serial.0 self.old }
         ensures { Comes mailbox false side serial self.old self.new result }
@@ -109,7 +109,7 @@ impl Boxes {
         self.enter(mailbox, false, found, side, serial)
     }
 
-    /// Whom `send` would meet: nothing changes.
+    /// Returns whom `send` would match: nothing changes.
     pub fn meets_send(&self, mailbox: BoxId) -> Option<(Serial, Side)>
         ensures is { result ≡ partner_side (partner true (waiters self.now mailbox)) }
         ensures rising { AreRising (waiters self.now mailbox) }
@@ -117,7 +117,7 @@ impl Boxes {
         self.look(mailbox, true).met
     }
 
-    /// Whom `recv` would meet: nothing changes.
+    /// Returns whom `recv` would match: nothing changes.
     pub fn meets_recv(&self, mailbox: BoxId) -> Option<(Serial, Side)>
         ensures is { result ≡ partner_side (partner false (waiters self.now mailbox)) }
         ensures rising { AreRising (waiters self.now mailbox) }

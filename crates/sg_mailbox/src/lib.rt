@@ -1,11 +1,10 @@
 //! Mailboxes: sends and receives that wait for each other.
-//! One enters by `Boxes`: `look` tells whom a side meets, `enter` puts it in or takes the other out by what was found,
-//! and `withdraw` lets one go.
-//! It stands on `sg_base`, on `sg_queues` for who waits where, and on `sg_serials` for where the side of a serial waits.
+//! The type is `Boxes`: `look` returns whom an arriving endpoint matches, `enter` adds it or removes its match.
+//! It stands on `sg_base`, on `sg_queues` for the queues, and on `sg_serials` for places by activity id.
 #![tactic(auto)]
 
+mod box_queues;
 mod boxes;
-mod kept;
 mod sides;
 
 pub use boxes::Boxes;

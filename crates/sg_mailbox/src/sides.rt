@@ -1,7 +1,7 @@
-//! The sides of a communication.
+//! The endpoints of a communication.
 use sg_base::{ActorId, BoxId, Msg, Serial};
 
-/// One side of a communication: who sends, or who receives.
+/// An endpoint of a communication: the sender, or the receiver.
 #[derive(Clone, Copy)]
 pub struct Side {
     pub actor: ActorId,
@@ -12,25 +12,25 @@ pub struct Side {
     pub rate: u64,
 }
 
-/// What became of a side that came to a mailbox.
+/// What became of an endpoint that arrived at a mailbox.
 #[derive(Clone, Copy)]
 pub enum Meeting {
-    /// It waits there, as the communication of this serial.
+    /// It waits there, as the communication of this activity id.
     Posted(Serial),
-    /// It met the other side of this communication.
+    /// It matched the waiting endpoint of this communication.
     Met(Serial, Side),
 }
 
-/// What a side that comes to a mailbox finds there.
+/// What an endpoint arriving at a mailbox finds there.
 #[derive(Clone, Copy)]
 pub struct Found {
-    /// The queue of the mailbox, where somebody waits there.
+    /// The queue of the mailbox, if somebody waits there.
     pub queue: Option<usize>,
-    /// Whom the side meets.
+    /// Whom the endpoint matches.
     pub met: Option<(Serial, Side)>,
 }
 
-/// A side that waits: the serial of its communication, and whether it sends.
+/// A waiting endpoint: the activity id of its communication, and whether it sends.
 #[derive(Clone, Copy)]
 pub struct Post {
     pub serial: Serial,
@@ -38,7 +38,7 @@ pub struct Post {
     pub side: Side,
 }
 
-/// Where a side waits.
+/// The place where an endpoint waits.
 #[derive(Clone, Copy)]
 pub(crate) struct Place {
     pub(crate) mailbox: BoxId,

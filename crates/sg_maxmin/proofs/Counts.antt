@@ -107,7 +107,7 @@ least_join (Some k) xs ys l g h =
       λ y i. elim (Contains-append_cases xs ys y i) [ inl j ↦ omega (arith, m.0, g.1 y j) | inr j ↦ omega (arith, m.1, h.1 y j) ],
     )
 
--- where each resource stands once, it is counted once
+-- if each resource stands once, it is counted once
 times-once : (xs : List ℕ) (c : ℕ) → AllPairs (λ a b. a ≢ b) xs → times c xs ≡ cond (list_any (λ d. d == c) xs) 1 0
 times-once [] c h = refl
 times-once (x ∷ xs) c h =
@@ -123,7 +123,7 @@ times-once (x ∷ xs) c h =
     count_none [] none = refl
     count_none (y ∷ ys) none = times-away c y ys (λ e. none 0 (omega arith) e) ∙ count_none ys (λ k in' e. none (suc k) (omega (arith, in')) e)
 
--- what the rows tell of one of them
+-- what the rows say of one of them
 pub record RowFacts (caps : List ℕ) (uses : List (Option Use)) (row : FlowRow) : Type 0 where
   pub chain : IsOneChain row.count uses row.first
   pub exist : All (λ c. c < length caps) (resources row.count uses row.first)
@@ -190,7 +190,7 @@ unfixed_from (Some x) e = cc e
 pub least_unique : (k l : ℕ) (xs : List ℕ) → IsLeast (Some k) xs → IsLeast (Some l) xs → k ≡ l
 least_unique k l xs g h = omega (arith, g.1 l h.0, h.1 k g.0)
 
--- ---- rows that are the same but for their shares
+-- ---- rows that are the same except for their shares
 pub flows_same : (uses : List (Option Use)) (old new : List (Option FlowRow)) → SameRows old new → (key : ℕ) → option_map (flow_of uses) (get_or new key None) ≡ option_map (flow_of uses) (get_or old key None)
 unfolding flow_of
 flows_same uses old new same key = sym (through (get_or new key None)) ∙ ap (option_map (flow_of uses)) (same key) ∙ through (get_or old key None)

@@ -1,4 +1,4 @@
--- Where each weight is 1, filling with weights is filling without.
+-- If each weight is 1, the weighted max-min shares are the unweighted ones.
 use Rattle.std.proofs.Common.{◌≡◌, ℕ, zero, suc, ◌-◌, ◌*◌, ◌/◌, ◌≤◌, ◌==◌, Bool, true, false, cond, ◌&&◌, Option, None, Some, is_none, option_map, option_to_list, List, [], ◌∷◌, ◌++◌, map, filter, flat_map, length, slice_index, refl, sym, ap, ap₂, subst, ◌∙◌, inl, inr, arith}
 use Rattle.std.specs.Option.{unwrap_or}
 use Rattle.std.specs.List.{list_any}
@@ -12,7 +12,7 @@ bound_one : (b : ℕ) → bound_level 1 b ≡ b
 unfolding bound_level
 bound_one b = omega arith
 
--- a share is the level, where the level is within the bound
+-- a share is the level, if the level is within the bound
 share_is : (f : Flow) (l : ℕ) → f.weight ≡ 1 → ((b : ℕ) → f.bound ≡ Some b → l ≤ b) → share_at f l ≡ l
 unfolding share_at
 share_is f l one h = ap (λ w. bounded f.bound (w * l)) one ∙ within f.bound h

@@ -1,4 +1,4 @@
--- The passes over the rows are the steps of filling.
+-- The passes over the rows are the steps of the max-min solve.
 use Rattle.std.proofs.Common.{◌≡◌, ℕ, zero, suc, ◌+◌, ◌-◌, ◌*◌, ◌/◌, ◌^◌, min, IsSome, IfSome, ◌<◌, ◌≤◌, ◌⊎◌, inl, inr, true, false, cond, ◌&&◌, is_none, is_some, Option, None, Some, option_map, option_to_list, List, [], ◌∷◌, ◌++◌, map, filter, flat_map, length, get_or, sum_by, count_by, All, refl, sym, ap, ap₂, subst, ◌∙◌, arith}
 use Rattle.std.specs.Option.{unwrap_or}
 use Rattle.std.proofs.lemmas.List.Sums.{sum_by-cons, count_by-le-length}
@@ -149,7 +149,7 @@ lowest_is caps rows uses left waiting' fixed low sound are counted h =
     is_least : (xs : List ℕ) → IsLeast (Some low) xs → least xs ≡ low
     is_least xs g = omega (arith, least_le xs low (In-from_contains xs low g.0), g.1 (least xs) (contains_from_In xs (least xs) (least_in xs low (In-from_contains xs low g.0))))
 
--- ---- a pass that fixes is a step
+-- ---- a pass over the rows that fixes flows is a step
 pub step_case : (caps : List ℕ) (flows : List Flow) (fixed : Fixed) (f : Flow) (low : ℕ) (list : List ℕ) (before after : Option ℕ) → fixed f ≡ before → limits caps flows fixed f ≡ list → In f flows → lowest caps flows fixed ≡ low →
     IsStepped low (IsLeast (Some low) list) before after → after ≡ step caps flows fixed f
 step_case caps flows fixed f low list (Some x) after e lim i low_is h = h ∙ sym (step_fixed caps flows fixed f x e)
@@ -222,7 +222,7 @@ levels_early n caps rows uses left waiting' sound h few are counted none =
     subst (λ ys. In limit.0 ys) (all_limits_are caps rows uses left waiting' fixed sound are counted ∙ none) in')
 
 -- ---- the beginning, and the number of flows
--- each row changed by a function that leaves it as it is but for its level and share
+-- each row changed by a function that leaves it as it is except for its level and share
 mapped_same : (f : FlowRow → FlowRow) → ((row : FlowRow) → without_share (f row) ≡ without_share row) → (old new : List (Option FlowRow)) → ((key : ℕ) → get_or new key None ≡ option_map f (get_or old key None)) → SameRows old new
 mapped_same f leaves old new h = λ key. ap (option_map without_share) (h key) ∙ through (get_or old key None)
   where

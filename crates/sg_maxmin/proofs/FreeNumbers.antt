@@ -33,7 +33,7 @@ in_rows rows id row e = elim (cases id (length rows)) [ inl h ↦ h | inr h ↦ 
     past : (xs : List (Option FlowRow)) (k : ℕ) → length xs ≤ k → get_or xs k None ≡ None
     past xs k h = grind (arith, get_or_past)
 
--- one number more
+-- one more number
 pub free_grown : (rows : List (Option FlowRow)) (free : List ℕ) (count number : ℕ) → AreFree rows free count → number ≡ length rows → number < 2 ^ 32 → AreFree (rows ++ None ∷ []) (set (free ++ number ∷ []) count number) (count + 1)
 free_grown rows free count number are is small =
     let longer : length (rows ++ None ∷ []) ≡ length rows + 1 = length-append rows (None ∷ []) in

@@ -32,7 +32,7 @@ same_sum h (x ∷ a) (y ∷ b) e = sum_by-cons (weight h) x a ∙ ap₂ (λ v w.
 not_suc : (k id : ℕ) → k ≢ id → suc k ≢ suc id
 not_suc k id away e = away (omega (arith, e))
 
--- where the two lists differ at one place alone
+-- if the two lists differ at one place alone
 pub changed_sum : {X : Type 0} (h : X → ℕ) (id : ℕ) (a b : List (Option X)) → ((k : ℕ) → k ≢ id → get_or b k None ≡ get_or a k None) →
     sum_by (weight h) b + weight h (get_or a id None) ≡ sum_by (weight h) a + weight h (get_or b id None)
 changed_sum h zero [] [] e = refl

@@ -1,4 +1,4 @@
--- Filling doesn't depend on the order in which the resources are listed: step by step, what is fixed is the same.
+-- The max-min solve doesn't depend on the order of the resources: step by step the same flows are fixed.
 use Rattle.std.proofs.Common.{◌≡◌, ℕ, zero, suc, ◌+◌, ◌-◌, ◌*◌, ◌/◌, inl, inr, Bool, true, false, cond, ◌&&◌, Option, None, Some, is_none, true≢false, List, [], ◌∷◌, ◌++◌, map, filter, flat_map, length, sum_by, refl, sym, ap, ap₂, subst, ◌∙◌, arith}
 use Rattle.std.specs.Option.{unwrap_or}
 use Rattle.std.specs.List.{AllZip}
@@ -41,7 +41,7 @@ same_append ls ms ns os front back n = (
   λ i. elim (In-append_cases ms os n i) [ inl k ↦ In-append_left ls ns n ((front n).1 k) | inr k ↦ In-append_right ls ns n ((back n).1 k) ],
 )
 
--- the lists of those that pass a test
+-- the lists of those that meet a test
 same_flat : {X Y : Type 0} (p : X → Bool) (q : Y → Bool) (f : X → List ℕ) (g : Y → List ℕ) (xs : List X) (ys : List Y) →
     AllZip (λ x y. (p x ≡ q y) × HaveSame (f x) (g y)) xs ys → HaveSame (flat_map f (filter p xs)) (flat_map g (filter q ys))
 same_flat p q f g [] [] r = λ n. (λ i. i, λ i. i)

@@ -1,4 +1,4 @@
--- Filling, seen from its result: a flow's share is the first number at which something holds it back, with the flows of smaller shares fixed.
+-- The max-min solve by its result: a flow's share is the first number at which something limits it, with the flows of smaller shares fixed.
 use Rattle.std.proofs.Common.{◌≡◌, ℕ, zero, suc, ◌+◌, ◌<◌, ◌≤◌, ◌⊎◌, inl, inr, Bool, true, false, cond, ltb, lt-ltb, le-ltb, true≢false, Option, None, Some, is_none, List, [], ◌∷◌, length, count_by, refl, sym, ap, subst, ◌∙◌, arith, if◌then◌else◌}
 use Rattle.std.specs.Option.{unwrap_or}
 use Rattle.std.proofs.lemmas.List.Sums.{sum_by-cons, count_by-le-length}
@@ -69,7 +69,7 @@ left_falls caps flows a limited pos =
     sum_by_lt (λ f. cond (is_none (step caps flows a f)) 1 0) (λ f. cond (is_none (a f)) 1 0) flows r.0 r.1 (rw (step_at caps flows a r.0 r.2 r.3, r.2) (omega arith))
     (λ f i. test_le (lowest caps flows a) (a f) (step caps flows a f) (In (lowest caps flows a) (limits caps flows a f)) (step_cases caps flows a f))
 
--- after as many steps as there are unfixed flows none is left
+-- after as many steps as there are unfixed flows no flow is unfixed
 pub all_fixed : (n : ℕ) (caps : List ℕ) (flows : List Flow) (a : Fixed) → Limited caps flows → left flows a ≤ n → (f : Flow) → In f flows → steps_from n caps flows a f ≡ None → ⊥
 unfolding steps_from
 all_fixed zero caps flows a limited few f i e =
@@ -91,7 +91,7 @@ stays_fixed (suc n) caps flows a f x e = stays_fixed n caps flows (step caps flo
 abbrev pub result_of : ℕ → List ℕ → List Flow → Fixed → Flow → ℕ
 result_of n caps flows a f = unwrap_or (steps_from n caps flows a f) 0
 
--- what holds of a flow that isn't fixed yet, where all that holds one back is at low or above
+-- what holds of a flow that isn't fixed yet, if all that holds one back is at low or above
 pub record IsHeld (caps : List ℕ) (flows : List Flow) (share : Flow → ℕ) (low : ℕ) (f : Flow) : Type 0 where
   pub least : low ≤ share f
   pub met : In (share f) (limits caps flows (below (share f) share) f)

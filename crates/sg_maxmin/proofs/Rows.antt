@@ -22,7 +22,7 @@ get_or-map_none f (x ∷ xs) (suc k) = get_or-map_none f xs k
 pub flow_at-flows_of : (rows : List (Option FlowRow)) (uses : List (Option Use)) (id : ℕ) → flow_at (flows_of rows uses) id ≡ option_map (flow_of uses) (get_or rows id None)
 flow_at-flows_of rows uses id = get_or-map_none (flow_of uses) rows id
 
--- a row's flow, where its own chain stays
+-- a row's flow, if its own chain stays
 flow_of_kept : (id : ℕ) (old new : List (Option Use)) (row : FlowRow) → IsSameChain old new id row.count row.first → flow_of new row ≡ flow_of old row
 unfolding flow_of
 flow_of_kept id old new row h = ap (λ us. flow us row.weight row.bound) h.over
@@ -33,7 +33,7 @@ some_row a b e = cc e
 eq_cases : (a b : ℕ) → (a ≡ b) ⊎ (a ≢ b)
 eq_cases a b = grind arith
 
--- where the chain of each row but one stays, and the other rows are as they were
+-- if the chain of each row except one stays, and the other rows are as they were
 pub others_kept : (caps : List ℕ) (rows : List (Option FlowRow)) (uses uses' : List (Option Use)) (id : ℕ) → AreRows caps rows uses → KeepsChains uses uses' id →
     (other : ℕ) → other ≢ id → (row : FlowRow) → get_or rows other None ≡ Some row → IsChain other row.count uses' row.first × (flow_of uses' row ≡ flow_of uses row)
 others_kept caps rows uses uses' id are kept other away row e =
@@ -79,7 +79,7 @@ rows_changed caps rows rows' uses uses' id slot are kept changed others new =
     same_map None h = refl
     same_map (Some row) h = ap (λ w. Some w) (h row refl)
 
--- where a row stays, so does its share
+-- if a row stays, so does its share
 pub share_kept : (old new : List (Option FlowRow)) (id : ℕ) → get_or new id None ≡ get_or old id None → get_or (map share_in new) id 0 ≡ get_or (map share_in old) id 0
 share_kept old new id e = get_or-map share_in new id None ∙ ap share_in e ∙ sym (get_or-map share_in old id None)
 
@@ -199,7 +199,7 @@ kept_extended caps rows rows' chains left waiting k same = record {
 pub kept_room : (caps : List ℕ) (rows : List (Option FlowRow)) (chains : Chained) (room : ℕ) (left waiting : List ℕ) → IsKept caps rows chains left waiting → IsKept caps rows (record chains { room = room }) left waiting
 kept_room caps rows chains room left waiting k = record { are_rows = k.are_rows; both = k.both; users_len = k.users_len; left_len = k.left_len; waiting_len = k.waiting_len }
 
--- ---- what is kept stays so where a capacity, or the bound of a flow, is another
+-- ---- what is kept stays so if a capacity, or the bound of a flow, is another
 pub kept_capacity : (caps : List ℕ) (resource capacity : ℕ) (rows : List (Option FlowRow)) (chains : Chained) (left waiting : List ℕ) → IsKept caps rows chains left waiting → IsKept (set caps resource capacity) rows chains left waiting
 kept_capacity caps resource capacity rows chains left waiting k =
     let len : length caps ≡ length (set caps resource capacity) = sym (length-set caps resource capacity) in

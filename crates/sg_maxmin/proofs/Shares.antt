@@ -1,4 +1,4 @@
--- Where sums over two lists of flows are the same, so are the shares.
+-- If sums over two lists of flows are the same, so are the shares.
 use Rattle.std.proofs.Common.{◌≡◌, ℕ, zero, suc, ◌<◌, inl, inr, Bool, true, false, cond, ◌&&◌, ◌==◌, true≢false, Option, None, Some, List, [], ◌∷◌, sum_by, refl, sym, ap, ap₂, subst, ◌∙◌, arith}
 use Rattle.std.proofs.lemmas.List.Sums.{sum_by-cons}
 use Rattle.sg_maxmin.specs.Fill.{Flow, flow, is_on, share_of}

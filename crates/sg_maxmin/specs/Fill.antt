@@ -3,7 +3,7 @@ use Rattle.std.specs.Prelude.{ℕ, zero, suc, ◌-◌, ◌*◌, ◌/◌, ◌==�
 use Rattle.std.specs.Int.{div_ceil}
 use Rattle.std.specs.List.{list_any}
 
--- what a flow asks for: the resources that it uses, each listed once, its weight, and its bound, where it has one
+-- what a flow asks for: the resources that it uses, each listed once, its weight, and its bound, if it has one
 pub record Flow : Type 0 where
   pub uses : List ℕ
   pub weight : ℕ
@@ -21,7 +21,7 @@ is_on resource flow = list_any (λ used. used == resource) flow.uses
 abbrev pub Fixed : Type 0
 Fixed = Flow → Option ℕ
 
--- no more than the bound, where there is one
+-- no more than the bound, if there is one
 abbrev pub bounded : Option ℕ → ℕ → ℕ
 bounded None share = share
 bounded (Some bound) share = min bound share
@@ -90,6 +90,6 @@ level_of capacities flows flow = unwrap_or (steps_from (length flows) capacities
 abbrev pub share_of : List ℕ → List Flow → Flow → ℕ
 share_of capacities flows flow = share_at flow (level_of capacities flows flow)
 
--- the filling: the share of each flow
+-- the max-min share of each flow
 abbrev pub fill : List ℕ → List Flow → List ℕ
 fill capacities flows = map (share_of capacities flows) flows

@@ -1,4 +1,4 @@
--- Laws of filling.
+-- Laws of max-min shares.
 use Rattle.std.specs.Prelude.{◌≡◌, ℕ, ◌<◌, ◌≤◌, ◌+◌, Option, None, Some, IsTrue, IsSome, List, ◌++◌, length, Contains, sum_by}
 use Rattle.sg_maxmin.specs.Fill.{Flow, is_on, lowest, steps_from, level_of, share_of, fill, unfixed}
 use Rattle.sg_maxmin.specs.Fair.{IsFair}
@@ -53,7 +53,7 @@ LevelRises =
     lowest capacities flows (steps_from n capacities flows unfixed) <
     lowest capacities flows (steps_from (n + 1) capacities flows unfixed)
 
--- Where two lists share no resource, the filling of both is the filling of the one and the filling of the other.
+-- If two lists of flows share no resource, the max-min shares of both are those of each.
 abbrev pub FillsApart : Type 0
 FillsApart =
     (capacities : List ℕ) (ones others : List Flow) →

@@ -44,7 +44,7 @@ abbrev pub slot_part : (Flow → ℕ) → Option Flow → ℕ
 slot_part amount None = 0
 slot_part amount (Some flow) = amount flow
 
--- something limits the flow: it has a weight, and where it uses no resource it has a bound
+-- something limits the flow: it has a weight, and if it uses no resource it has a bound
 pub record HasLimit (flow : Flow) : Type 0 where
   pub weighs : 0 < flow.weight
   pub bounds : flow.uses ≡ [] → IsSome flow.bound
@@ -79,7 +79,7 @@ pub record IsExtended (old new : List (Option Flow)) (more : ℕ) : Type 0 where
 abbrev pub KeepsShares : List ℕ → List ℕ → ℕ → Type 0
 KeepsShares old new id = (other : ℕ) → other ≢ id → slice_index new other ≡ slice_index old other
 
--- the resources of a flow, and none where there is no flow
+-- the resources of a flow, and none if there is no flow
 abbrev pub uses_in : Option Flow → List ℕ
 uses_in None = []
 uses_in (Some flow) = flow.uses

@@ -1,4 +1,4 @@
--- Filling where all flows weigh the same. It is what filling with weights gives where each weight is 1.
+-- Max-min shares of flows of equal weight: the weighted shares, if each weight is 1.
 use Rattle.std.specs.Prelude.{◌≡◌, ℕ, zero, suc, ◌-◌, ◌/◌, ◌==◌, Bool, ◌&&◌, Contains, Some, is_none, unwrap_or, option_to_list, if◌then◌else◌, List, ◌++◌, map, filter, flat_map, length, sum_by, count_by, slice_index}
 use Rattle.std.specs.List.{list_any}
 use Rattle.sg_maxmin.specs.Fill.{Flow, Fixed, is_on, least, unfixed, fill}
@@ -48,6 +48,6 @@ equal_fill capacities flows = map (share_of capacities flows) flows
 abbrev pub AllWeighOne : List Flow → Type 0
 AllWeighOne flows = (other : Flow) → Contains flows other → other.weight ≡ 1
 
--- Where each weight is 1, filling with weights is filling without.
+-- If each weight is 1, the weighted max-min shares are the unweighted ones.
 abbrev pub FillsEqually : Type 0
 FillsEqually = (capacities : List ℕ) (flows : List Flow) → AllWeighOne flows → fill capacities flows ≡ equal_fill capacities flows

@@ -1,4 +1,4 @@
--- Fillings that were worked out by hand.
+-- Max-min shares that were worked out by hand.
 use Rattle.std.specs.Prelude.{◌≡◌, ℕ, ◌-◌, None, Some, List, [], ◌∷◌}
 use Rattle.sg_maxmin.specs.Fill.{Flow, flow, fill}
 use Rattle.sg_maxmin.specs.Relisted.{AreRelisted}
@@ -17,7 +17,7 @@ weighty uses weight = flow uses weight None
 abbrev pub both_given : List ℕ → ℕ → ℕ → Flow
 both_given uses weight bound = flow uses weight (Some bound)
 
--- three over two links, of which one is over both; and the same with the links in the other order
+-- three flows on two links, one of them on both; and the same with the links in the other order
 abbrev pub behind : List Flow
 behind = free (0 ∷ 1 ∷ []) ∷ free (1 ∷ []) ∷ free (1 ∷ []) ∷ []
 

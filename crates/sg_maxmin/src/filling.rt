@@ -1,6 +1,6 @@
-//! Progressive filling. Each step is three passes over the flows: the first counts, for each resource, what the
-//! fixed flows leave and the weights of the unfixed ones that wait for it; the second finds the lowest limit; the
-//! third fixes each flow that is at it.
+//! Progressive filling. Each step makes three passes over the flows: the first counts, for each resource, what the
+//! fixed flows leave and the weights of the unfixed ones that wait for it; the second finds the lowest limit; the third
+//! fixes each flow at that limit.
 
 ghost use Rattle.std.specs.Prelude.{◌≡◌, ◌≢◌, ◌↔◌, IsTrue, IsSomeAnd, option_map, ◌≤◌, ◌<◌, ◌+◌, ◌-◌, ◌*◌, ◌^◌, ◌/◌, min, ℕ, List, ◌++◌, length, Some, None, slice_index};
 ghost use Rattle.sg_chains.specs.Chained.{times};
@@ -12,7 +12,7 @@ ghost use Rattle.sg_maxmin.specs.kept.Numbers.{ChangesRow, ChangesRows, row_at};
 ghost use Rattle.sg_maxmin.specs.kept.Counting.{HasRowPlaces, HavePlaces, IsLeast, LooksUpTo, row_limits, least_with, AreCounted, row_taken, row_waiting, row_count, count_of, unfixed_limits, all_limits, with_level, with_share, RowSteps, SameRows, AreRowLevels};
 
 use crate::flow_row::FlowRow;
-use crate::numbers::Rows;
+use crate::numbered_rows::Rows;
 use crate::uses::look;
 use sg_base::Steps;
 use sg_chains::Chains;
@@ -26,7 +26,7 @@ struct Counts<'a> {
     waiting: &'a [u64],
 }
 
-// The level of a flow's bound, where it has one.
+// Returns the level of a flow's bound, if it has one.
 fn level_of_bound(row: FlowRow) -> Option<u64>
     requires { 0 < row.weight }
     ensures { result ≡ option_map (bound_level row.weight) row.bound }
@@ -37,7 +37,7 @@ fn level_of_bound(row: FlowRow) -> Option<u64>
     }
 }
 
-// The share of a flow at a level, as far as 64 bits go.
+// Returns the share of a flow at a level, as far as 64 bits go.
 fn share_at(row: FlowRow, level: u64) -> u64
     ensures { result ≡ min (2 ^ 64 - 1) (bounded row.bound (row.weight * level)) }
 {
@@ -67,7 +67,7 @@ fn put_waiting<L: Ledger>(uses: &Chains, row: FlowRow, waiting: &mut [u64], step
     }
 }
 
-// Takes the share of a flow that is fixed at a level off what is left of each of its resources.
+// Subtracts the share of a flow that is fixed at a level from what remains of each of its resources.
 fn take_off<L: Ledger>(
     uses: &Chains,
     row: FlowRow,
@@ -91,7 +91,7 @@ fn take_off<L: Ledger>(
     }
 }
 
-// The least of a flow's limits: the level of its bound, and the levels of its resources.
+// Returns the least of a flow's limits: the level of its bound, and the levels of its resources.
 fn least_limit<L: Ledger>(
     uses: &Chains,
     row: FlowRow,
@@ -116,14 +116,14 @@ fn least_limit<L: Ledger>(
     least
 }
 
-// The level of a resource: what is left for each unit of weight that waits. Where none waits it plays no part.
+// Returns the level of a resource: what remains for each unit of weight that waits. If none waits it plays no part.
 fn level_of(left: u64, waiting: u64) -> u64
     ensures { result ≡ left / waiting }
 {
     if waiting == 0 { 0 } else { left / waiting }
 }
 
-// The smaller of the two, or the one where there is one.
+// Returns the smaller of the two, or the one if there is one.
 fn smaller(least: Option<u64>, level: u64) -> Option<u64>
     ensures { result ≡ Some (least_with least level) }
 {
@@ -142,7 +142,7 @@ fn clear(waiting: &mut [u64])
     }
 }
 
-// Counts the flow under one number, where there is one.
+// Counts the flow under one number, if there is one.
 fn count_row<L: Ledger>(
     flows: &Rows,
     uses: &Chains,
@@ -169,7 +169,7 @@ fn count_row<L: Ledger>(
     }
 }
 
-// The first pass: what is left of each resource, and the weights that wait for it.
+// Runs the first pass over the flows: counts what remains of each resource, and the weights that wait for it.
 fn count_all<L: Ledger>(
     flows: &Rows,
     uses: &Chains,
@@ -192,7 +192,7 @@ fn count_all<L: Ledger>(
     }
 }
 
-// The least of what was found before and of the limits of the flow under one number, where it isn't fixed.
+// Returns the least of what was found before and of the limits of the flow under one number, if it isn't fixed.
 fn lowest_with<L: Ledger>(
     flows: &Rows,
     uses: &Chains,
@@ -220,7 +220,7 @@ fn lowest_with<L: Ledger>(
     }
 }
 
-// The second pass: the lowest limit of the flows that aren't fixed, or None where all are.
+// Runs the second pass over the flows: returns the lowest limit of those that aren't fixed, or None if all are.
 fn lowest<L: Ledger>(
     flows: &Rows,
     uses: &Chains,
@@ -257,7 +257,7 @@ fn unfix_all(flows: &mut Rows)
     }
 }
 
-// Whether the flow under one number isn't fixed and its least limit is this level.
+// Returns whether the flow under one number isn't fixed and its least limit is this level.
 fn is_at<L: Ledger>(
     flows: &Rows,
     uses: &Chains,
@@ -285,7 +285,7 @@ fn is_at<L: Ledger>(
     }
 }
 
-// Fixes the flow under one number, where it is unfixed and at this level.
+// Fixes the flow under one number, if it is unfixed and at this level.
 fn fix_row<L: Ledger>(
     flows: &mut Rows,
     uses: &Chains,
@@ -307,7 +307,7 @@ fn fix_row<L: Ledger>(
     }
 }
 
-// The third pass: fixes each unfixed flow that is at this level, all by the same counts.
+// Runs the third pass over the flows: fixes each unfixed flow that is at this level, all by the same counts.
 fn fix_all<L: Ledger>(
     flows: &mut Rows,
     uses: &Chains,

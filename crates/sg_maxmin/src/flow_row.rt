@@ -30,14 +30,14 @@ pub(crate) struct Cell {
     has_level: bool,
 }
 
-// A number where there is one.
+// Returns a number if there is one.
 fn number_if(has: bool, number: u64) -> Option<u64>
     ensures { result ≡ (if has then Some number else None) }
 {
     if has { Some(number) } else { None }
 }
 
-/// The flow in a place, where there is one.
+/// Returns the flow in a place, if there is one.
 pub(crate) fn row_in(cell: Cell) -> Option<FlowRow>
     ensures { result ≡ row_in_spec cell }
 {
@@ -59,7 +59,7 @@ pub(crate) fn row_in(cell: Cell) -> Option<FlowRow>
     })
 }
 
-/// A place with this flow.
+/// Returns a place with this flow.
 pub(crate) fn cell_with(row: FlowRow) -> Cell
     ensures { row_in_spec result ≡ Some row }
 {
@@ -77,7 +77,7 @@ pub(crate) fn cell_with(row: FlowRow) -> Cell
     }
 }
 
-/// A place without a flow.
+/// Returns a place without a flow.
 pub(crate) fn free_cell() -> Cell
     ensures { row_in_spec result ≡ None }
 {
@@ -95,7 +95,7 @@ pub(crate) fn free_cell() -> Cell
     }
 }
 
-// A bound: what a contract doesn't see inside an `Option` is that the number fits its type.
+// Returns a bound. A contract doesn't see inside an `Option` that the number fits its type.
 fn given(bound: u64) -> Option<u64>
     ensures is { result ≡ Some bound }
     ensures fits { bound < 2 ^ 64 }
@@ -103,7 +103,7 @@ fn given(bound: u64) -> Option<u64>
     Some(bound)
 }
 
-// The same of a bound that may be missing.
+// Does the same for a bound that may be missing.
 fn checked(bound: Option<u64>) -> Option<u64>
     ensures is { result ≡ bound }
     ensures fits { IfSome result (λ bound. bound < 2 ^ 64) }
@@ -115,7 +115,7 @@ fn checked(bound: Option<u64>) -> Option<u64>
 }
 
 impl FlowRow {
-    /// A flow that isn't fixed, and of which no use is known yet.
+    /// Makes a flow that isn't fixed, and of which no use is known yet.
     pub(crate) fn new(count: usize, weight: u32, bound: Option<u64>) -> FlowRow
         ensures count { result.count ≡ count }
         ensures weight { result.weight ≡ weight }

@@ -1,4 +1,4 @@
-//! Laws of filling, each the contract of a function that does nothing.
+//! Laws of max-min shares, each the contract of a function that does nothing.
 ghost use Rattle.sg_maxmin.specs.Relisted.{FillsInAnyOrder};
 ghost use Rattle.sg_maxmin.specs.Unweighted.{FillsEqually};
 ghost use Rattle.sg_maxmin.specs.Worked.{AreWorked};
@@ -11,7 +11,7 @@ pub fn is_fair()
     ensures { FillsFairly }
 {}
 
-/// Where each flow weighs 1, filling with weights is filling without.
+/// If each flow weighs 1, the weighted max-min shares are the unweighted ones.
 pub fn fills_equally()
     ensures { FillsEqually }
 {}
@@ -21,7 +21,7 @@ pub fn keeps_bound()
     ensures { KeepsBound }
 {}
 
-/// Filling ends: after as many steps as there are flows each flow is fixed.
+/// The max-min solve ends: after as many steps as there are flows each flow is fixed.
 pub fn fixes_all()
     ensures { FixesAll }
 {}
@@ -36,7 +36,7 @@ pub fn level_rises()
     ensures { LevelRises }
 {}
 
-/// The filling of two lists of flows that share no resource is the filling of each.
+/// The max-min shares of two lists of flows that share no resource are those of each list alone.
 pub fn fills_apart()
     ensures { FillsApart }
 {}
@@ -46,7 +46,7 @@ pub fn keeps_share()
     ensures { KeepsShare }
 {}
 
-/// Where all sums over two lists of flows are equal, so are the shares: the order of the flows doesn't matter.
+/// If all sums over two lists of flows are equal, so are the shares: the order of the flows doesn't matter.
 pub fn shares_same()
     ensures { SharesSame }
 {}
@@ -67,7 +67,7 @@ pub fn is_held()
     ensures { IsHeld }
 {}
 
-/// Fillings that were worked out by hand.
+/// Max-min shares that were worked out by hand.
 pub fn worked_examples()
     ensures { AreWorked }
 {}

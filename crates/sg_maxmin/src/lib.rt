@@ -1,13 +1,13 @@
-//! Shares of flows on resources, by progressive filling in whole numbers: the definition that `sg_lazy` is measured by.
-//! One enters by `System`: `add` and `remove` make and end flows, `solve` fills the whole system anew, `share` tells
-//! the outcome. The laws say what a filling is, as `is_fair`.
+//! Max-min fair shares of flows on resources, by progressive filling in whole numbers: what `sg_lazy` is measured by.
+//! The type is `System`: `add` and `remove` start and end flows, `solve` computes all shares anew, `share` returns one.
+//! The laws, such as `is_fair`, say what holds of the shares.
 //! It stands on `sg_base`, and on `sg_chains` for who uses what.
 #![tactic(auto)]
 
 mod filling;
 mod flow_row;
 mod laws;
-mod numbers;
+mod numbered_rows;
 mod system;
 mod uses;
 

@@ -8,7 +8,7 @@ ghost use Rattle.sg_maxmin.specs.Sharing.{IsSound, uses_at, flow_at, held, AreSh
 
 use crate::filling::{fill, put_shares};
 use crate::flow_row::FlowRow;
-use crate::numbers::Rows;
+use crate::numbered_rows::Rows;
 use sg_base::{Memory, Steps};
 use sg_chains::{Chains, Use};
 use std::alloc::Global;
@@ -29,9 +29,9 @@ pub type FlowId = usize;
 pub struct System {
     capacities: Vec<u64>,
     flows: Rows,
-    // read by counted looks alone, by `solve` too
+    // read by counted visits alone, by `solve` too
     chains: Chains,
-    // for each resource what is left of it and the weights that wait there, in one step of `solve`
+    // for each resource what remains of it and the weights that wait there, in one step of `solve`
     left: Vec<u64>,
     waiting: Vec<u64>,
 }
@@ -75,7 +75,7 @@ impl Model for System {
 }
 
 impl System {
-    /// A system with these capacities, one for each resource, and no flow.
+    /// Makes a system with these capacities, one for each resource, and no flow.
     pub fn new(alloc: Global, capacities: &[u64]) -> Result<System, Memory>
         ensures capacities { IfOk result (λ s. s.capacities ≡ capacities.now) }
         ensures empty { IfOk result (λ s. s.slots ≡ []) }
@@ -89,9 +89,8 @@ impl System {
         })
     }
 
-    /// Makes room for so many flows more, with so many uses in all: at most so many numbers of flows more. Nothing
-    /// but the room changes, also where there is no memory, and the room doesn't shrink. For 2^32 flows there is
-    /// none.
+    /// Makes room for this many more flows, with this many uses in all: at most this many more flow numbers. Only the
+    /// room changes, even if memory runs out, and the room doesn't shrink. There is no room for 2^32 flows.
     pub fn reserve(&mut self, flows: usize, uses: usize) -> Result<(), Memory>
         ensures flow_room { OnOk result (flows ≤ self.new.flow_room) }
         ensures use_room { OnOk result (uses ≤ self.new.use_room) }
@@ -109,7 +108,7 @@ impl System {
         Ok(())
     }
 
-    /// Adds a flow that uses these resources, each at its place among the capacities, and returns its number. Where
+    /// Adds a flow that uses these resources, each at its place among the capacities, and returns its number. If
     /// flows compete their shares are as their weights; the bound limits the share. The room that it takes was made
     /// by `reserve`.
     ///
@@ -162,8 +161,7 @@ impl System {
         self.capacities[resource] = capacity;
     }
 
-    /// Gives a flow another bound, also where it had none. Until the next `solve` each flow has the share that it
-    /// had.
+    /// Gives a flow another bound, even if it had none. Until the next `solve` each flow keeps its share.
     pub fn set_bound(&mut self, flow: FlowId, bound: u64)
         requires { IsSome (flow_at self.old.slots flow) }
         ensures { IfSome (flow_at self.old.slots flow) (λ held.
@@ -177,8 +175,8 @@ impl System {
         }
     }
 
-    /// Gives each flow its share by progressive filling over the whole system; the shares are max-min fair.
-    /// `steps` counts the looks at uses: each use is looked at once at least.
+    /// Computes the share of each flow over the whole system; the shares are max-min fair. `steps` counts the visits to
+    /// uses: each use is visited at least once.
     pub fn solve<L: Ledger>(&mut self, steps: &mut Steps<L>)
         ensures shares { AreShares self.new }
         ensures fair { IsFair self.new.capacities (held self.new.slots)
@@ -197,7 +195,7 @@ impl System {
         put_shares(&mut self.flows);
     }
 
-    /// The flow's share, as the last `solve` gave it; 0 for a flow that was added since.
+    /// Returns the flow's share, as the last `solve` gave it; 0 for a flow that was added since.
     pub fn share(&self, flow: FlowId) -> u64
         requires { IsSome (flow_at self.now.slots flow) }
         ensures { result ≡ slice_index self.now.shares flow }
@@ -208,7 +206,8 @@ impl System {
         }
     }
 
-    /// The first use of a flow; None exactly where there is no flow or it uses no resource. Those behind it are its own.
+    /// Returns the first use of a flow; None if and only if there is no flow or it uses no resource. The next are its
+    /// own.
     pub fn first_of(&self, flow: FlowId) -> Option<usize>
         ensures leads { Leads next_of_flow resource_of self.now.uses result
             (uses_at self.now.slots flow) }
@@ -222,7 +221,8 @@ impl System {
         }
     }
 
-    /// The first use on a resource; None exactly where no flow uses it. Those behind it are uses of the same resource.
+    /// Returns the first use on a resource; None if and only if no flow uses it. The next are uses of the same
+    /// resource.
     pub fn first_on(&self, resource: usize) -> Option<usize>
         requires { resource < length self.now.capacities }
         ensures leads { Leads next_on user_of self.now.uses result
@@ -234,7 +234,7 @@ impl System {
         self.chains.first_on(resource)
     }
 
-    /// The use under a number. It is one step.
+    /// Returns the use under a number. It is one step.
     pub fn look<L: Ledger>(&self, i: usize, steps: &mut Steps<L>) -> Use
         requires { IsSome (slice_index_or self.now.uses i None) }
         ensures there { slice_index_or self.now.uses i None ≡ Some result }
@@ -250,7 +250,7 @@ impl System {
         &self.capacities
     }
 
-    /// The capacity of a resource.
+    /// Returns the capacity of a resource.
     pub fn capacity(&self, resource: usize) -> u64
         requires { resource < length self.now.capacities }
         ensures { result ≡ slice_index self.now.capacities resource }
@@ -258,7 +258,7 @@ impl System {
         self.capacities[resource]
     }
 
-    /// A flow's weight.
+    /// Returns a flow's weight.
     pub fn weight(&self, flow: FlowId) -> u32
         requires { IsSome (flow_at self.now.slots flow) }
         ensures { IfSome (flow_at self.now.slots flow) (λ held. result ≡ held.weight) }
@@ -269,7 +269,7 @@ impl System {
         }
     }
 
-    /// A flow's bound, as `add` or a later `set_bound` gave it; None exactly where neither did.
+    /// Returns a flow's bound, as `add` or a later `set_bound` gave it; None if and only if neither did.
     pub fn bound(&self, flow: FlowId) -> Option<u64>
         requires { IsSome (flow_at self.now.slots flow) }
         ensures { IfSome (flow_at self.now.slots flow) (λ held. result ≡ held.bound) }
@@ -280,21 +280,21 @@ impl System {
         }
     }
 
-    /// For how many flows more there is room.
+    /// Returns for how many more flows there is room.
     pub fn spare(&self) -> usize
         ensures { result ≡ self.now.flow_room }
     {
         self.flows.spare()
     }
 
-    /// How many numbers of flows there are; each flow's number is below.
+    /// Returns how many numbers of flows there are; each flow's number is below.
     pub fn numbers(&self) -> usize
         ensures { result ≡ length self.now.slots }
     {
         self.flows.numbers()
     }
 
-    /// What holds of every system: each flow is one, the chains agree, and the numbers are few.
+    /// States what holds of every system: each flow is one, the chains agree, and the numbers are few.
     pub fn is_sound(&self)
         ensures { IsSound self.now }
     {

@@ -1,4 +1,4 @@
-//! Whoever follows a flow's chain of uses reads it by looks alone, which count.
+//! A flow's chain of uses is read by `look` alone, which counts.
 ghost use Rattle.std.specs.Prelude.{◌≡◌, ◌<◌, ◌+◌};
 ghost use Rattle.sg_maxmin.specs.kept.Uses.{GoesOn, IsOneChain};
 
@@ -6,7 +6,7 @@ use sg_base::Steps;
 use sg_chains::{Chains, Use};
 use std::sync::ledger::Ledger;
 
-/// The first use of a chain of `count` uses.
+/// Returns the first use of a chain of `count` uses.
 pub(crate) fn look<L: Ledger>(
     chains: &Chains,
     at: Option<usize>,

@@ -5,7 +5,7 @@ use Rattle.std.proofs.lemmas.List.{reverse-reverse}
 use Rattle.std.proofs.lemmas.List.Elements.{filter_map-append}
 use Rattle.sg_collectives.specs.declared.step.Step.TheVariants.{Recv, Send, Compute}
 use Rattle.sg_collectives.specs.Expansion.{from_children, reduce, to_parent}
-use Rattle.sg_collectives.specs.Tree.{children, parent}
+use Rattle.sg_collectives.specs.Tree.{children, parent_rank}
 use Rattle.sg_member_laws.specs.Laws.{ReduceTakesEachOnce}
 use Rattle.sg_member_laws.specs.Messages.{FoldsIn, receiver_in, receivers, sender_in, senders}
 use Rattle.sg_member_laws.proofs.Messages.{empty_behind, first_told, map-cond, neither_told, one_silent, one_told}
@@ -16,27 +16,27 @@ unfolding reduce from_children
 reduce_senders bytes flops rank members =
     filter_map-append sender_in (from_children flops rank members) (to_parent bytes rank)
     ∙ ap₂ (λ xs ys. xs ++ ys) (first_told sender_in (λ from. Recv from) (λ _. Compute flops) (λ n. refl) (λ n. refl) (children rank members))
-    (one_silent sender_in (ltb 0 rank) (Send (parent rank) bytes) refl)
+    (one_silent sender_in (ltb 0 rank) (Send (parent_rank rank) bytes) refl)
     ∙ empty_behind (children rank members)
 
-reduce_receivers : (bytes flops rank members : ℕ) → receivers (reduce bytes flops rank members) ≡ cond (ltb 0 rank) (parent rank ∷ []) []
+reduce_receivers : (bytes flops rank members : ℕ) → receivers (reduce bytes flops rank members) ≡ cond (ltb 0 rank) (parent_rank rank ∷ []) []
 unfolding reduce from_children
 reduce_receivers bytes flops rank members =
     filter_map-append receiver_in (from_children flops rank members) (to_parent bytes rank)
     ∙ ap₂ (λ xs ys. xs ++ ys) (neither_told receiver_in (λ from. Recv from) (λ _. Compute flops) (λ n. refl) (λ n. refl) (children rank members))
-    (one_told receiver_in (ltb 0 rank) (λ to. Send to bytes) (parent rank) refl)
+    (one_told receiver_in (ltb 0 rank) (λ to. Send to bytes) (parent_rank rank) refl)
 
 folds_in : (bytes flops rank members : ℕ) → FoldsIn bytes flops (reduce bytes flops rank members)
 unfolding reduce from_children
 folds_in bytes flops rank members =
     ap₂ (λ xs ys. xs ++ ys)
     (ap (flat_map (λ from. Recv from ∷ Compute flops ∷ [])) (sym (reduce_senders bytes flops rank members)))
-    (map-cond (λ to. Send to bytes) (ltb 0 rank) (parent rank) ∙ ap (map (λ to. Send to bytes)) (sym (reduce_receivers bytes flops rank members)))
+    (map-cond (λ to. Send to bytes) (ltb 0 rank) (parent_rank rank) ∙ ap (map (λ to. Send to bytes)) (sym (reduce_receivers bytes flops rank members)))
 
 pub reduce_takes_each_once : ReduceTakesEachOnce
 reduce_takes_each_once bytes flops members = record {
   root = reduce_receivers bytes flops 0 members ∙ none_above 0 refl;
-  once = λ rank some within. (parent rank, reduce_receivers bytes flops rank members ∙ one_above rank some, parent_below rank some);
+  once = λ rank some within. (parent_rank rank, reduce_receivers bytes flops rank members ∙ one_above rank some, parent_below rank some);
   folds_in = λ rank within. folds_in bytes flops rank members;
   backwards = λ rank within.
       reduce_senders bytes flops rank members

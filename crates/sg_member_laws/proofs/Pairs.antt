@@ -14,7 +14,7 @@ use Rattle.sg_member_laws.specs.Laws.{AlltoallJoinsEachPair}
 use Rattle.sg_member_laws.specs.Messages.{Exchanges, receiver_in, receivers, sender_in, senders}
 use Rattle.sg_member_laws.proofs.Messages.{all_told, empty_behind, none_told, waits_tell_none}
 
--- the members behind a rank, and those before it
+-- the members after a rank, and those before it
 ahead : ℕ → ℕ → ℕ → ℕ
 ahead rank members i = (rank + i) % members
 

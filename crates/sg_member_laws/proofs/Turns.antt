@@ -10,7 +10,7 @@ use Rattle.std.proofs.lemmas.Option.{slice_get-get_or}
 use Rattle.sg_collectives.specs.declared.collective.Collective.TheVariants.{Bcast}
 use Rattle.sg_collectives.specs.declared.step.Step.TheVariants.{Recv, Send}
 use Rattle.sg_collectives.specs.Expansion.{bcast, from_parent, to_children}
-use Rattle.sg_collectives.specs.Tree.{children, doubling_from, parent}
+use Rattle.sg_collectives.specs.Tree.{children, doubling_from, parent_rank}
 use Rattle.sg_collectives.proofs.Powers.{IsOddTimes, below_power, even_below_odd, exponent_less, lowest_within, odd_part, power_within}
 use Rattle.sg_collectives.proofs.TreeLemmas.{IsCounted, children_counted, counted_more, counted_none}
 use Rattle.sg_member_laws.specs.Laws.{BcastReachesEachOnce, receivers_from}
@@ -18,35 +18,35 @@ use Rattle.sg_member_laws.specs.Messages.{HandsOn, HasBytes, begins, receiver_in
 use Rattle.sg_member_laws.proofs.Messages.{all_told, empty_behind, map-cond, none_told, one_silent, one_told}
 
 -- ---- who sends to whom
-pub bcast_senders : (bytes rank members : ℕ) → senders (bcast bytes rank members) ≡ cond (ltb 0 rank) (parent rank ∷ []) []
+pub bcast_senders : (bytes rank members : ℕ) → senders (bcast bytes rank members) ≡ cond (ltb 0 rank) (parent_rank rank ∷ []) []
 unfolding bcast to_children
 bcast_senders bytes rank members =
     filter_map-append sender_in (from_parent rank) (to_children bytes rank members)
-    ∙ ap₂ (λ xs ys. xs ++ ys) (one_told sender_in (ltb 0 rank) (λ from. Recv from) (parent rank) refl)
+    ∙ ap₂ (λ xs ys. xs ++ ys) (one_told sender_in (ltb 0 rank) (λ from. Recv from) (parent_rank rank) refl)
     (none_told sender_in (λ to. Send to bytes) (λ n. refl) (reverse (children rank members)))
-    ∙ empty_behind (cond (ltb 0 rank) (parent rank ∷ []) [])
+    ∙ empty_behind (cond (ltb 0 rank) (parent_rank rank ∷ []) [])
 
 pub bcast_receivers : (bytes rank members : ℕ) → receivers (bcast bytes rank members) ≡ reverse (children rank members)
 unfolding bcast to_children
 bcast_receivers bytes rank members =
     filter_map-append receiver_in (from_parent rank) (to_children bytes rank members)
-    ∙ ap₂ (λ xs ys. xs ++ ys) (one_silent receiver_in (ltb 0 rank) (Recv (parent rank)) refl)
+    ∙ ap₂ (λ xs ys. xs ++ ys) (one_silent receiver_in (ltb 0 rank) (Recv (parent_rank rank)) refl)
     (all_told receiver_in (λ to. Send to bytes) (λ n. refl) (reverse (children rank members)))
 
 hands_on : (bytes rank members : ℕ) → HandsOn bytes (bcast bytes rank members)
 unfolding bcast to_children
 hands_on bytes rank members =
     ap₂ (λ xs ys. xs ++ ys)
-    (map-cond (λ from. Recv from) (ltb 0 rank) (parent rank) ∙ ap (map (λ from. Recv from)) (sym (bcast_senders bytes rank members)))
+    (map-cond (λ from. Recv from) (ltb 0 rank) (parent_rank rank) ∙ ap (map (λ from. Recv from)) (sym (bcast_senders bytes rank members)))
     (ap (map (λ to. Send to bytes)) (sym (bcast_receivers bytes rank members)))
 
-pub none_above : (rank : ℕ) → rank ≡ 0 → cond (ltb 0 rank) (parent rank ∷ []) [] ≡ []
-none_above rank e = ap (λ b. cond b (parent rank ∷ []) []) (le-ltb 0 rank (omega arith))
+pub none_above : (rank : ℕ) → rank ≡ 0 → cond (ltb 0 rank) (parent_rank rank ∷ []) [] ≡ []
+none_above rank e = ap (λ b. cond b (parent_rank rank ∷ []) []) (le-ltb 0 rank (omega arith))
 
-pub one_above : (rank : ℕ) → 0 < rank → cond (ltb 0 rank) (parent rank ∷ []) [] ≡ parent rank ∷ []
-one_above rank some = ap (λ b. cond b (parent rank ∷ []) []) (lt-ltb 0 rank some)
+pub one_above : (rank : ℕ) → 0 < rank → cond (ltb 0 rank) (parent_rank rank ∷ []) [] ≡ parent_rank rank ∷ []
+one_above rank some = ap (λ b. cond b (parent_rank rank ∷ []) []) (lt-ltb 0 rank some)
 
-pub parent_below : (rank : ℕ) → 0 < rank → parent rank < rank
+pub parent_below : (rank : ℕ) → 0 < rank → parent_rank rank < rank
 parent_below rank some = omega (arith, lowest_within rank some)
 
 -- ---- the count of a rank's children
@@ -76,7 +76,7 @@ children_of rank members = count_on members rank members 0 (omega arith) (counte
 by_doublings : (rank members : ℕ) (own : HasChildren rank members) → children rank members ≡ doubling_from rank own.count
 by_doublings rank members own = children_counted rank members own.count own.counted own.end
 
--- no more than its lowest set bit has zeros behind it; of rank 0 no more than the doublings
+-- no more than its lowest set bit has zeros after it; of rank 0 no more than the doublings
 halved : (rank x q r : ℕ) → 2 * x * q + r ≡ rank → r ≡ 0 → rank ≡ x * (2 * q)
 halved rank x q r e none = omega arith
 
@@ -186,7 +186,7 @@ in_turns bytes members rank turns within few = elim (cases_eq rank 0) [
 pub bcast_reaches_each_once : BcastReachesEachOnce
 bcast_reaches_each_once bytes members = record {
   root = bcast_senders bytes 0 members ∙ none_above 0 refl;
-  once = λ rank some within. (parent rank, bcast_senders bytes rank members ∙ one_above rank some, parent_below rank some);
+  once = λ rank some within. (parent_rank rank, bcast_senders bytes rank members ∙ one_above rank some, parent_below rank some);
   hands_on = λ rank within. hands_on bytes rank members;
   in_turns = λ rank turns within few. let in' : HasIn bytes members rank turns = in_turns bytes members rank turns within few in (in'.turn, in'.has, in'.few);
 }

@@ -16,7 +16,7 @@ abbrev pub IsOneBelow : ℕ → List ℕ → Type 0
 IsOneBelow rank peers = (peer : ℕ) × (peers ≡ peer ∷ []) × (peer < rank)
 
 -- Rank 0 receives nothing, and each other member receives once, from one of a lower rank. What a member sends it sends
--- behind that, the bytes that were asked for. In so many turns as it takes to double 1 until it is the number of members,
+-- after that, the bytes that were asked for. In so many turns as it takes to double 1 until it is the number of members,
 -- all have them.
 pub record BcastReaches (bytes members : ℕ) : Type 0 where
   pub root : senders_to (Bcast bytes) members 0 ≡ []
@@ -29,7 +29,7 @@ abbrev pub BcastReachesEachOnce : Type 0
 BcastReachesEachOnce = (bytes members : ℕ) → BcastReaches bytes members
 
 -- Rank 0 sends nothing, and each other member sends once, to one of a lower rank, what it and those from which it
--- received have; it computes once behind each message. It is the bcast backwards, so it takes as many turns.
+-- received have; it computes once after each message. It is the bcast backwards, so it takes as many turns.
 pub record ReduceTakes (bytes flops members : ℕ) : Type 0 where
   pub root : receivers_from (Reduce bytes flops) members 0 ≡ []
   pub once : (rank : ℕ) → 0 < rank → rank < members → IsOneBelow rank (receivers_from (Reduce bytes flops) members rank)

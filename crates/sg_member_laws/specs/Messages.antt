@@ -33,7 +33,7 @@ abbrev pub HandsOn : ℕ → List Step → Type 0
 HandsOn bytes steps =
     steps ≡ map (λ from. Recv from) (senders steps) ++ map (λ to. Send to bytes) (receivers steps)
 
--- it receives, and computes so many flops behind each message; then it sends so many bytes
+-- it receives, and computes so many flops after each message; then it sends so many bytes
 abbrev pub FoldsIn : ℕ → ℕ → List Step → Type 0
 FoldsIn bytes flops steps =
     steps ≡ flat_map (λ from. Recv from ∷ Compute flops ∷ []) (senders steps)

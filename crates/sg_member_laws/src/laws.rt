@@ -1,14 +1,14 @@
 //! Laws of what members do together.
 ghost use Rattle.sg_member_laws.specs.Laws.{AllreduceIsBoth, AlltoallJoinsEachPair, BcastReachesEachOnce, ReduceTakesEachOnce};
 
-/// In a bcast each member but that of rank 0 receives once, from one of a lower rank, and sends on behind that alone; all
+/// In a bcast each member except that of rank 0 receives once, from one of a lower rank, and sends on after that alone; all
 /// have the bytes after so many turns as it takes to double 1 until it is the number of members.
 pub fn bcast_reaches_each_once()
     ensures { BcastReachesEachOnce }
 {}
 
-/// In a reduce each member but that of rank 0 sends once, to one of a lower rank, behind all that it receives, and computes
-/// once behind each message; it is the bcast backwards.
+/// In a reduce each member except that of rank 0 sends once, to one of a lower rank, after all that it receives, and computes
+/// once after each message; it is the bcast backwards.
 pub fn reduce_takes_each_once()
     ensures { ReduceTakesEachOnce }
 {}

@@ -33,7 +33,7 @@ pub record Known : Type 0 where
 abbrev pub rows_by : List ℕ → List Data → Finds
 rows_by key rows = found_in (numbered (texts_at key) 0 rows)
 
--- the names of a text, where these are the zones, the hosts and the points that it may name
+-- the names of a text, if these are the zones, the hosts and the points that it may name
 unfoldable pub known_by : ℕ → ℕ → Finds → Members → Known
 known_by zones hosts points tree = record {
   zones = zones;

@@ -12,7 +12,7 @@ use sg_tree::{add_name, text_at, text_or_empty};
 use std::alloc::Global;
 use toml::Value;
 
-/// Whether a link is SPLITDUPLEX: one for each direction.
+/// Returns whether a link is SPLITDUPLEX: one for each direction.
 pub fn is_split(row: &Value) -> bool
     ensures { result ≡ is_split (view row.now) }
 {
@@ -121,7 +121,7 @@ fn add_links(alloc: Global, space: &mut IndexMap<String, u32>, rows: &[Value]) -
     Ok(())
 }
 
-/// The names that link rows take, under the numbers of the rows.
+/// Returns the names that link rows take, under the numbers of the rows.
 pub fn taken_links(alloc: Global, rows: &[Value]) -> Result<IndexMap<String, u32>, Memory>
     ensures { IfOk result
         (λ made. SameNames (get_by_text made)
@@ -132,7 +132,7 @@ pub fn taken_links(alloc: Global, rows: &[Value]) -> Result<IndexMap<String, u32
     Ok(made)
 }
 
-/// The names by which lists name links, under the numbers of the links.
+/// Returns the names by which lists name links, under the numbers of the links.
 pub fn declared_links(alloc: Global, rows: &[Value]) -> Result<IndexMap<String, u32>, Memory>
     ensures { IfOk result
         (λ made. SameNames (get_by_text made)

@@ -145,7 +145,7 @@ fn names_of(
     }
 }
 
-/// The names at a key of the rows of a table.
+/// Returns the names at a key of the rows of a table.
 fn names_in(
     alloc: Global,
     tree: &Table,
@@ -159,14 +159,14 @@ fn names_in(
     names_at(alloc, key, rows_at(tree, table))
 }
 
-/// How many rows a table has.
+/// Returns how many rows a table has.
 fn count_of(tree: &Table, table: &str) -> Result<u32, Memory>
     ensures { IfOk result (λ count. count ≡ length (rows_at table.now (table_view tree.now))) }
 {
     small_number(rows_at(tree, table).len())
 }
 
-/// The numbers of zones, hosts and routers, from their rows.
+/// Returns the numbers of zones, hosts and routers, from their rows.
 fn points_of(
     alloc: Global,
     zones: &[Value],
@@ -183,7 +183,7 @@ fn points_of(
     Ok(made)
 }
 
-/// The numbers of zones, hosts and routers.
+/// Returns the numbers of zones, hosts and routers.
 fn numbers_in(alloc: Global, tree: &Table) -> Result<IndexMap<String, u32>, Memory>
     ensures { IfOk result
         (λ made. SameNames (get_by_text made)
@@ -194,7 +194,7 @@ fn numbers_in(alloc: Global, tree: &Table) -> Result<IndexMap<String, u32>, Memo
     points_of(alloc, zones, hosts, rows_at(tree, "router"))
 }
 
-/// The names of zones, hosts and routers, with the counts of zones and hosts.
+/// Returns the names of zones, hosts and routers, with the counts of zones and hosts.
 fn counted_points(alloc: Global, tree: &Table) -> Result<Points, Memory>
     ensures { IfOk result (ArePoints (table_view tree.now)) }
 {
@@ -208,7 +208,7 @@ fn counted_points(alloc: Global, tree: &Table) -> Result<Points, Memory>
     })
 }
 
-/// The names that link rows take, and those by which lists name links.
+/// Returns the names that link rows take, and those by which lists name links.
 fn links_in(alloc: Global, tree: &Table) -> Result<Links, Memory>
     ensures { IfOk result (AreLinks (table_view tree.now)) }
 {
@@ -218,7 +218,7 @@ fn links_in(alloc: Global, tree: &Table) -> Result<Links, Memory>
     Ok(Links { taken, declared })
 }
 
-/// The pairs that the rows of a table give.
+/// Returns the pairs that the rows of a table give.
 fn pairs_at(
     alloc: Global,
     points: &IndexMap<String, u32>,
@@ -232,7 +232,7 @@ fn pairs_at(
     pairs_in(alloc, points, rows_at(tree, table))
 }
 
-/// The pairs that route rows and zone route rows give.
+/// Returns the pairs that route rows and zone route rows give.
 fn route_pairs(
     alloc: Global,
     points: &IndexMap<String, u32>,
@@ -252,7 +252,7 @@ fn route_pairs(
     Ok((pairs, zone_pairs))
 }
 
-/// What routes and spokes give.
+/// Returns what routes and spokes give.
 fn routes_in(alloc: Global, points: &IndexMap<String, u32>, tree: &Table) -> Result<Routes, Memory>
     ensures { IfOk result (AreRoutes (table_view tree.now) (λ q. get_by_text points.now q)) }
 {
@@ -265,14 +265,14 @@ fn routes_in(alloc: Global, points: &IndexMap<String, u32>, tree: &Table) -> Res
     })
 }
 
-/// The hosts and links that the rows of a table are of.
+/// Returns the hosts and links that the rows of a table are of.
 fn subjects_at(alloc: Global, tree: &Table, table: &str) -> Result<Subjects, Memory>
     ensures { IfOk result (AreSubjects (rows_at table.now (table_view tree.now))) }
 {
     Subjects::of_rows(alloc, rows_at(tree, table))
 }
 
-/// What profiles and rows of states are of.
+/// Returns what profiles and rows of states are of.
 fn profiled_in(alloc: Global, tree: &Table) -> Result<Profiled, Memory>
     ensures { IfOk result (AreProfiled (table_view tree.now)) }
 {
@@ -281,7 +281,7 @@ fn profiled_in(alloc: Global, tree: &Table) -> Result<Profiled, Memory>
     Ok(Profiled { speeds, states })
 }
 
-/// The names of actors.
+/// Returns the names of actors.
 fn actors_in(alloc: Global, tree: &Table) -> Result<Actors, Memory>
     ensures { IfOk result (AreActors (table_view tree.now)) }
 {
@@ -290,7 +290,7 @@ fn actors_in(alloc: Global, tree: &Table) -> Result<Actors, Memory>
     Ok(Actors { actors, workers })
 }
 
-/// The names of mutexes and semaphores.
+/// Returns the names of mutexes and semaphores.
 fn locks_in(alloc: Global, tree: &Table) -> Result<Locks, Memory>
     ensures { IfOk result (AreLocks (table_view tree.now)) }
 {
@@ -302,7 +302,7 @@ fn locks_in(alloc: Global, tree: &Table) -> Result<Locks, Memory>
     })
 }
 
-/// The names of links, and what routes between these points give.
+/// Returns the names of links, and what routes between these points give.
 fn ways_in(
     alloc: Global,
     points: &IndexMap<String, u32>,
@@ -317,7 +317,7 @@ fn ways_in(
     Ok((links, routes))
 }
 
-/// The names of actors, and of what they hold.
+/// Returns the names of actors, and of what they hold.
 fn owners_in(alloc: Global, tree: &Table) -> Result<(Actors, Locks), Memory>
     ensures actors { IfOk result (λ made. AreActors (table_view tree.now) made.0) }
     ensures locks { IfOk result (λ made. AreLocks (table_view tree.now) made.1) }
@@ -327,7 +327,7 @@ fn owners_in(alloc: Global, tree: &Table) -> Result<(Actors, Locks), Memory>
     Ok((actors, locks))
 }
 
-/// The names of a text that may name these points.
+/// Returns the names of a text that may name these points.
 fn names_with(alloc: Global, tree: &Table, points: Points) -> Result<Names, Memory>
     ensures { IfOk result
         (λ names. names_view names
@@ -340,7 +340,7 @@ fn names_with(alloc: Global, tree: &Table, points: Points) -> Result<Names, Memo
     Ok(names_of(points, ways.0, ways.1, profiled, owners.0, owners.1))
 }
 
-/// The names of a platform text.
+/// Returns the names of a platform text.
 pub fn platform_names(alloc: Global, tree: &Table) -> Result<Names, Memory>
     ensures { IfOk result (λ names. names_view names ≡ platform_known (table_view tree.now)) }
 {
@@ -348,7 +348,7 @@ pub fn platform_names(alloc: Global, tree: &Table) -> Result<Names, Memory>
     names_with(alloc, tree, points)
 }
 
-/// The names of a deployment text, on a platform that has so many hosts with these names.
+/// Returns the names of a deployment text, on a platform that has so many hosts with these names.
 pub fn deployment_names(
     alloc: Global,
     tree: &Table,

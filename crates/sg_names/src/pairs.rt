@@ -13,7 +13,7 @@ use sg_tree::{add_pair, text_at};
 use std::alloc::Global;
 use toml::Value;
 
-/// The number of the point, or zone, that a key names.
+/// Returns the number of the point, or zone, that a key names.
 pub fn point_at(points: &IndexMap<String, u32>, row: &Value, key: &str) -> Option<u32>
     ensures { result
         ≡ option_and_then (λ q. get_by_text points.now q) (text_at key.now (view row.now)) }
@@ -24,7 +24,7 @@ pub fn point_at(points: &IndexMap<String, u32>, row: &Value, key: &str) -> Optio
     }
 }
 
-/// The truth value at a key, which is true where the row doesn't have the key.
+/// Returns the truth value at a key, which is true if the row doesn't have the key.
 pub fn truth_at(row: &Value, key: &str) -> bool
     ensures { result ≡ truth_at key.now (view row.now) }
 {
@@ -37,7 +37,7 @@ pub fn truth_at(row: &Value, key: &str) -> bool
     }
 }
 
-/// Whether a route serves the way back too.
+/// Returns whether a route serves the reverse direction too.
 pub fn is_symmetrical(row: &Value) -> bool
     ensures { result ≡ truth_at (codes "symmetrical") (view row.now) }
 {
@@ -86,7 +86,7 @@ fn add_routes(
     Ok(())
 }
 
-/// The pairs that route rows give, under the numbers of the rows.
+/// Returns the pairs that route rows give, under the numbers of the rows.
 pub fn pairs_in(
     alloc: Global,
     points: &IndexMap<String, u32>,

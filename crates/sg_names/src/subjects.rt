@@ -17,7 +17,7 @@ pub struct Subjects {
 }
 
 impl Subjects {
-    /// Those of the rows of a table.
+    /// Returns those of the rows of a table.
     pub fn of_rows(alloc: Global, rows: &[Value]) -> Result<Subjects, Memory>
         ensures { IfOk result (AreSubjects (map view rows.now)) }
     {

@@ -12,7 +12,7 @@ use sg_tree::{add_name, text_at, text_or_empty};
 use std::alloc::Global;
 use toml::Value;
 
-/// Whether the row is that of an actor of this function.
+/// Returns whether the row is that of an actor of this function.
 pub fn has_function(row: &Value, word: &str) -> bool
     ensures { result ≡ has_function word.now (view row.now) }
 {
@@ -56,7 +56,7 @@ fn add_workers(
     Ok(())
 }
 
-/// The names of workers, under their identifiers.
+/// Returns the names of workers, under their identifiers.
 pub fn workers_in(alloc: Global, rows: &[Value]) -> Result<IndexMap<String, u32>, Memory>
     ensures { IfOk result
         (λ made. SameNames (get_by_text made)

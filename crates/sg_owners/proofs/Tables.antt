@@ -1,4 +1,4 @@
--- Whose the activities are, by serial, as one is begun and as one is done.
+-- The waiters of the activities, by activity id, as one begins and as one is done.
 use Rattle.std.proofs.Common.{◌≡◌, ◌≢◌, ℕ, zero, suc, ◌+◌, ◌-◌, ◌<◌, ◌≤◌, Option, [], ◌∷◌, ◌++◌, length, set, get_or, refl, ap, ap₂, ◌∙◌, arith}
 use Rattle.sg_owners.specs.declared.owners.Whose.{Whose}
 use Rattle.sg_owners.specs.Owners.{whose_of, table}

@@ -1,6 +1,6 @@
-//! Whose each activity is: an actor's, that of a side that waits for another or of two sides, or nobody's once it is over.
-//! One enters by `Owners`: `push` and `put` say whose an activity is, `of` tells it, `fail` and `take` say that it is over.
-//! It stands on `sg_serials` for who is under a serial, on `sg_mailbox` for sides, and on `sg_base`.
+//! The waiters of each activity: an actor, the endpoint of a communication or both, or nobody once it completed or failed.
+//! The type is `Owners`: `push` and `put` set an activity's waiters, `of` returns them, `fail` and `take` end the activity.
+//! It stands on `sg_serials` for values by activity id, on `sg_mailbox` for endpoints, and on `sg_base`.
 #![tactic(auto)]
 
 mod owners;

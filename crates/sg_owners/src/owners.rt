@@ -1,4 +1,4 @@
-//! Whose each activity is.
+//! The waiters of each activity.
 ghost use Rattle.std.specs.Prelude.{◌≡◌, ◌≢◌, ◌+◌, ◌-◌, ◌<◌, ◌≤◌, ◌^◌, ◌++◌, ◌∷◌, [], length, slice_index_or, slice_set, OnOk};
 ghost use Rattle.sg_owners.specs.declared.owners.How.TheVariants as how;
 ghost use Rattle.sg_owners.specs.declared.owners.Whose.TheVariants.{Over};
@@ -10,30 +10,30 @@ use sg_serials::BySerial;
 use std::alloc::Global;
 use std::marker::Model;
 
-/// How an activity is over.
+/// How an activity ended.
 #[derive(Clone, Copy)]
 pub enum How {
     /// All of it is done.
     Done,
-    /// It failed: something that it used is off, or went off.
+    /// It failed: something that it used is off, or was turned off.
     Failed,
 }
 
-/// Whose an activity is.
+/// The waiters of an activity.
 #[derive(Clone, Copy)]
 pub enum Whose {
-    /// Nobody's: it is over.
+    /// It has no waiter: it completed or failed.
     Over(How),
     /// It is what this actor computes or sleeps.
     Alone(ActorId),
-    /// It is a communication of which one side is there, in this mailbox, and whether that one sends.
+    /// It is a communication with one endpoint, in this mailbox, and whether that one sends.
     Posted(BoxId, bool, Side),
     /// It is a communication of a sender and a receiver.
     Pair(Side, Side),
 }
 
-/// Whose each activity is. It keeps nothing of one that is done, and of one that failed that it did. Contracts see a list
-/// by serial.
+/// The waiters of each activity. It keeps nothing of one that is done, and of one that failed only that it did. Contracts
+/// see a list by activity id.
 #[derive(Drop)]
 pub struct Owners {
     owners: BySerial<Whose>,
@@ -66,7 +66,7 @@ fn whose_of(owner: Option<Whose>) -> Whose
 }
 
 impl Owners {
-    /// Nobody's and no room.
+    /// Makes a state without activities and room.
     pub fn new(alloc: Global) -> Owners
         ensures { result ≡ record { whose = []; room = 0 } }
     {
@@ -77,7 +77,7 @@ impl Owners {
         }
     }
 
-    /// Room for so many more.
+    /// Makes room for this many more activities.
     pub fn reserve(&mut self, n: usize) -> Result<(), Memory>
         ensures room { OnOk result (n ≤ self.new.room) }
         ensures grows { self.old.room ≤ self.new.room }
@@ -89,7 +89,7 @@ impl Owners {
         Ok(())
     }
 
-    /// Whose the activity of the next serial is.
+    /// Sets the waiters of the activity of the next id.
     pub fn push(&mut self, whose: Whose)
         requires few { length self.old.whose < 10 ^ 9 }
         requires room { 0 < self.old.room }
@@ -103,7 +103,7 @@ impl Owners {
         self.room -= 1;
     }
 
-    /// Whose the activity of this serial is.
+    /// Returns the waiters of the activity of this id.
     pub fn of(&self, serial: Serial) -> Whose
         requires from { 0 < serial.0 }
         requires to { serial.0 ≤ length self.now.whose }
@@ -112,7 +112,7 @@ impl Owners {
         whose_of(self.owners.get(serial.0))
     }
 
-    /// The activity of this serial is this one's now.
+    /// Gives the activity of this id these waiters.
     pub fn put(&mut self, serial: Serial, whose: Whose)
         requires from { 0 < serial.0 }
         requires to { serial.0 ≤ length self.old.whose }
@@ -126,7 +126,7 @@ impl Owners {
         self.room -= 1;
     }
 
-    /// The activity of this serial, which isn't over, failed; the answer is whose it was.
+    /// Marks the activity of this id, which hasn't ended, as failed, and returns its waiters.
     pub fn fail(&mut self, serial: Serial) -> Whose
         requires from { 0 < serial.0 }
         requires to { serial.0 ≤ length self.old.whose }
@@ -143,7 +143,7 @@ impl Owners {
         }
     }
 
-    /// The activity of this serial is done; the answer is whose it was.
+    /// Marks the activity of this id as done, and returns its waiters.
     pub fn take(&mut self, serial: Serial) -> Whose
         requires from { 0 < serial.0 }
         requires to { serial.0 ≤ length self.old.whose }

@@ -37,7 +37,7 @@ fn the_first_host_of_seed_0(rt: HostRuntime) -> Result<(), Fail> {
     Ok(())
 }
 
-// Whether a way leads over these two links.
+// Returns whether a way leads over these two links.
 fn leads(links: &[LinkId], first: u32, second: u32) -> bool {
     match links {
         [one, other] => one.0 == first && other.0 == second,
@@ -45,7 +45,7 @@ fn leads(links: &[LinkId], first: u32, second: u32) -> bool {
     }
 }
 
-// Whether a spoke joins this host over this link to the backbone, and back.
+// Returns whether a spoke joins this host over this link to the backbone, and back.
 fn joins(spoke: &SpokeRow, host: u32, link: u32) -> bool {
     let up = leads(spoke.up.as_slice(), link, 0);
     let down = leads(spoke.down.as_slice(), 0, link);

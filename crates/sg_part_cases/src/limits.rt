@@ -9,15 +9,16 @@ use std::alloc::Global;
 use std::process::Abort;
 use std::test::Fail;
 
-/// Rows, and what is told of them: the words of a fault, with its table, row and key; nothing of rows that are good.
+/// Rows, and what is reported of them: the words of a fault, with its table, row and key; nothing of rows that are
+/// good.
 type Limit = (&'static str, &'static str, (u32, u32, u32));
 
 const GOOD: (u32, u32, u32) = (0, 0, 0);
 
 const ZONE: &str = "zone = [{id = 'z', routing = 'Full'}] | ";
 
-/// How many rows a table has. Rows of routes and spokes without their keys are told for the first of these, as long as
-/// there aren't too many.
+/// How many rows a table has. Of rows of routes and spokes without their keys the first of these is reported, as long
+/// as there aren't too many.
 const ROWS: [Limit; 12] = [
     (
         "host = [%0%16384%{id = 'h#', zone = 'z', speed = '1'}, %]",
@@ -254,7 +255,7 @@ const DEPLOYED: [Limit; 15] = [
 
 type Told = (&'static str, (u32, u32, u32));
 
-// What is told of the zones of a platform.
+// Returns what is reported of the zones of a platform.
 fn zones_told(alloc: Global, platform: &PlatformText) -> Result<Told, Fail> {
     let fault = match Zones::build(alloc, platform) {
         Ok(_) => return Ok(("", GOOD)),
@@ -266,7 +267,7 @@ fn zones_told(alloc: Global, platform: &PlatformText) -> Result<Told, Fail> {
     }
 }
 
-// What is told of a rule that is broken.
+// Returns what is reported of a rule that is broken.
 fn rule_told(rule: Option<Fault>) -> Result<Told, Fail> {
     match rule {
         Some(Fault { place, kind }) => Ok((kind.words(), (place.table, place.row, place.key))),
@@ -274,7 +275,7 @@ fn rule_told(rule: Option<Fault>) -> Result<Told, Fail> {
     }
 }
 
-// What is told of the platform of a case.
+// Returns what is reported of the platform of a case.
 fn platform_told(alloc: Global, case: &Case) -> Result<Told, Fail> {
     match read_platform(alloc, &case.platform) {
         Ok(platform) => zones_told(alloc, &platform),
@@ -282,7 +283,7 @@ fn platform_told(alloc: Global, case: &Case) -> Result<Told, Fail> {
     }
 }
 
-// What is told of the deployment of a case.
+// Returns what is reported of the deployment of a case.
 fn deployment_told(alloc: Global, case: &Case) -> Result<Told, Fail> {
     let platform = read_platform(alloc, &case.platform)?;
     match read_deployment(alloc, &case.deployment, &platform) {
@@ -291,7 +292,7 @@ fn deployment_told(alloc: Global, case: &Case) -> Result<Told, Fail> {
     }
 }
 
-// Tries rows behind this text of a platform.
+// Tries rows after this text of a platform.
 fn hold_rows(rt: &impl Abort, alloc: Global, before: &str, limits: &[Limit]) -> Result<(), Fail> {
     for (rows, words, place) in limits {
         let mut case = Case::new(alloc)?;
@@ -317,7 +318,7 @@ fn values_of_rows_are_in_range(rt: HostRuntime) -> Result<(), Fail> {
     hold_rows(&rt, rt.alloc(), ZONE, &VALUES)
 }
 
-// A chain of so many zones, root first.
+// Returns a chain of so many zones, root first.
 fn chain(alloc: Global, zones: u32) -> Result<Case, Fail> {
     let mut case = Case::new(alloc)?;
     case.take(alloc, "platform", "zone = [{id = 'z1', routing = 'Full'}, ")?;

@@ -40,7 +40,7 @@ const NAMES: [(&str, &str, bool); 6] = [
     ("-", "s", false),
 ];
 
-// Whether a script of its own name can be begun under another, and whether it is broken then.
+// Returns whether a script of its own name can be begun under another, and whether it is broken then.
 fn begun(alloc: Global, own: &str, name: &str) -> Result<(bool, bool), Fail> {
     let mut files = MemFiles::new(alloc, None, None, Some(b""), &[])?;
     files.rename(alloc, Part::Script, own)?;
@@ -64,7 +64,7 @@ fn a_part_without_a_name_is_begun_under_any(rt: HostRuntime) -> Result<(), Fail>
     Ok(())
 }
 
-// A platform of three bytes and a deployment of five, of at most so many bytes.
+// Returns a platform of three bytes and a deployment of five, of at most so many bytes.
 fn loaded(alloc: Global, part: Part, most: usize) -> Result<Loaded, Fail> {
     let mut files = SureFiles::new(alloc, b"one", b"three", b"")?;
     Ok(load(alloc, &mut files, part, "p", most.min(10)))

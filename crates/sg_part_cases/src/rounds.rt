@@ -1,4 +1,4 @@
-//! Rounds of boxed contexts: which of them take a turn, which meet in threads, and when a crew is blank.
+//! Scheduling rounds of boxed contexts: which of them take a turn, which meet in threads, and when a pool is blank.
 ghost use Rattle.std.specs.Prelude.{◌≡◌, ◌<◌, All, IsTrue};
 ghost use Rattle.sg_actor.specs.Seats.{CanTurn, seat_views, seat_view};
 
@@ -38,7 +38,7 @@ impl Actor for Counter {
     }
 }
 
-// A seat with a call in its outbox that no actor of these roles makes.
+// Makes a slot with a call in its outbox that no actor of these roles makes.
 fn seat(actor: Option<Box<dyn Actor + Send>>, ready: bool) -> Seat {
     Seat {
         actor,
@@ -63,7 +63,7 @@ fn counting(alloc: Global, turns: &Arc<AtomicU64>) -> Result<Counter, Fail> {
     Ok(counter)
 }
 
-// A context that waits in its turn until all have come that are ready.
+// Makes a context that waits in its turn until all have come that are ready.
 fn meeting(
     alloc: Global,
     all: u64,
@@ -77,7 +77,7 @@ fn meeting(
     Ok(meeter)
 }
 
-// Whether no seat that is ready is empty or has a blank actor.
+// Returns whether no slot that is ready is empty or has a blank actor.
 fn are_cast(seats: &[Seat]) -> bool
     ensures { IsTrue result → All CanTurn (seat_views (λ b. mind b) seats.now) }
 {
@@ -99,7 +99,7 @@ fn is_cast(seat: &Seat) -> bool
     }
 }
 
-// A round of seats that were filled in a loop: whether all are cast is looked at.
+// Makes a scheduling round of slots that were filled in a loop, after a check that all are bound.
 fn run_cast<R: Abort + Threads + Sync>(rt: &R, seats: &mut [Seat], threads: u32)
     requires { 0 < threads }
 {
@@ -107,7 +107,7 @@ fn run_cast<R: Abort + Threads + Sync>(rt: &R, seats: &mut [Seat], threads: u32)
     run_round(rt, seats, threads);
 }
 
-/// Who sits on a seat.
+/// Which actor a slot has.
 #[derive(Clone, Copy)]
 enum Kind {
     Plain,
@@ -115,7 +115,7 @@ enum Kind {
     Nobody,
 }
 
-/// The seats of a round in three threads: who sits there, and whether he is ready.
+/// The slots of a scheduling round in three threads: which actor each has, and whether it is ready.
 const SEATS: [(Kind, bool); 6] = [
     (Kind::Plain, true),
     (Kind::Counting, false),
@@ -147,7 +147,7 @@ fn only_ready_seats_take_a_turn(rt: HostRuntime) -> Result<(), Fail> {
     Ok(())
 }
 
-// How many are ready.
+// Returns how many are ready.
 fn count(ready: &[bool]) -> u64 {
     let mut count = 0u64;
     for is_ready in ready {
@@ -158,7 +158,7 @@ fn count(ready: &[bool]) -> u64 {
     count
 }
 
-// How many actors meet all that are ready, in a round on so many threads.
+// Returns how many actors meet all that are ready, in a scheduling round on so many threads.
 fn met<R: Abort + Threads + Sync>(
     rt: &R,
     alloc: Global,
@@ -186,7 +186,7 @@ fn turns_meet(rt: HostRuntime) -> Result<(), Fail> {
     let eight = [
         true, false, true, true, false, false, true, true, false, true, true, true,
     ];
-    // Which seats are ready, the threads, and how many actors meet all. In one chunk none does but the last.
+    // Which slots are ready, the threads, and how many actors meet all. In one chunk only the last one does.
     let cases: [(&[bool], u32, u64); 7] = [
         (&[true, true], 2, 2),
         (&[true, true], 1, 1),

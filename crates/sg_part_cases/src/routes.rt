@@ -12,7 +12,7 @@ use sg_zones::Zones;
 use std::alloc::Global;
 use std::test::Fail;
 
-// The routes of a platform.
+// Returns the routes of a platform.
 fn router(alloc: Global, platform: &PlatformText) -> Result<Router, Memory>
     ensures { IfOk result (λ router. router ≡ roads_of platform.now) }
 {
@@ -22,7 +22,7 @@ fn router(alloc: Global, platform: &PlatformText) -> Result<Router, Memory>
     }
 }
 
-// The route from the first host of a platform to the second: its latency, and its links.
+// Returns the route from the first host of a platform to the second: its latency, and its links.
 fn answered(
     alloc: Global,
     case: &Case,
@@ -33,7 +33,7 @@ fn answered(
     Ok(router.route(PointId(0), PointId(1), links))
 }
 
-// The latency of that route, and whether its links are those of these numbers, in declared order from 0.
+// Returns the latency of that route, and whether its links are those of these numbers, in declared order from 0.
 fn leads_over(alloc: Global, case: &Case, wanted: &[u32]) -> Result<(u128, bool), Fail> {
     let mut links: ArrayVec<LinkId, 64> = ArrayVec::new();
     match answered(alloc, case, &mut links)? {
@@ -47,7 +47,7 @@ fn leads_over(alloc: Global, case: &Case, wanted: &[u32]) -> Result<(u128, bool)
     }
 }
 
-// Why there is no such route, and how many links were left.
+// Returns why there is no such route, and how many links were left.
 fn refused(alloc: Global, case: &Case) -> Result<(RouteFault, usize), Fail> {
     let mut links: ArrayVec<LinkId, 64> = ArrayVec::new();
     match answered(alloc, case, &mut links)? {
@@ -56,7 +56,7 @@ fn refused(alloc: Global, case: &Case) -> Result<(RouteFault, usize), Fail> {
     }
 }
 
-// A platform of this name.
+// Returns a platform of this name.
 fn named(alloc: Global, platform: &str) -> Result<Case, Fail> {
     let mut case = Case::new(alloc)?;
     case.take(alloc, "over", platform)?;
@@ -93,7 +93,7 @@ fn between_hosts_that_nothing_joins(rt: HostRuntime) -> Result<(), Fail> {
     Ok(())
 }
 
-/// Two zones, and links of which those of a route from a host over its router to the other zone are to be told.
+/// Two zones, and links of which those of a route from a host over its router to the other zone are to be named.
 const CHAINED: &str =
     "zone = [{id = 'z', routing = 'Full'}, {id = 'za', parent = 'z', routing = 'Full'}, {id = 'zb', parent = 'z', routing = 'Full'}] | host = [{id = 'h1', zone = 'za', speed = '1Gf'}, {id = 'h2', zone = 'zb', speed = '1Gf'}] | router = [{id = 'r1', zone = 'za'}] | link = [%0%65%{id = 'k#', bandwidth = '1MBps', latency = '1ns'}, %] | ";
 
@@ -104,7 +104,7 @@ const LONGEST: &str =
 const TOO_LONG: &str =
     "route = [{src = 'h1', dst = 'r1', links = [%0%64%'k#', %]}] | zone_route = [{src = 'za', dst = 'zb', gw_src = 'r1', gw_dst = 'h2', links = [%64%65%'k#', %]}]";
 
-// The two zones with these routes.
+// Returns the two zones with these routes.
 fn chained(alloc: Global, routes: &str) -> Result<Case, Fail> {
     let mut case = Case::new(alloc)?;
     case.take(alloc, "platform", CHAINED)?;

@@ -1,4 +1,4 @@
-//! Asks of a script whose reads fail, and of one whose actions wait by thousands.
+//! Fetches from a script whose reads fail, and from one whose actions wait by thousands.
 ghost use Rattle.std.specs.Prelude.{◌≡◌, ◌≢◌, IfOk};
 ghost use Rattle.sg_edge.specs.declared.files.Stage.TheVariants.{Fresh};
 ghost use Rattle.sg_rows.specs.Deployment.{extent_of};
@@ -21,13 +21,13 @@ const ACTORS: &str =
     "actor = [{name = 'p0', host = 'h1', function = 'replay'}, {name = 'p1', host = 'h1', function = 'replay'}]
 ";
 
-// The replay actors p0 and p1.
+// Returns the replay actors p0 and p1.
 fn two_actors(alloc: Global) -> Result<Deployment, Fail> {
     let platform = read_platform(alloc, PLATFORM.as_bytes())?;
     Ok(read_deployment(alloc, ACTORS.as_bytes(), &platform)?)
 }
 
-// A script part of this text that was begun, of which the reads of these numbers fail.
+// Returns a script part of this text that was begun, of which the reads of these numbers fail.
 fn begun(alloc: Global, text: &[u8], failing: &[u64]) -> Result<MemFiles, Fail>
     ensures { IfOk result (λ files. files.script.stage ≢ Fresh) }
 {
@@ -38,7 +38,7 @@ fn begun(alloc: Global, text: &[u8], failing: &[u64]) -> Result<MemFiles, Fail>
     }
 }
 
-// A script of which nothing was read.
+// Returns a script of which nothing was read.
 fn unread(alloc: Global, deployment: &Deployment) -> Result<Script, Fail>
     ensures actors { IfOk result (λ s. actors_of s ≡ actors_in deployment.now) }
     ensures waiting { IfOk result (λ s. AreLimited (extent_of deployment.now) (kept_of s)) }
@@ -46,7 +46,7 @@ fn unread(alloc: Global, deployment: &Deployment) -> Result<Script, Fail>
     Ok(Script::new(alloc, deployment.actors().len() as u32)?)
 }
 
-// A letter for the answer to one Ask: what is asked for, or why nothing is.
+// Returns a letter for the answer to one fetch: what is asked for, or why nothing is.
 fn ask<F: Files>(
     script: &mut Script,
     actor: ActorId,
@@ -73,7 +73,7 @@ fn ask<F: Files>(
     }
 }
 
-// The answers to Asks of p0, p1 and p1, where the reads of these numbers fail.
+// Returns the answers to fetches of p0, p1 and p1, if the reads of these numbers fail.
 fn answers(alloc: Global, text: &[u8], failing: &[u64]) -> Result<[char; 3], Fail> {
     let deployment = two_actors(alloc)?;
     let mut files = begun(alloc, text, failing)?;
@@ -93,7 +93,7 @@ fn a_read_fails_inside_the_first_line(rt: HostRuntime) -> Result<(), Fail> {
     Ok(())
 }
 
-// The last action of p0 stands behind thousands of p1.
+// Makes a script in which the last action of p0 stands after thousands of p1.
 fn long_script(alloc: Global) -> Result<Vec<u8>, Fail> {
     let mut text = Vec::new(alloc);
     for _i in 0..5000 {

@@ -14,7 +14,7 @@ const ME: ActorId = ActorId(1);
 /// What an actor does, from whom and to whom, and how much of it.
 type Deed = (&'static str, u32, u32, u64);
 
-// What a call is, of those that an actor makes that churns.
+// Returns what a call is, of those that an actor makes that churns.
 fn deed(call: Call) -> Deed {
     match call {
         Call::Compute(flops, 1) => ("compute", 0, 0, flops),
@@ -26,7 +26,7 @@ fn deed(call: Call) -> Deed {
     }
 }
 
-// The turns of both contexts in a role: each answer, and the call that is wanted.
+// Checks the turns of both contexts in a role: each answer, and the expected call.
 fn takes_turns(
     rt: &impl Abort,
     alloc: Global,
@@ -47,7 +47,7 @@ fn takes_turns(
     Ok(())
 }
 
-// Whatever is answered, an actor that churns goes on.
+// Whatever the answer is, an actor that churns continues.
 const TWO_STEPS: [(Answer, Deed); 10] = [
     (Answer::Start, ("compute", 0, 0, 167_951_808)),
     (Answer::Done, ("isend", 1, 2, 396_425)),

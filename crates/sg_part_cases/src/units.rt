@@ -40,7 +40,7 @@ const AMOUNTS: [Row; 16] = [
     (Amount, "00000000000000000007", 7, ""),
     (Amount, "000000000000000000007", 0, TOO_LARGE),
     (Amount, "0.00000000000000000001e20", 0, TOO_LARGE),
-    // a unit that isn't known is told before the length
+    // an unknown unit is reported before the length
     (Amount, "1e0001f", 0, UNKNOWN_UNIT),
     (Amount, "1e6 ", 0, UNKNOWN_UNIT),
 ];

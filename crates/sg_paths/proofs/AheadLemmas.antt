@@ -1,4 +1,4 @@
--- Routes to settled points, as one goes back over a link, and as a point is settled.
+-- Routes to finalized points, as one moves back over a link, and as a point is finalized.
 use Rattle.std.proofs.Common.{◌≡◌, ◌≢◌, ◌+◌, ◌-◌, ◌*◌, ◌<◌, ◌≤◌, ◌⊎◌, ℕ, zero, suc, List, [], ◌∷◌, ◌++◌, Option, None, Some, length, drop, take, get_or, set, inl, inr, refl, sym, subst, ap, ap₂, ◌∙◌, arith, append_assoc}
 use Rattle.std.specs.Prelude.{slice_get}
 use Rattle.std.proofs.lemmas.List.{get_or-set_same, get_or-set_other, take-append-drop}
@@ -20,7 +20,8 @@ use Rattle.sg_paths.proofs.OrderLemmas.{not_after_longer, not_after_same, not_af
 use Rattle.sg_paths.proofs.PathLemmas.{label_before, label_last, label_more}
 use Rattle.sg_paths.proofs.TrailLemmas.{last_there, pushed, settled_or_new, still_there}
 
--- a route to a settled point, behind so many of its links, whose key is that of the list from there on; no list of a rank comes after it
+-- a route to a finalized point that has moved back over so many of its links, whose key is that of the list from there
+-- on; no list of a rank comes after it
 pub record IsPending (routes : List PathRoute) (settled : List Settled) (label order : ℕ → List LinkId) (ranks behind i : ℕ) (key : Key) : Type 0 where
   pub route : PathRoute
   pub next : ℕ
@@ -36,15 +37,15 @@ pub record IsAhead (routes : List PathRoute) (settled : List Settled) (label ord
   pub ranked : IsRanked order ranks
   pub pending : (i : ℕ) (key : Key) → key_at ahead.agenda i ≡ Some key → IsPending routes settled label order ranks (get_or ahead.left.items i 0) i key
 
--- it is gone back over, or where it begins is settled
+-- it moves back, or the point where it begins is finalized
 abbrev pub IsBegunAt : List Settled → Ahead → ℕ → PathRoute → Type 0
 IsBegunAt settled ahead i route = ((key : Key) × (key_at ahead.agenda i ≡ Some key)) ⊎ ((m : ℕ) × IsSettledAt settled m route.from)
 
--- so is each route to a settled point
+-- so is each route to a finalized point
 abbrev pub AreBegun : List PathRoute → List Settled → Ahead → Type 0
 AreBegun routes settled ahead = (i : ℕ) (route : PathRoute) (k : ℕ) (s : Settled) → slice_get routes i ≡ Some route → slice_get settled k ≡ Some s → s.point ≡ route.to → IsBegunAt settled ahead i route
 
--- the list at hand
+-- the next list
 abbrev pub at_hand : {routes : List PathRoute} {settled : List Settled} {label order : ℕ → List LinkId} {ranks behind i : ℕ} {key : Key} → IsPending routes settled label order ranks behind i key → List LinkId
 at_hand {routes} {settled} {label} {order} {ranks} {behind} {i} p = drop behind (links_at routes i) ++ label p.next
 
@@ -63,7 +64,7 @@ ranked_pending routes settled label order ranks behind i key links p first = rec
   before = each_more (λ xs. IsNotAfter xs (drop behind (links_at routes i) ++ label p.next)) order ranks links p.before first;
 }
 
--- and as one more point is settled
+-- and as one more point is finalized
 pub settled_pending : (routes : List PathRoute) (settled : List Settled) (hop : Settled) (label order : ℕ → List LinkId) (links : List LinkId) (ranks behind i : ℕ) (key : Key)
     → IsPending routes settled label order ranks behind i key → IsPending routes (settled ++ hop ∷ []) (label_more label (length settled) links) order ranks behind i key
 settled_pending routes settled hop label order links ranks behind i key p =
@@ -126,7 +127,7 @@ one_less (suc k) xs rest =
     let P : ℕ → Type 0 = λ n. IsNotAfter (drop (suc k) xs ++ rest) (drop n xs ++ rest) in
     subst P e (less_by_one k xs rest)
 
--- a route goes back over a link: it stands at a list with one more in front
+-- a route moves back over a link: it stands at a list with one more link before it
 pub gone_back : (routes : List PathRoute) (settled : List Settled) (label earlier order : ℕ → List LinkId) (few ranks behind i : ℕ) (key : Key) (mark : Mark) (old new : Ahead)
     → (p : IsPending routes settled label earlier few behind i key) → IsRanked order ranks → IsMark order ranks mark (drop behind (links_at routes i) ++ label p.next)
     → ((j : ℕ) → j < ranks → IsNotAfter (order j) (drop behind (links_at routes i) ++ label p.next))
@@ -169,7 +170,7 @@ gone_back routes settled label earlier order few ranks behind i key mark old new
         let Q : ℕ → Type 0 = λ n. IsPending routes settled label order ranks n j its in
         subst Q lefts (others j its far has)
 
--- a route that entered is pending at the point that was just settled
+-- a route that entered is pending at the point that was just finalized
 entered_pending : (routes : List PathRoute) (settled : List Settled) (label order : ℕ → List LinkId) (ranks i n : ℕ) (route : PathRoute) (s : Settled) (mark : Mark) (new : Ahead)
     → IsRanked order ranks → slice_get routes i ≡ Some route → slice_get settled n ≡ Some s → s.point ≡ route.to → IsMark order ranks mark (label n)
     → ((j : ℕ) → j < ranks → IsNotAfter (order j) (label n))
@@ -200,7 +201,7 @@ none_below [] k few none = omega arith
 none_below (r ∷ rs) zero few none = cc
 none_below (r ∷ rs) (suc k) few none = none_below rs k (omega arith) none
 
--- all routes to the point that was settled last enter, but those from settled points
+-- all routes to the point that was finalized last enter, except those from finalized points
 pub all_entered : (routes : List PathRoute) (settled : List Settled) (label order : ℕ → List LinkId) (ranks n point : ℕ) (s : Settled) (mark : Mark) (old new : Ahead)
     → IsAhead routes settled label order ranks old → slice_get settled n ≡ Some s → s.point ≡ point → IsMark order ranks mark (label n)
     → ((j : ℕ) → j < ranks → IsNotAfter (order j) (label n))
@@ -231,7 +232,7 @@ all_entered routes settled label order ranks n point s mark old new is at here m
             let Q : ℕ → Type 0 = λ k. IsPending routes settled label order ranks k i its in
             subst Q (sym e.left) (subst P same (entered_pending routes settled label order ranks i n route s mark new is.ranked found at joins marked before e))
 
--- ---- the routes to a point enter, one behind the other
+-- ---- the routes to a point enter, one after the other
 
 drop_all : (xs : List LinkId) → drop (length xs) xs ≡ []
 drop_all [] = refl

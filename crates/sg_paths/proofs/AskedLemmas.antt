@@ -1,4 +1,4 @@
--- Paths that are held.
+-- Paths that are stored.
 use Rattle.std.proofs.Common.{◌≡◌, ◌<◌, ◌⊎◌, ℕ, zero, suc, List, [], ◌∷◌, ◌++◌, Option, None, Some, length, inl, inr, refl, sym, subst, ap, ◌∙◌, arith}
 use Rattle.std.specs.Prelude.{slice_get, slice_set}
 use Rattle.sg_paths.specs.declared.asked.Asked.{Asked}
@@ -20,7 +20,7 @@ one_free asked free k one there = go (pushed asked None k (Some one) there)
     go (inl l) = free k one l.1
     go (inr l) = let e : None ≡ Some one = l.1 in cc
 
--- what is held is least
+-- what is stored is shortest
 pub held_least : (routes : List PathRoute) (asked : List (Option Asked)) (from to : ℕ) (links : List LinkId) → AreRight routes asked → AreHeld asked from to links → IsLeastPath routes from to links
 held_least routes asked from to links right held =
     let one : Asked = held.one in
@@ -36,7 +36,7 @@ at_set (z ∷ xs) zero (suc k) x y h = inr h
 at_set (z ∷ xs) (suc i) zero x y h = inr h
 at_set (z ∷ xs) (suc i) (suc k) x y h = at_set xs i k x y h
 
--- and stays right where a least path is held
+-- and stays right if a shortest path is stored
 pub more_right : (routes : List PathRoute) (old new : List (Option Asked)) (from to : ℕ) (links : List LinkId) → AreRight routes old → MayHoldMore old new from to links → IsLeastPath routes from to links → AreRight routes new
 more_right routes old new from to links right (inl same) least = let P : List (Option Asked) → Type 0 = AreRight routes in subst P (sym same) right
 more_right routes old new from to links right (inr more) least =

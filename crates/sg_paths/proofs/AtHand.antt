@@ -1,4 +1,4 @@
--- The route at hand, and what the code reads of it.
+-- The next route, and what the code reads of it.
 use Rattle.std.proofs.Common.{◌≡◌, ◌+◌, ◌<◌, ℕ, List, [], ◌∷◌, ◌++◌, Some, length, get_or, sym, subst, ap, ◌∙◌, arith}
 use Rattle.std.specs.Prelude.{slice_get}
 use Rattle.std.proofs.lemmas.Option.{slice_get-get_or, slice_get_within}
@@ -11,7 +11,7 @@ use Rattle.sg_paths.specs.Trail.{HasPlaces, IsSettledAt}
 use Rattle.sg_paths.proofs.AheadLemmas.{got}
 use Rattle.sg_paths.proofs.StateLemmas.{IsFirst, IsUnderWay, below, first_of, inside_left, next_place, same_route}
 
--- the route at hand joins points that have places
+-- the next route joins points that have places
 pub record IsAtHand (routes : List PathRoute) (places : List ℕ) (old : Ahead) (i : ℕ) (key : Key) (route : PathRoute) : Type 0 where
   pub first : IsFirst old i key
   pub few : i < length routes
@@ -41,7 +41,7 @@ at_hand routes points to settled places old ranks i key d within count state lea
     both : ((get_or routes i d).from < points) × ((get_or routes i d).to < points)
     both = within i (get_or routes i d) there
 
--- how many of its links it stands behind, as it was read
+-- how many of its links it stands after, as it was read
 pub left_read : (routes : List PathRoute) (to : ℕ) (settled : List Settled) (old : Ahead) (ranks i : ℕ) (key : Key) (read spare : ℕ) → IsUnderWay routes to settled old ranks → IsFirst old i key
     → read ≡ get_or old.left.items i spare → read ≡ get_or old.left.items i 0
 left_read routes to settled old ranks i key read spare state first is = is ∙ got old.left.items i spare 0 (inside_left routes to settled old ranks i key state first)
@@ -56,6 +56,6 @@ next_read routes to settled places old ranks i key d e read spare state has at i
     let P : ℕ → Type 0 = λ n. IsSettledAt settled n (get_or routes i d).to in
     subst P (sym same) (next_place routes to settled places old ranks i key (get_or routes i d) state at.first has at.there at.end)
 
--- a settled point stands below the end of the list
+-- a finalized point stands below the end of the list
 pub below_end : (settled : List Settled) (place point : ℕ) → IsSettledAt settled place point → place < length settled
 below_end settled place point at = slice_get_within settled place at.0 at.1

@@ -74,7 +74,7 @@ key_order order ranks k j (x ∷ a) (y ∷ b) ranked p q before = go (tri (lengt
     go (inr (inr more)) (inl less) = let d' = d in let e' = e in let f = fy in absurd (omega (arith, d', e', f, more, less))
     go (inr (inr more)) (inr both) = let d' = d in let e' = e in let f = fy in let s : k.date ≡ j.date = both.0 in absurd (omega (arith, d', e', f, more, s))
 
--- a list at hand has no more links than there are ranks
+-- a next list has no more links than there are ranks
 pub at_hand_short : (order : ℕ → List LinkId) (ranks : ℕ) (key : Key) (links : List LinkId) → IsRanked order ranks → IsKeyOf order ranks key links → length links ≤ key.serial + 1
 at_hand_short order ranks key [] ranked is = omega arith
 at_hand_short order ranks key (x ∷ links) ranked is =
@@ -139,12 +139,12 @@ key_more order ranks more key links is = record {
   rest = is.rest ∙ sym (label_before order ranks more key.serial is.rank);
 }
 
--- the list at hand takes the next rank
+-- the next list takes the next rank
 pub mark_of : (order : ℕ → List LinkId) (ranks : ℕ) (key : Key) (links : List LinkId) → IsKeyOf order ranks key links
     → IsMark (label_more order ranks links) (ranks + 1) (record { date = key.date; serial = key.serial; rank = ranks }) links
 mark_of order ranks key links is = record { key = key_more order ranks links key links is; rank = omega arith; at = label_last order ranks links }
 
--- the key of a list with one more link in front
+-- the key of a list with one more link before it
 pub key_with : (order : ℕ → List LinkId) (ranks : ℕ) (mark : Mark) (links : List LinkId) (link : LinkId) → IsMark order ranks mark links → link.0 < 4294967296
     → IsKeyOf order ranks (record { date = (mark.date / 4294967296 + 1) * 4294967296 + link.0; serial = mark.rank }) (link ∷ links)
 key_with order ranks mark links link is fits =

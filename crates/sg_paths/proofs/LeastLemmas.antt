@@ -1,4 +1,4 @@
--- The least path of the definition is the least of all paths.
+-- The shortest path of the definition is the shortest of all paths.
 use Rattle.std.proofs.Common.{◌≡◌, ℕ, zero, suc, ◌+◌, ◌<◌, ◌≤◌, ◌⊎◌, Bool, true, false, cond, Option, Some, None, List, [], ◌∷◌, ◌++◌, length, inl, inr, refl, sym, subst, ap, ◌∙◌, arith}
 use Rattle.std.specs.Prelude.{◌==◌, Contains, MatchOption, map}
 use Rattle.std.specs.List.{flat_map}
@@ -188,7 +188,7 @@ of_list (suc most) routes from to links h = go (among_either links (trivial_path
         let p = onward (f.0).to (b.1).0 (b.1).1 in
         (f.0 ∷ p.0, (f.1, b.0, p.1), ap (λ rest. (f.0).links ++ rest) p.2 ∙ (b.1).2)
 
--- ---- a path comes to no point twice
+-- ---- a path passes through no point twice
 
 -- the routes that don't begin at this point
 others : ℕ → List PathRoute → List PathRoute
@@ -313,7 +313,7 @@ shorter (suc most) routes fits from to (route ∷ path) is =
               (not_after_behind (d.route).links (links_of rest.path) (links_of d.path) rest.less) d.less;
         }
 
--- ---- the least path
+-- ---- the shortest path
 
 pub least_found : (routes : List PathRoute) (from to : ℕ) (links : List LinkId) → least_path routes from to ≡ Some links → IsLeastPath routes from to links
 unfolding least_path

@@ -1,4 +1,4 @@
--- The order of lists of links: lists may be compared one by one, and behind the same links.
+-- The order of lists of links: lists may be compared one by one, and after the same links.
 use Rattle.std.proofs.Common.{◌≡◌, ◌<◌, ◌≤◌, ◌⊎◌, ℕ, Bool, true, false, List, [], ◌∷◌, ◌++◌, length, inl, inr, refl, sym, ap, ap₂, ◌∙◌, arith, length-append}
 use Rattle.std.specs.Prelude.{◌==◌, ◌&&◌, ◌||◌, nat_lt}
 use Rattle.std.proofs.lemmas.Bool.Decides.{nat_tests}
@@ -34,12 +34,12 @@ pub not_greater_behind : (c a b : List LinkId) → IsNotGreater a b → IsNotGre
 not_greater_behind [] a b h = h
 not_greater_behind (x ∷ c) a b h = inr (refl, not_greater_behind c a b h)
 
--- lists keep their order behind the same links
+-- lists keep their order after the same links
 pub not_after_behind : (c a b : List LinkId) → IsNotAfter a b → IsNotAfter (c ++ a) (c ++ b)
 not_after_behind c a b (inl l) = inl (omega (arith, length-append c a, length-append c b))
 not_after_behind c a b (inr l) = let e : length a ≡ length b = l.0 in inr (omega (arith, length-append c a, length-append c b), not_greater_behind c a b l.1)
 
--- a list stands behind no longer one that ends in it
+-- a list isn't after a longer one that ends in it
 pub not_after_longer : (c a : List LinkId) → IsNotAfter a (c ++ a)
 not_after_longer [] a = not_after_same a
 not_after_longer (x ∷ c) a = inl (omega (arith, length-append (x ∷ c) a))

@@ -1,4 +1,4 @@
--- Least paths, found from their end on.
+-- Shortest paths, found from their end on.
 use Rattle.std.proofs.Common.{◌≡◌, ℕ, zero, suc, ◌+◌, ◌<◌, ◌≤◌, ◌⊎◌, Bool, true, false, cond, eqb, Option, Some, None, List, [], ◌∷◌, ◌++◌, length, inl, inr, refl, sym, subst, ap, ap₂, ◌∙◌, arith, append_assoc}
 use Rattle.std.specs.Prelude.{slice_get, Contains}
 use Rattle.std.proofs.lemmas.Bool.{eq-eqb}
@@ -14,12 +14,12 @@ use Rattle.sg_paths.specs.Crossing.{AreWithin, IsCrossing}
 use Rattle.sg_paths.proofs.OrderLemmas.{not_after_same, not_after_through, not_after_behind, not_after_longer, nothing_before}
 use Rattle.sg_paths.proofs.TrailLemmas.{pushed, settled_or_new}
 
--- the links from each settled point on are those of a least path
+-- the links from each finalized point on are those of a shortest path
 pub record IsKnown (routes : List PathRoute) (settled : List Settled) (to : ℕ) (label : ℕ → List LinkId) : Type 0 where
   pub trail : IsTrail routes settled label
   pub least : (k : ℕ) (s : Settled) → slice_get settled k ≡ Some s → IsLeastPath routes s.point to (label k)
 
--- a path from a new point crosses into the settled ones, and no later than it ends
+-- a path from a new point crosses into the finalized ones, and no later than it ends
 pub crosses : (routes : List PathRoute) (settled : List Settled) (to : ℕ) (label : ℕ → List LinkId) (known : IsKnown routes settled to label) → IsSettledAt settled 0 to
     → (path : List PathRoute) (from : ℕ) → IsNew settled from → IsPath routes from to path
     → (hop : Settled) × IsCrossing routes settled hop × IsNotAfter (hop_links routes label hop) (links_of path)
@@ -42,7 +42,7 @@ crosses routes settled to label known root (route ∷ path) from new ((i, below,
         further : (hop : Settled) × IsCrossing routes settled hop × IsNotAfter (hop_links routes label hop) (links_of path) → (hop : Settled) × IsCrossing routes settled hop × IsNotAfter (hop_links routes label hop) (route.links ++ links_of path)
         further (hop, crossing, least) = (hop, crossing, not_after_through (hop_links routes label hop) (links_of path) (route.links ++ links_of path) least (not_after_longer route.links (links_of path)))
 
--- where nothing crosses, there is no path from a new point
+-- if nothing crosses, there is no path from a new point
 pub no_path : (routes : List PathRoute) (settled : List Settled) (to : ℕ) (label : ℕ → List LinkId) → IsKnown routes settled to label → IsSettledAt settled 0 to → (from : ℕ) → IsNew settled from → ((hop : Settled) → IsCrossing routes settled hop → ⊥) → (links : List LinkId) → HasPath routes from to links → ⊥
 no_path routes settled to label known root from new none links (path, is, same) = go (crosses routes settled to label known root path from new is)
   where
@@ -54,7 +54,7 @@ pub record IsNearest (routes : List PathRoute) (settled : List Settled) (label :
   pub crossing : IsCrossing routes settled hop
   pub least : (other : Settled) → IsCrossing routes settled other → IsNotAfter (hop_links routes label hop) (hop_links routes label other)
 
--- the nearest hop is the beginning of a least path
+-- the nearest hop is the beginning of a shortest path
 pub hop_least : (routes : List PathRoute) (settled : List Settled) (to : ℕ) (label : ℕ → List LinkId) (known : IsKnown routes settled to label) → IsSettledAt settled 0 to → (hop : Settled) → IsNearest routes settled label hop → IsLeastPath routes hop.point to (hop_links routes label hop)
 hop_least routes settled to label known root hop nearest = record { reached = reached ((known.least hop.next crossing.next crossing.next_is).reached); least = λ other has. least other has }
   where
@@ -77,7 +77,7 @@ hop_least routes settled to label known root hop nearest = record { reached = re
             subst (λ (l : List LinkId). IsNotAfter (hop_links routes label hop) l) joined
             (not_after_through (hop_links routes label hop) (hop_links routes label first) (links_of path) to_first before)
 
--- links from the settled points on, and from one more
+-- links from the finalized points on, and from one more
 pub label_more : (ℕ → List LinkId) → ℕ → List LinkId → ℕ → List LinkId
 label_more label n links k = cond (eqb k n) links (label k)
 
@@ -93,7 +93,7 @@ label_before label n links k below = go (eqb_tells k n)
     go (inl l) = let e : k ≡ n = l.1 in absurd (omega arith)
     go (inr l) = ap (λ (t : Bool). cond t links (label k)) l.0
 
--- one more point is known once the nearest one is settled
+-- one more point is known once the nearest one is finalized
 pub known_more : (routes : List PathRoute) (settled : List Settled) (to : ℕ) (label : ℕ → List LinkId) (known : IsKnown routes settled to label) → IsSettledAt settled 0 to → LeadsBack settled → (hop : Settled) → IsNearest routes settled label hop → IsKnown routes (settled ++ hop ∷ []) to (label_more label (length settled) (hop_links routes label hop))
 known_more routes settled to label known root leads hop nearest = record {
   trail = record { first = label_before label n best 0 some ∙ (known.trail).first; each = λ k s above h. each k s above (pushed settled hop k s h) };
@@ -148,7 +148,7 @@ known_first routes start = record {
         record { reached = ([], ap (λ (x : Settled). x.point) (sym same), refl); least = λ other has. nothing_before other }
     first (suc k) s h = absurd (cc)
 
--- links written along a trail, as it goes on from one settled point to the next
+-- links written along a trail, as it continues from one finalized point to the next
 pub trail_on : (routes : List PathRoute) (settled : List Settled) (label : ℕ → List LinkId) (at : ℕ) (step : Settled) (out all : List LinkId) → IsTrail routes settled label → 0 < at → slice_get settled at ≡ Some step → all ≡ out ++ label at → all ≡ (out ++ links_at routes step.route) ++ label step.next
 trail_on routes settled label at step out all trail some there e = e ∙ ap (λ (l : List LinkId). out ++ l) (trail.each at step some there) ∙ sym (append_assoc out (links_at routes step.route) (label step.next))
 

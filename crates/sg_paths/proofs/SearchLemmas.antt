@@ -1,4 +1,4 @@
--- What the key at hand tells of the search.
+-- What the next key says of the search.
 use Rattle.std.proofs.Common.{◌≡◌, ◌≢◌, ◌+◌, ◌-◌, ◌<◌, ◌≤◌, ◌⊎◌, ℕ, zero, suc, List, [], ◌∷◌, ◌++◌, Option, None, Some, length, drop, take, get_or, inl, inr, refl, sym, subst, ap, ap₂, ◌∙◌, arith, append_assoc}
 use Rattle.std.specs.Prelude.{slice_get}
 use Rattle.std.proofs.lemmas.List.{get_or-set_same, get_or-set_other, take-append-drop}
@@ -19,20 +19,20 @@ use Rattle.sg_paths.proofs.OrderLemmas.{not_after_longer, not_after_through}
 use Rattle.sg_paths.proofs.PathLemmas.{IsNearest}
 use Rattle.sg_paths.proofs.TrailLemmas.{last_there, pushed, still_there}
 
--- a point is settled once
+-- a point is finalized once
 pub one_place : (settled : List Settled) (places : List ℕ) (k m point : ℕ) → HasPlaces settled places → IsSettledAt settled k point → IsSettledAt settled m point → k ≡ m
 one_place settled places k m point has (s, at, is) (t, there, same) =
     let both : Some k ≡ Some m = sym (has.at k s at) ∙ ap (slice_get places) (is ∙ sym same) ∙ has.at m t there in
     cc
 
--- what stands behind the whole route is no later than what stands behind a part of it
+-- what follows the whole route is no later than what follows a part of it
 part_no_later : (behind : ℕ) (links rest : List LinkId) → IsNotAfter (drop behind links ++ rest) (links ++ rest)
 part_no_later behind links rest =
     let whole : take behind links ++ (drop behind links ++ rest) ≡ links ++ rest =
     sym (append_assoc (take behind links) (drop behind links) rest) ∙ ap (λ l. l ++ rest) (take-append-drop behind links) in
     subst (λ (l : List LinkId). IsNotAfter (drop behind links ++ rest) l) whole (not_after_longer (take behind links) (drop behind links ++ rest))
 
--- the route at hand, where it has gone back over all its links to a new point, is the nearest hop
+-- the next route, if it has moved back over all its links to a new point, is the nearest hop
 pub nearest_hop : (routes : List PathRoute) (settled : List Settled) (places : List ℕ) (label order : ℕ → List LinkId) (ranks : ℕ) (ahead : Ahead) (i : ℕ) (key : Key) (hop : Settled)
     → IsAhead routes settled label order ranks ahead → AreBegun routes settled ahead → HasPlaces settled places
     → key_at ahead.agenda i ≡ Some key → ((other : ℕ) (its : Key) → key_at ahead.agenda other ≡ Some its → IsNoLater key its)
@@ -71,7 +71,7 @@ nearest_hop routes settled places label order ranks ahead i key hop is begun has
         subst (λ (l : List LinkId). IsNotAfter l (hop_links routes label other)) mine
         (subst (λ (n : ℕ). IsNotAfter own (links_at routes other.route ++ label n)) same whole)
 
--- where nothing is at hand, nothing crosses
+-- if no list is next, nothing crosses
 pub none_crosses : (routes : List PathRoute) (settled : List Settled) (ahead : Ahead) → AreBegun routes settled ahead → ((i : ℕ) → key_at ahead.agenda i ≡ None) → (hop : Settled) → IsCrossing routes settled hop → ⊥
 none_crosses routes settled ahead begun none hop crossing = go (begun hop.route crossing.route hop.next crossing.next crossing.route_is crossing.next_is crossing.to)
   where
@@ -79,7 +79,7 @@ none_crosses routes settled ahead begun none hop crossing = go (begun hop.route 
     go (inl (key, at)) = let e : Some key ≡ None = sym at ∙ none hop.route in cc
     go (inr (m, (s, at, is))) = crossing.new m s at (is ∙ crossing.from)
 
--- ---- routes to settled points stay begun
+-- ---- routes to finalized points stay begun
 
 pub begun_back : (routes : List PathRoute) (settled : List Settled) (i behind : ℕ) (mark : Mark) (old new : Ahead) → AreBegun routes settled old → i < length old.agenda → GoesBack routes i behind mark old new → AreBegun routes settled new
 begun_back routes settled i behind mark old new begun inside goes j route k s there at to = go (begun j route k s there at to) (eq_or j i)
@@ -89,7 +89,7 @@ begun_back routes settled i behind mark old new begun inside goes j route k s th
     go (inl (key, has)) (inl e) = inl (goes.key, ap (key_at new.agenda) e ∙ ap (λ ks. get_or ks i None) goes.keys ∙ get_or-set_same old.agenda i (Some goes.key) None inside)
     go (inl (key, has)) (inr far) = inl (key, ap (λ ks. get_or ks j None) goes.keys ∙ get_or-set_other old.agenda i j (Some goes.key) None far ∙ has)
 
--- the route at hand is left, where it begins at a settled point
+-- the next route is left, if it begins at a finalized point
 pub begun_left : (routes : List PathRoute) (settled : List Settled) (i m : ℕ) (route : PathRoute) (old new : Ahead) → AreBegun routes settled old → slice_get routes i ≡ Some route → IsSettledAt settled m route.from
     → ((j : ℕ) → j ≢ i → key_at new.agenda j ≡ key_at old.agenda j) → AreBegun routes settled new
 begun_left routes settled i m route old new begun is from same j other k s there at to = go (begun j other k s there at to) (eq_or j i)
@@ -102,7 +102,7 @@ begun_left routes settled i m route old new begun is from same j other k s there
         inr (m, subst (λ (r : PathRoute). IsSettledAt settled m r.from) one from)
     go (inl (key, has)) (inr far) = inl (key, same j far ∙ has)
 
--- a point is settled, and all routes to it enter
+-- a point is finalized, and all routes to it enter
 pub begun_entered : (routes : List PathRoute) (settled : List Settled) (hop : Settled) (i : ℕ) (route : PathRoute) (mark : Mark) (old mid new : Ahead) → AreBegun routes settled old → slice_get routes i ≡ Some route → hop.point ≡ route.from
     → ((j : ℕ) → j ≢ i → key_at mid.agenda j ≡ key_at old.agenda j) → EntersFrom routes (settled ++ hop ∷ []) hop.point 0 mark mid new → AreBegun routes (settled ++ hop ∷ []) new
 begun_entered routes settled hop i route mark old mid new begun is point same enters j other k s there at to = go (pushed settled hop k s at)

@@ -1,4 +1,4 @@
--- The search under way, step by step.
+-- The running search, step by step.
 use Rattle.std.proofs.Common.{◌≡◌, ◌≢◌, ◌+◌, ◌-◌, ◌<◌, ◌≤◌, ◌⊎◌, ℕ, zero, suc, List, [], ◌∷◌, ◌++◌, Option, None, Some, length, drop, get_or, set, inl, inr, refl, sym, subst, ap, ap₂, ◌∙◌, arith}
 use Rattle.std.specs.Prelude.{slice_get}
 use Rattle.std.proofs.lemmas.List.{get_or-set_same, get_or-set_other}
@@ -23,7 +23,7 @@ use Rattle.sg_paths.proofs.SearchLemmas.{begun_back, begun_entered, begun_left, 
 use Rattle.sg_paths.proofs.TrailLemmas.{last_there, settled_or_new, still_there}
 use Rattle.sg_paths.proofs.WorkLemmas.{sum_less, sum_no_more, weight, weight_by, weight_done, weight_new, weight_pending, weight_still, weight_unbegun, work}
 
--- settled points are known, routes to them are gone back over or done, and there are ranks for all steps that are left
+-- finalized points are known, routes to them move back or are done, and there are ranks for all steps that remain
 pub record IsUnderWay (routes : List PathRoute) (to : ℕ) (settled : List Settled) (ahead : Ahead) (ranks : ℕ) : Type 0 where
   pub label : ℕ → List LinkId
   pub known : IsKnown routes settled to label
@@ -38,7 +38,7 @@ pub record GoesOn (routes : List PathRoute) (to : ℕ) (settled new_settled : Li
   pub state : IsUnderWay routes to new_settled new ranks
   pub less : work routes new_settled new < work routes settled old
 
--- what is at hand
+-- what is next
 pub record IsFirst (ahead : Ahead) (i : ℕ) (key : Key) : Type 0 where
   pub there : key_at ahead.agenda i ≡ Some key
   pub least : (other : ℕ) (its : Key) → key_at ahead.agenda other ≡ Some its → IsNoLater key its
@@ -124,7 +124,7 @@ goes_back routes to settled ranks i key old new state first some goes places = r
     less : work routes settled new < work routes settled old
     less = sum_less (weight routes settled new) (weight routes settled old) (length routes) i (below routes old i key state.places first.there) own (λ j few. each j (eq_or j i))
 
--- ---- a route to a settled point is left
+-- ---- a route to a finalized point is left
 
 -- the agenda loses the key of one route
 pub record Leaves (i : ℕ) (old new : Ahead) : Type 0 where
@@ -196,7 +196,7 @@ is_left routes to settled ranks i m key route old new state first there from lea
     less : work routes settled new < work routes settled old
     less = sum_less (weight routes settled new) (weight routes settled old) (length routes) i (below routes old i key state.places first.there) own (λ j few. each j (eq_or j i))
 
--- ---- a point is settled, and the routes to it enter
+-- ---- a point is finalized, and the routes to it enter
 
 pub settles : (routes : List PathRoute) (to : ℕ) (settled : List Settled) (places : List ℕ) (ranks i : ℕ) (key : Key) (hop : Settled) (route : PathRoute) (old mid new : Ahead) → (state : IsUnderWay routes to settled old ranks) → IsFirst old i key
     → IsSettledAt settled 0 to → LeadsBack settled → HasPlaces settled places → get_or old.left.items i 0 ≡ 0
@@ -402,7 +402,7 @@ key_small routes to settled ahead ranks i key state first few =
     let p = (state.is).pending i key first.there in
     date_small state.order ranks key (drop (get_or ahead.left.items i 0) (links_at routes i) ++ state.label p.next) (state.is).ranked p.keyed few
 
--- the place of the point to which the route at hand leads
+-- the place of the point to which the next route leads
 pub next_place : (routes : List PathRoute) (to : ℕ) (settled : List Settled) (places : List ℕ) (ahead : Ahead) (ranks i : ℕ) (key : Key) (route : PathRoute) → IsUnderWay routes to settled ahead ranks → IsFirst ahead i key → HasPlaces settled places
     → slice_get routes i ≡ Some route → route.to < length places → IsSettledAt settled (get_or places route.to 0) route.to
 next_place routes to settled places ahead ranks i key route state first has there few =
@@ -414,7 +414,7 @@ next_place routes to settled places ahead ranks i key route state first has ther
     let P : ℕ → Type 0 = λ n. IsSettledAt settled n route.to in
     subst P next (p.to, p.next_is, is)
 
--- ranks are left as long as something is at hand
+-- ranks remain as long as a route is next
 pub ranks_left : (routes : List PathRoute) (to : ℕ) (settled : List Settled) (ahead : Ahead) (ranks i : ℕ) (key : Key) → IsUnderWay routes to settled ahead ranks → IsFirst ahead i key → ranks ≤ steps_in routes
 ranks_left routes to settled ahead ranks i key state first =
     let c = state.counted in
@@ -424,7 +424,7 @@ ranks_left routes to settled ahead ranks i key state first =
     omega (arith, less) in
     omega (arith, c, some)
 
--- the links written from the last settled point on
+-- the links written from the last finalized point on
 pub last_least : (routes : List PathRoute) (to : ℕ) (settled : List Settled) (hop : Settled) (label : ℕ → List LinkId) (links : List LinkId) → IsKnown routes (settled ++ hop ∷ []) to label → 0 < length settled
     → AreLinksOf routes (settled ++ hop ∷ []) hop links → IsLeastPath routes hop.point to links
 last_least routes to settled hop label links known some are =
@@ -433,7 +433,7 @@ last_least routes to settled hop label links known some are =
     let same : links ≡ label n = are label known.trail ∙ sym ((known.trail).each n hop some there) in
     subst (λ (l : List LinkId). IsLeastPath routes hop.point to l) (sym same) (known.least n hop there)
 
--- the hop over the route at hand is the nearest
+-- the hop over the next route is the nearest
 pub is_nearest : (routes : List PathRoute) (to : ℕ) (settled : List Settled) (places : List ℕ) (ranks i : ℕ) (key : Key) (hop : Settled) (route : PathRoute) (old : Ahead) → (state : IsUnderWay routes to settled old ranks) → IsFirst old i key
     → HasPlaces settled places → get_or old.left.items i 0 ≡ 0 → slice_get routes i ≡ Some route → hop.route ≡ i → hop.point ≡ route.from → IsSettledAt settled hop.next route.to → IsNew settled hop.point
     → IsNearest routes settled state.label hop
@@ -443,7 +443,7 @@ is_nearest routes to settled places ranks i key hop route old state first has ba
     let same : hop.next ≡ p.next = one_place settled places hop.next p.next route.to has next (p.to, p.next_is, p.joins ∙ ap (λ (r : PathRoute). r.to) one) in
     nearest_hop routes settled places state.label state.order ranks old i key hop state.is state.begun has first.there first.least p back route_is same (point ∙ ap (λ (r : PathRoute). r.from) (sym one)) new_point
 
--- and its links are those of the least path from where it begins
+-- and its links are those of the shortest path from where it begins
 pub hop_is_least : (routes : List PathRoute) (to : ℕ) (settled : List Settled) (ranks : ℕ) (hop : Settled) (old : Ahead) (links : List LinkId) → (state : IsUnderWay routes to settled old ranks) → IsSettledAt settled 0 to → LeadsBack settled
     → IsNearest routes settled state.label hop → AreLinksOf routes (settled ++ hop ∷ []) hop links → IsLeastPath routes hop.point to links
 hop_is_least routes to settled ranks hop old links state root leads nearest are =

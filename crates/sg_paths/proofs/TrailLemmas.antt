@@ -1,4 +1,4 @@
--- Settled points, as one more is settled.
+-- Finalized points, as one more is finalized.
 use Rattle.std.proofs.Common.{◌≡◌, ℕ, zero, suc, ◌+◌, ◌*◌, ◌<◌, ◌≤◌, ◌⊎◌, Bool, true, false, Option, Some, None, List, [], ◌∷◌, ◌++◌, length, inl, inr, refl, sym, ap, ◌∙◌, arith, length-append}
 use Rattle.std.specs.Prelude.{slice_get, slice_set, ◌≢◌}
 use Rattle.std.specs.List.{list_any}
@@ -13,7 +13,7 @@ use Rattle.std.proofs.lemmas.Map.Steps.{le-length_from_below}
 use Rattle.sg_paths.specs.declared.trail.Settled.{Settled}
 use Rattle.sg_paths.specs.Trail.{LeadsBack, IsSettledAt, IsNew, HasPlaces}
 
--- what stands at a place once one more stands behind: what stood there, or at the end the new one
+-- what is at a place once one more is appended: what was there, or at the end the new one
 pub pushed : {X : Type 0} (xs : List X) (y : X) (k : ℕ) (z : X) → slice_get (xs ++ y ∷ []) k ≡ Some z → ((k < length xs) × (slice_get xs k ≡ Some z)) ⊎ ((k ≡ length xs) × (y ≡ z))
 pushed [] y zero z h = inr (refl, cc)
 pushed [] y (suc k) z h = absurd (cc)
@@ -33,7 +33,7 @@ pub last_there : {X : Type 0} (xs : List X) (y : X) → slice_get (xs ++ y ∷ [
 last_there [] y = refl
 last_there (x ∷ xs) y = last_there xs y
 
--- a point is settled somewhere or nowhere
+-- a point is finalized somewhere or nowhere
 pub settled_or_new : (settled : List Settled) (point : ℕ) → ((k : ℕ) × IsSettledAt settled k point) ⊎ IsNew settled point
 settled_or_new [] point = inr (λ k s h e. absurd (cc))
 settled_or_new (s ∷ settled) point = here (settled_or_new settled point) (eqb_tells s.point point)
@@ -73,7 +73,7 @@ any_at (x ∷ xs) (suc i) q h = go (eqb q x) (any_at xs i q h)
     go true e = refl
     go false e = e
 
--- there are at most as many settled points as there are places
+-- there are at most as many finalized points as there are places
 pub settled_fit : (settled : List Settled) (places : List ℕ) → HasPlaces settled places → length settled ≤ length places
 settled_fit settled places has = le-length_from_below places (length settled) there
   where
@@ -106,11 +106,11 @@ leads_back settled hop leads below = record { back = λ k s some h. go k s some 
     go k s some (inl l) = leads.back k s some l.1
     go k s some (inr l) = let e : hop.next ≡ s.next = ap (λ (x : Settled). x.next) l.1 in let here : k ≡ length settled = l.0 in omega arith
 
--- room for the links of a settled point's hop, where there is room for as many of each point before it
+-- room for the links of a finalized point's hop, if there is room for as many of each point before it
 pub room_on : (out more next at most room : ℕ) → out + at * most ≤ room → next < at → more ≤ most → out + more + next * most ≤ room
 room_on out more next at most room fits below short = let less : (next + 1) * most ≤ at * most = mul-le-mul_right most (omega arith) in omega arith
 
--- what holds of the first settled point, and of one more
+-- what holds of the first finalized point, and of one more
 pub leads_first : (start : Settled) → LeadsBack (start ∷ [])
 leads_first start = record { back = λ k s above h. go k s above h }
   where

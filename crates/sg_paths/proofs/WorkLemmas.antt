@@ -1,4 +1,4 @@
--- How much is left to be gone back over.
+-- How much remains to be traversed.
 use Rattle.std.proofs.Common.{◌≡◌, ◌≢◌, ◌+◌, ◌-◌, ◌<◌, ◌≤◌, ◌⊎◌, ℕ, zero, suc, List, [], ◌∷◌, ◌++◌, Option, None, Some, length, get_or, inl, inr, refl, sym, ap, ◌∙◌, arith}
 use Rattle.std.specs.Prelude.{slice_get}
 use Rattle.sg_heap.specs.Agenda.{Key, key_at}
@@ -78,7 +78,7 @@ weight_new routes settled ahead i none new =
     go (inl (k, (s, at, is))) = absurd (new k s at is)
     go (inr n) = refl
 
--- a route that stands still has no more weight once another point is settled
+-- a route that stands still has no more weight once another point is finalized
 pub weight_still : (routes : List PathRoute) (settled : List Settled) (hop : Settled) (old new : Ahead) (i : ℕ) → key_at new.agenda i ≡ key_at old.agenda i → get_or new.left.items i 0 ≡ get_or old.left.items i 0
     → weight routes (settled ++ hop ∷ []) new i ≤ weight routes settled old i
 weight_still routes settled hop old new i key left = go (key_at old.agenda i) key (settled_or_new (settled ++ hop ∷ []) (to_at routes i)) (settled_or_new settled (to_at routes i))

@@ -1,4 +1,5 @@
--- Routes to settled points, gone back over a link at a time: of the lists that begin where they stand, the least is at hand.
+-- Routes to finalized points, traversed backwards a link at a time: of the lists that begin where they stand, the least
+-- is next.
 use Rattle.std.specs.Prelude.{◌≡◌, ◌≢◌, ℕ, zero, suc, ◌+◌, ◌-◌, ◌*◌, ◌<◌, ◌≤◌, ◌⊎◌, List, [], ◌∷◌, ◌++◌, Some, length, drop, slice_index, slice_set}
 use Rattle.sg_base.specs.declared.ids.LinkId.{LinkId}
 use Rattle.sg_heap.specs.Agenda.{Key, key_at}
@@ -33,7 +34,7 @@ pub record IsMark (order : ℕ → List LinkId) (ranks : ℕ) (mark : Mark) (lin
   pub rank : mark.rank < ranks
   pub at : order mark.rank ≡ links
 
--- a route that stood behind so many of its links stands behind one less, at the key of the list from there on
+-- a route that stood after so many of its links stands after one less, at the key of the list from there on
 pub record GoesBack (routes : List PathRoute) (i left : ℕ) (mark : Mark) (old new : Ahead) : Type 0 where
   pub key : Key
   pub keys : new.agenda ≡ slice_set old.agenda i (Some key)
@@ -41,7 +42,7 @@ pub record GoesBack (routes : List PathRoute) (i left : ℕ) (mark : Mark) (old 
   pub is : (order : ℕ → List LinkId) (ranks : ℕ) (rest : List LinkId) → IsMark order ranks mark (drop left (links_at routes i) ++ rest)
       → IsKeyOf order ranks key (drop (left - 1) (links_at routes i) ++ rest)
 
--- a route stands behind all its links but the last, at the key of the list from there on
+-- a route stands after all its links except the last, at the key of the list from there on
 pub record HasEntered (routes : List PathRoute) (mark : Mark) (i : ℕ) (ahead : Ahead) : Type 0 where
   pub key : Key
   pub at : key_at ahead.agenda i ≡ Some key
@@ -54,17 +55,17 @@ pub record StandsStill (i : ℕ) (old new : Ahead) : Type 0 where
   pub key : key_at new.agenda i ≡ key_at old.agenda i
   pub left : slice_index new.left.items i ≡ slice_index old.left.items i
 
--- nothing changes where a route begins at a settled point
+-- nothing changes if a route begins at a finalized point
 pub record IsPassed (routes : List PathRoute) (settled : List Settled) (i : ℕ) (old new : Ahead) : Type 0 where
   pub place : ℕ
   pub from : IsSettledAt settled place (from_at routes i)
   pub same : new ≡ old
 
--- a route goes back over its last link, unless it begins at a settled point
+-- a route moves back over its last link, unless it begins at a finalized point
 abbrev pub MayGoBack : List PathRoute → List Settled → ℕ → Mark → Ahead → Ahead → Type 0
 MayGoBack routes settled i mark old new = GoesBack routes i (length (links_at routes i)) mark old new ⊎ IsPassed routes settled i old new
 
--- a route stands where it stood, since it begins at a settled point
+-- a route stands where it stood, since it begins at a finalized point
 pub record StaysOut (routes : List PathRoute) (settled : List Settled) (i : ℕ) (old new : Ahead) : Type 0 where
   pub still : StandsStill i old new
   pub place : ℕ
@@ -75,7 +76,8 @@ pub record HasPlaceFor (routes : List PathRoute) (ahead : Ahead) : Type 0 where
   pub slots : length ahead.agenda ≡ length routes
   pub lefts : length ahead.left.items ≡ length routes
 
--- those from this number on that lead to a point have entered, but those from settled points, and the others stand still
+-- those from this number on that lead to a point have entered, except those from finalized points, and the others stand
+-- still
 pub record EntersFrom (routes : List PathRoute) (settled : List Settled) (point n : ℕ) (mark : Mark) (old new : Ahead) : Type 0 where
   pub entered : (i : ℕ) → n ≤ i → i < length routes → to_at routes i ≡ point → HasEntered routes mark i new ⊎ StaysOut routes settled i old new
   pub others : (i : ℕ) → to_at routes i ≢ point → StandsStill i old new

@@ -1,4 +1,4 @@
--- The routes that lead to each point, found one behind the other.
+-- The routes that lead to each point, found one after the other.
 use Rattle.std.specs.Prelude.{◌≡◌, ◌≢◌, ℕ, ◌-◌, ◌<◌, ◌≤◌, List, Option, Some, None, length, slice_get, slice_index}
 use Rattle.sg_paths.specs.declared.arrivals.Arrivals.{Arrivals}
 use Rattle.sg_paths.specs.declared.route.PathRoute.{PathRoute}
@@ -19,7 +19,7 @@ from_in (Some route) = route.from
 abbrev pub from_at : List PathRoute → ℕ → ℕ
 from_at routes i = from_in (slice_get routes i)
 
--- of the routes below this number, n - 1 is the last one that leads to a point; where n is 0, none does
+-- of the routes below this number, n - 1 is the last one that leads to a point; if n is 0, none does
 pub record IsLast (routes : List PathRoute) (point below n : ℕ) : Type 0 where
   pub within : n ≤ below
   pub none : (i : ℕ) → n ≤ i → i < below → to_at routes i ≢ point

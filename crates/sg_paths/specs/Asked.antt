@@ -1,19 +1,19 @@
--- Least paths that were asked for before.
+-- Shortest paths that were asked for before.
 use Rattle.std.specs.Prelude.{◌≡◌, ℕ, ◌⊎◌, List, Option, Some, slice_get, slice_set}
 use Rattle.sg_base.specs.declared.ids.LinkId.{LinkId}
 use Rattle.sg_paths.specs.declared.asked.Asked.{Asked}
 use Rattle.sg_paths.specs.declared.route.PathRoute.{PathRoute}
 use Rattle.sg_paths.specs.Least.{least_path}
 
--- each holds the links of the least path between its points
+-- each has the links of the shortest path between its points
 abbrev pub AreRight : List PathRoute → List (Option Asked) → Type 0
 AreRight routes asked = (k : ℕ) (one : Asked) → slice_get asked k ≡ Some (Some one) → least_path routes one.from one.to ≡ Some one.links.items
 
--- none is held
+-- none is stored
 abbrev pub AreFree : List (Option Asked) → Type 0
 AreFree asked = (k : ℕ) (one : Asked) → slice_get asked k ≡ Some (Some one) → ⊥
 
--- these links are held for two points
+-- these links are stored for two points
 pub record AreHeld (asked : List (Option Asked)) (a b : ℕ) (xs : List LinkId) : Type 0 where
   pub place : ℕ
   pub one : Asked
@@ -22,7 +22,7 @@ pub record AreHeld (asked : List (Option Asked)) (a b : ℕ) (xs : List LinkId) 
   pub to : one.to ≡ b
   pub links : one.links.items ≡ xs
 
--- one more is held, in the place of another
+-- one more is stored, in the place of another
 pub record HoldsMore (old new : List (Option Asked)) (a b : ℕ) (xs : List LinkId) : Type 0 where
   pub place : ℕ
   pub one : Asked
@@ -31,6 +31,6 @@ pub record HoldsMore (old new : List (Option Asked)) (a b : ℕ) (xs : List Link
   pub to : one.to ≡ b
   pub links : one.links.items ≡ xs
 
--- nothing changes, or one more is held
+-- nothing changes, or one more is stored
 abbrev pub MayHoldMore : List (Option Asked) → List (Option Asked) → ℕ → ℕ → List LinkId → Type 0
 MayHoldMore old new from to links = (new ≡ old) ⊎ HoldsMore old new from to links

@@ -1,10 +1,10 @@
--- Routes from a point that isn't settled to one that is.
+-- Routes from a point that isn't finalized to one that is.
 use Rattle.std.specs.Prelude.{◌≡◌, ℕ, ◌<◌, List, Some, slice_get}
 use Rattle.sg_paths.specs.declared.route.PathRoute.{PathRoute}
 use Rattle.sg_paths.specs.declared.trail.Settled.{Settled}
 use Rattle.sg_paths.specs.Trail.{IsNew}
 
--- a hop over a declared route, from a new point to a settled one
+-- a hop over a declared route, from a new point to a finalized one
 pub record IsCrossing (routes : List PathRoute) (settled : List Settled) (hop : Settled) : Type 0 where
   pub route : PathRoute
   pub next : Settled

@@ -8,7 +8,7 @@ use Rattle.sg_paths.specs.Arrivals.{AreArrivals}
 use Rattle.sg_paths.specs.Crossing.{AreWithin}
 use Rattle.sg_paths.specs.Trail.{AreShort}
 
--- there is room for so many points, for a place of each route, for a path over each point, and for one that is held
+-- there is room for so many points, for a place of each route, for a path over each point, and for one that is stored
 pub record IsRoomy (routes : List PathRoute) (points : ℕ) (reach : Reach) : Type 0 where
   pub places : length reach.places.items ≡ points
   pub settled : points ≤ vec_capacity reach.settled

@@ -7,7 +7,7 @@ use Rattle.sg_paths.specs.declared.route.PathRoute.{PathRoute}
 use Rattle.sg_paths.specs.Asked.{AreRight}
 use Rattle.sg_paths.specs.Reach.{IsReady}
 
--- it can be searched, and what is held is right
+-- it can be searched, and what is stored is right
 pub record IsWhole (points : ℕ) (routes : List PathRoute) (arrivals : Arrivals) (reach : Reach) (asked : List (Option Asked)) : Type 0 where
   pub ready : IsReady points routes arrivals reach
   pub right : AreRight routes asked

@@ -1,4 +1,4 @@
-//! Routes to settled points, gone back over a link at a time.
+//! Routes to finalized points, traversed backwards a link at a time.
 ghost use Rattle.std.specs.Prelude.{◌≡◌, ◌+◌, ◌*◌, ◌/◌, ◌^◌, ◌<◌, ◌≤◌, ℕ, None, length};
 ghost use Rattle.sg_heap.specs.Agenda.{key_at};
 ghost use Rattle.sg_paths.specs.Ahead.{EntersFrom, GoesBack, HasPlaceFor, MayGoBack};
@@ -12,15 +12,15 @@ use crate::trail::links_at;
 use sg_base::{LinkId, Serial};
 use sg_heap::Agenda;
 
-/// Of each route to a settled point how many of its links lie ahead of it, and its key: how many links lie behind it up
-/// to the end of all paths, which comes first of these, and the rank of the list of the others.
+/// Of each route to a finalized point how many of its links lie ahead of it, and its key: how many links follow it up
+/// to the end of all paths, the first of these, and the rank of the list of the others.
 #[derive(Drop)]
 pub struct Ahead {
     pub agenda: Agenda,
     pub left: Vec<usize>,
 }
 
-/// The key of a list of links that was at hand, and its rank among all that were.
+/// The key of a list of links that was once the next one, and its rank among all such lists.
 #[derive(Clone, Copy)]
 pub struct Mark {
     pub date: u128,
@@ -28,7 +28,7 @@ pub struct Mark {
     pub rank: u64,
 }
 
-/// No route is gone back over any more.
+/// Clears all: no route is traversed any more.
 pub fn clear(ahead: &mut Ahead)
     ensures keys { (i : ℕ) → key_at ahead.new.agenda i ≡ None }
     ensures slots { length ahead.new.agenda ≡ length ahead.old.agenda }
@@ -39,7 +39,7 @@ pub fn clear(ahead: &mut Ahead)
     }
 }
 
-/// The first part of the key of a list with one more link in front.
+/// Returns the first part of the key of a list with one more link before it.
 fn date_with(date: u128, link: LinkId) -> u128
     requires { date < 2 ^ 100 }
     ensures date { result ≡ (date / 4294967296 + 1) * 4294967296 + link.0 }
@@ -48,7 +48,7 @@ fn date_with(date: u128, link: LinkId) -> u128
     (date / 4294967296 + 1) * 4294967296 + u128::from(link.0)
 }
 
-/// A route goes back over a link. Where none lies ahead, as at the end of a route without links, its key is that of the
+/// Moves a route back over a link. If none lies ahead, as at the end of a route without links, its key is that of the
 /// list itself.
 pub fn go_back(routes: &[PathRoute], ahead: &mut Ahead, i: usize, left: usize, mark: Mark)
     requires route { i < length routes.now }
@@ -68,7 +68,7 @@ pub fn go_back(routes: &[PathRoute], ahead: &mut Ahead, i: usize, left: usize, m
     }
 }
 
-/// A route goes back over its last link, unless it begins at a settled point: no path to be found takes it then.
+/// Moves a route back over its last link, unless it begins at a finalized point: no path to be found takes it then.
 fn enter_one(routes: &[PathRoute], known: Known<'_>, ahead: &mut Ahead, i: usize, mark: Mark)
     requires route { i < length routes.now }
     requires places { HasPlaceFor routes.now ahead.old }
@@ -82,7 +82,7 @@ fn enter_one(routes: &[PathRoute], known: Known<'_>, ahead: &mut Ahead, i: usize
     go_back(routes, ahead, i, left, mark);
 }
 
-/// The routes from points that aren't settled to one that just was go back over their last links.
+/// Moves the routes from points that aren't finalized to one that just was back over their last links.
 pub fn enter(
     routes: &[PathRoute],
     arrivals: &Arrivals,

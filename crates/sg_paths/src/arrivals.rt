@@ -8,14 +8,14 @@ use sg_base::Memory;
 use std::alloc::Global;
 
 /// For each point the last route that leads to it, and for each route the one before it that leads to the same point:
-/// its number and one, or 0 where there is none.
+/// its number and one, or 0 if there is no such route.
 #[derive(Drop)]
 pub struct Arrivals {
     pub last: Vec<usize>,
     pub before: Vec<usize>,
 }
 
-/// The arrivals at each of so many points.
+/// Returns the arrivals at each of so many points.
 pub fn arrivals_of(alloc: Global, points: usize, routes: &[PathRoute]) -> Result<Arrivals, Memory>
     requires { AreWithin points routes.now }
     ensures { IfOk result (AreArrivals points routes.now) }

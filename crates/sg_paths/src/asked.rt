@@ -1,4 +1,4 @@
-//! Least paths that were asked for before.
+//! Shortest paths that were asked for before.
 ghost use Rattle.std.specs.Prelude.{◌≡◌, ◌≤◌, IfOk, IfSome, length, vec_capacity};
 ghost use Rattle.std.specs.Bool.{OnTrue};
 ghost use Rattle.sg_paths.specs.Asked.{AreFree, AreHeld, MayHoldMore};
@@ -8,13 +8,13 @@ use arrayvec::ArrayVec;
 use sg_base::{LinkId, Memory};
 use std::alloc::Global;
 
-/// The most links of a path that is held.
+/// The most links of a path that is stored.
 pub const MOST: usize = 128;
 
 /// How many places are looked at for two points.
 const WAYS: usize = 4;
 
-/// The links of the least path from a point to another, where they are few enough.
+/// The links of the shortest path from a point to another, if they are few enough.
 #[derive(Drop)]
 pub struct Asked {
     pub from: u32,
@@ -22,7 +22,7 @@ pub struct Asked {
     pub links: ArrayVec<LinkId, 128>,
 }
 
-/// Room for so many paths, of which none is held.
+/// Makes room for so many paths, of which none is stored.
 pub fn room_for(alloc: Global, places: usize) -> Result<Vec<Option<Asked>>, Memory>
     ensures { IfOk result (λ asked. AreFree asked.items) }
 {
@@ -33,7 +33,7 @@ pub fn room_for(alloc: Global, places: usize) -> Result<Vec<Option<Asked>>, Memo
     Ok(asked)
 }
 
-/// The first place that is looked at for two points.
+/// Returns the first place that is tried for two points.
 fn first_place(from: u32, to: u32, places: usize) -> usize {
     let mixed = (u64::from(from) << 32 | u64::from(to)).wrapping_mul(0x9e37_79b9_7f4a_7c15);
     match (mixed >> 32).checked_rem(places as u64) {
@@ -42,7 +42,7 @@ fn first_place(from: u32, to: u32, places: usize) -> usize {
     }
 }
 
-/// The links that are held at a place, where they are those of these points.
+/// Returns the links that are stored at a place, if they are those of these points.
 fn links_at(asked: &[Option<Asked>], place: usize, from: u32, to: u32) -> Option<&[LinkId]>
     ensures held { IfSome result (λ links. AreHeld asked.now from to links.now) }
     ensures few { IfSome result (λ links. length links.now ≤ 128) }
@@ -53,7 +53,7 @@ fn links_at(asked: &[Option<Asked>], place: usize, from: u32, to: u32) -> Option
     }
 }
 
-/// The place at which those of two points are held, where they are.
+/// Returns the place at which those of two points are stored, if they are.
 fn held_place(asked: &[Option<Asked>], from: u32, to: u32) -> usize {
     let first = first_place(from, to, asked.len());
     for step in 0..WAYS {
@@ -65,7 +65,7 @@ fn held_place(asked: &[Option<Asked>], from: u32, to: u32) -> usize {
     first
 }
 
-/// Writes the links that are held for two points, and tells whether any are.
+/// Writes the links that are stored for two points, and returns whether any are.
 pub fn recall(asked: &[Option<Asked>], from: u32, to: u32, best: &mut Vec<LinkId>) -> bool
     requires room { 128 ≤ vec_capacity best.old }
     ensures yes { OnTrue result (AreHeld asked.now from to best.new.items) }
@@ -82,12 +82,12 @@ pub fn recall(asked: &[Option<Asked>], from: u32, to: u32, best: &mut Vec<LinkId
     }
 }
 
-/// Whether no path is held at a place.
+/// Returns whether no path is stored at a place.
 fn is_free(asked: &[Option<Asked>], place: usize) -> bool {
     matches!(asked.get(place), Some(None))
 }
 
-/// The first free place for two points, or where there is none the first of all.
+/// Returns the first free place for two points, or the first of all if no place is free.
 fn place_for(asked: &[Option<Asked>], from: u32, to: u32) -> usize {
     let first = first_place(from, to, asked.len());
     for step in 0..WAYS {
@@ -99,7 +99,7 @@ fn place_for(asked: &[Option<Asked>], from: u32, to: u32) -> usize {
     first
 }
 
-/// A copy of these links.
+/// Returns a copy of these links.
 fn copy_of(links: &[LinkId]) -> ArrayVec<LinkId, 128>
     requires { length links.now ≤ 128 }
     ensures { result.items ≡ links.now }
@@ -111,7 +111,7 @@ fn copy_of(links: &[LinkId]) -> ArrayVec<LinkId, 128>
     copy
 }
 
-/// Holds the links of the least path between two points, where they are few enough.
+/// Stores the links of the shortest path between two points, if they are few enough.
 pub fn hold(asked: &mut Vec<Option<Asked>>, from: u32, to: u32, links: &[LinkId])
     ensures { MayHoldMore asked.old.items asked.new.items from to links.now }
 {

@@ -1,4 +1,4 @@
-//! The search for a least path.
+//! The search for a shortest path.
 ghost use Rattle.std.specs.Prelude.{◌≡◌, ◌≢◌, ◌<◌, length};
 ghost use Rattle.std.specs.Bool.{OnFalse, OnTrue};
 ghost use Rattle.sg_paths.specs.Path.{HasNoPath, IsLeastPath};
@@ -11,15 +11,15 @@ use crate::settle::{Known, begin, place_of, settle};
 use crate::trail::{Settled, write_links};
 use sg_base::LinkId;
 
-/// The mark of the empty list, which is at hand first.
+/// The mark of the empty list, which comes first.
 const FIRST: Mark = Mark {
     date: 0,
     serial: 0,
     rank: 0,
 };
 
-/// Room for a search: the points that are settled, the place of each, the routes to them that are gone back over, and
-/// the links of a path.
+/// Room for a search: the finalized points, the place of each, the routes to them that are traversed backwards, and the
+/// links of a path.
 #[derive(Drop)]
 pub struct Reach {
     pub settled: Vec<Settled>,
@@ -29,10 +29,10 @@ pub struct Reach {
     pub most: usize,
 }
 
-/// Whether there is a path; where there is one, the least one's links are the best list.
+/// Returns whether there is a path; if so, the shortest one's links are the best list.
 ///
-/// Points are settled from `to` on, the one with the least path first: the routes from others to those that are settled
-/// are gone back over a link at a time, the one first whose list from where it stands is least.
+/// Points are finalized from `to` on, the one with the shortest path first: the routes from others to those that are
+/// finalized are traversed backwards a link at a time, the one first whose list from where it stands is least.
 pub fn find(
     routes: &[PathRoute],
     arrivals: &Arrivals,

@@ -1,6 +1,6 @@
-//! Paths of fewest links over routes between numbered points.
+//! Paths of fewest links over routes between numbered points (Dijkstra's algorithm).
 //! One enters by `Paths`: `build` once, and then `search` for each pair of points; a few of those found are kept.
-//! It stands on `sg_base`, and on `sg_heap` for the next point to settle.
+//! It stands on `sg_base`, and on `sg_heap` for the next point to finalize.
 #![tactic(auto)]
 
 mod ahead;
@@ -10,8 +10,8 @@ mod laws;
 mod least;
 mod paths;
 mod recall;
-mod room;
 mod route;
+mod search_room;
 mod settle;
 mod trail;
 

@@ -6,13 +6,13 @@ use crate::arrivals::{Arrivals, arrivals_of};
 use crate::asked::{Asked, room_for};
 use crate::least::Reach;
 use crate::recall::find_or_recall;
-use crate::room::{copy, countable, most_links, room};
 use crate::route::PathRoute;
+use crate::search_room::{copy, countable, most_links, room};
 use sg_base::{LinkId, Memory};
 use std::alloc::Global;
 use std::marker::Model;
 
-/// How many paths are held: four for each point, and at most 4,096.
+/// Returns how many paths are stored: four for each point, and at most 4,096.
 fn places_for(points: u32, routes: usize) -> usize {
     if routes == 0 {
         return 0;
@@ -57,7 +57,7 @@ impl Paths {
     ghost use Rattle.std.specs.Borrow.{sem};
     ghost use Rattle.sg_paths.specs.Kept.{KeepsNet};
 
-    /// So many points, numbered from 0 on, and routes between them.
+    /// Makes so many points, numbered from 0 on, and routes between them.
     pub fn build(alloc: Global, points: u32, routes: &[PathRoute]) -> Result<Paths, Memory>
         requires { All (λ route. (route.from < points) × (route.to < points)) routes.now }
         ensures { IfOk result (λ paths. paths ≡ record { points = points; routes = routes.now }) }
@@ -79,12 +79,12 @@ impl Paths {
         })
     }
 
-    /// The links of the path from a point to another that has the fewest links, a link counted each
-    /// time that it stands there, and of these of the one whose list is least, compared from the
-    /// front. `None` is told exactly where there is no path, as where one of the points isn't there. It takes no memory.
+    /// Returns the links of the path from a point to another that has the fewest links, a link counted each time that
+    /// it stands there, and of these of the one with the least list, compared from the front. It returns `None` exactly
+    /// if there is no path, as when one of the points doesn't exist. It takes no memory.
     ///
-    /// It takes n log n steps at most, where n counts the routes and all their links, and touches only what it reaches. A
-    /// path of at most 128 links is held, and given again without a search, until another takes its place.
+    /// It takes n log n steps at most, with n routes and links of routes in all, and touches only what it reaches. A
+    /// path of at most 128 links is stored, and returned again without a search, until another replaces it.
     pub fn search(&mut self, from: u32, to: u32) -> Option<&[LinkId]>
         requires { from ≢ to }
         ensures reached { IfSome result (λ links. HasPath self.old.routes from to links.now) }

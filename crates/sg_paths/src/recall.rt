@@ -1,4 +1,4 @@
-//! A search for a least path that may have been asked for before.
+//! A search for a shortest path that may have been asked for before.
 ghost use Rattle.std.specs.Prelude.{◌≢◌, ◌<◌, length};
 ghost use Rattle.std.specs.Bool.{OnFalse, OnTrue};
 ghost use Rattle.sg_paths.specs.Asked.{AreRight};
@@ -10,7 +10,7 @@ use crate::asked::{Asked, hold, recall};
 use crate::least::{Reach, find};
 use crate::route::PathRoute;
 
-/// As `find`, but a path that is held isn't searched again, and one that is found is held.
+/// Does what `find` does, but doesn't search again for a stored path, and stores one that it finds.
 pub fn find_or_recall(
     routes: &[PathRoute],
     arrivals: &Arrivals,

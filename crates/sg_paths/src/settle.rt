@@ -1,17 +1,17 @@
-//! Which points are settled.
+//! Which points are finalized.
 ghost use Rattle.std.specs.Prelude.{◌≡◌, ◌<◌, ◌≤◌, ◌++◌, [], ◌∷◌, length, vec_capacity, slice_get, IsNone, IfSome};
 ghost use Rattle.sg_paths.specs.Trail.{first_settled, HasPlaces, IsNew, IsSettledAt};
 
 use crate::trail::Settled;
 
-/// The points that are settled, and the place of each.
+/// The finalized points (`Settled`), and the place of each.
 #[derive(Clone, Copy)]
 pub struct Known<'a> {
     pub settled: &'a Vec<Settled>,
     pub places: &'a Vec<usize>,
 }
 
-/// The place of a point, where it is settled.
+/// Returns the place of a point, if it is finalized.
 pub fn settled_at(known: Known<'_>, point: u32) -> Option<usize>
     ensures { IfSome result (λ place. IsSettledAt known.entry.settled.now.items place point) }
 {
@@ -24,7 +24,7 @@ pub fn settled_at(known: Known<'_>, point: u32) -> Option<usize>
     }
 }
 
-/// The place of a settled point.
+/// Returns the place of a finalized point.
 pub fn place_of(settled: &[Settled], places: &[usize], point: u32) -> Option<usize>
     requires places { HasPlaces settled.now places.now }
     requires point { point < length places.now }
@@ -38,7 +38,7 @@ pub fn place_of(settled: &[Settled], places: &[usize], point: u32) -> Option<usi
     }
 }
 
-/// Settles a point that isn't yet.
+/// Finalizes a point that isn't yet.
 pub fn settle(settled: &mut Vec<Settled>, places: &mut Vec<usize>, hop: Settled)
     requires places { HasPlaces settled.old.items places.old.items }
     requires new { IsNew settled.old.items hop.point }
@@ -54,7 +54,7 @@ pub fn settle(settled: &mut Vec<Settled>, places: &mut Vec<usize>, hop: Settled)
     settled.push_reserved(hop);
 }
 
-/// Forgets what is settled, and settles the point where paths end.
+/// Forgets what is finalized, and finalizes the point where paths end.
 pub fn begin(settled: &mut Vec<Settled>, places: &mut Vec<usize>, to: u32)
     requires point { to < length places.old.items }
     requires room { length places.old.items ≤ vec_capacity settled.old }

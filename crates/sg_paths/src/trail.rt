@@ -1,12 +1,12 @@
-//! The points whose least path is known, and the links of their paths.
+//! The points whose shortest path is known, and the links of their paths.
 ghost use Rattle.std.specs.Prelude.{◌≡◌, ◌+◌, ◌*◌, ◌<◌, ◌≤◌, ◌++◌, length, vec_capacity};
 ghost use Rattle.sg_paths.specs.Trail.{links_at, AreLinksOf, AreShort, LeadsBack};
 
 use crate::route::PathRoute;
 use sg_base::LinkId;
 
-/// A point, the route that its least path begins with, and the place among the settled points of
-/// the one that this route leads to. The first settled point is where all paths end: it takes no route.
+/// A point, the route that its shortest path begins with, and the place among the finalized points of the one that this
+/// route leads to. The first finalized point is where all paths end: it takes no route.
 #[derive(Clone, Copy)]
 pub struct Settled {
     pub point: u32,
@@ -14,7 +14,7 @@ pub struct Settled {
     pub next: usize,
 }
 
-/// The links of a route.
+/// Returns the links of a route.
 pub fn links_at(routes: &[PathRoute], route: usize) -> &[LinkId]
     ensures { result.now ≡ links_at routes.now route }
 {
@@ -24,7 +24,7 @@ pub fn links_at(routes: &[PathRoute], route: usize) -> &[LinkId]
     }
 }
 
-/// Adds links behind others.
+/// Adds links after others.
 pub fn add(links: &[LinkId], out: &mut Vec<LinkId>)
     requires { length out.old.items + length links.now ≤ vec_capacity out.old }
     ensures links { out.new.items ≡ out.old.items ++ links.now }
@@ -35,7 +35,7 @@ pub fn add(links: &[LinkId], out: &mut Vec<LinkId>)
     }
 }
 
-/// Writes the links of the path that begins with a route to a settled point.
+/// Writes the links of the path that begins with a route to a finalized point.
 pub fn write_links(
     routes: &[PathRoute],
     settled: &[Settled],

@@ -1,4 +1,4 @@
--- Not TOML is told exactly where the bytes have no tree.
+-- Not TOML is reported exactly if the bytes have no tree.
 use Rattle.std.proofs.Common.{◌≡◌, ◌↔◌, ℕ, ◌≤◌, false, List, length, Option, Some, None, Result, Err, refl, sym, ap, ◌∙◌, nat_lt, arith}
 use Rattle.std.proofs.lemmas.Bool.Decides.{nat_tests}
 use Rattle.std.specs.Option.{option_map_or}
@@ -6,7 +6,7 @@ use Rattle.sg_platform.specs.DeploymentOf.{deployment_of, names_on, tree_deploym
 use Rattle.sg_platform.specs.DeploymentOf as on
 use Rattle.sg_platform.specs.Laws.{BadTomlExactly}
 use Rattle.sg_rows.specs.Platform.{Platform}
-use Rattle.sg_platform.specs.PlatformOf.{greatest_text, platform_of, rows_of, rows_unless, text_by, tree_platform}
+use Rattle.sg_platform.specs.PlatformOf.{greatest_text, platform_of, platform_rows, rows_unless, text_by, tree_platform}
 use Rattle.sg_rules.specs.Faults.{faults_of}
 use Rattle.sg_names.specs.Names.{platform_known}
 use Rattle.sg_tables.specs.Tables.{deployment_tables, platform_tables}
@@ -15,18 +15,18 @@ use Rattle.sg_tree.specs.Tree.{tree_of}
 use Rattle.sg_tree.specs.declared.fault.Fault.{Fault}
 use Rattle.toml.specs.Data.{Members}
 
--- what is told of a tree is a rule
+-- what is reported of a tree is a rule
 rule_told : {R : Type 0} (o : Option Fault) (rows : R) → rows_unless o rows ≡ Err None → ⊥
 rule_told None rows e = cc
 rule_told (Some fault) rows e = cc
 
 platform_told : (tree : Members) → tree_platform tree ≡ Err None → ⊥
 unfolding tree_platform
-platform_told tree e = rule_told (first (faults_of (platform_known tree) platform_tables tree)) (rows_of (platform_known tree) tree) e
+platform_told tree e = rule_told (first (faults_of (platform_known tree) platform_tables tree)) (platform_rows (platform_known tree) tree) e
 
 deployment_told : (p : Platform) (tree : Members) → tree_deployment p tree ≡ Err None → ⊥
 unfolding tree_deployment
-deployment_told p tree e = rule_told (first (faults_of (names_on p tree) deployment_tables tree)) (on.rows_of (names_on p tree) tree) e
+deployment_told p tree e = rule_told (first (faults_of (names_on p tree) deployment_tables tree)) (on.deployment_rows (names_on p tree) tree) e
 
 no_tree : {R : Type 0} (given : Members → Result R (Option Fault)) → ((tree : Members) → given tree ≡ Err None → ⊥) → (o : Option Members) → option_map_or given o (Err None) ≡ Err None → o ≡ None
 no_tree given told None e = refl

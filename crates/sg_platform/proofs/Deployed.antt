@@ -7,7 +7,7 @@ use Rattle.sg_platform.proofs.KeptFunctions.{FindsWorkers, actor_function_kept}
 use Rattle.sg_platform.proofs.KeptRows.{actor_kept, mutex_kept, semaphore_kept}
 use Rattle.sg_platform.specs.Build.{actor_row, mutex_row, semaphore_row}
 use Rattle.sg_rows.specs.Deployment.{IsActorRow, IsDeployedOn, IsDeployment, IsFunction, IsSemaphoreRow}
-use Rattle.sg_platform.specs.DeploymentOf.{rows_of}
+use Rattle.sg_platform.specs.DeploymentOf.{deployment_rows}
 use Rattle.sg_rows.specs.Platform.{Platform}
 use Rattle.sg_rules.proofs.Kept.{rows_few, rows_kept}
 use Rattle.sg_rules.specs.Faults.{faults_of, table_faults}
@@ -42,8 +42,8 @@ pub known_hosts : (zones hosts : ℕ) (points : Finds) (tree : Members) → (kno
 unfolding known_by
 known_hosts zones hosts points tree = refl
 
-pub deployment_without_faults : (names : Known) (tree : Members) → FindsWorkers names (rows_at (codes "actor") tree) → first (faults_of names deployment_tables tree) ≡ None → IsDeployment (rows_of names tree)
-unfolding rows_of
+pub deployment_without_faults : (names : Known) (tree : Members) → FindsWorkers names (rows_at (codes "actor") tree) → first (faults_of names deployment_tables tree) ≡ None → IsDeployment (deployment_rows names tree)
+unfolding deployment_rows
 deployment_without_faults names tree finds none =
     let kept = no_faults names tree none in
     let actors = rows_at (codes "actor") tree in
@@ -62,8 +62,8 @@ deployment_without_faults names tree finds none =
       semaphores = All-map IsSemaphoreRow semaphore_row semaphores (rows_kept names tree _ Semaphore (λ row. IsSemaphoreRow (semaphore_row row)) (λ number row fine. semaphore_kept names number row fine) kept.semaphores);
     }
 
-pub deployed_without_faults : (names : Known) (tree : Members) (platform : Platform) → names.hosts ≡ length platform.hosts → first (faults_of names deployment_tables tree) ≡ None → IsDeployedOn platform (rows_of names tree)
-unfolding rows_of
+pub deployed_without_faults : (names : Known) (tree : Members) (platform : Platform) → names.hosts ≡ length platform.hosts → first (faults_of names deployment_tables tree) ≡ None → IsDeployedOn platform (deployment_rows names tree)
+unfolding deployment_rows
 deployed_without_faults names tree platform same none =
     let kept = no_faults names tree none in
     let actors = rows_at (codes "actor") tree in

@@ -1,4 +1,4 @@
--- What an actor does, where its row breaks no rule.
+-- What an actor does, if its row breaks no rule.
 use Rattle.std.proofs.Common.{◌≡◌, ℕ, ◌≤◌, Bool, true, false, cond, is_some, List, [], ◌∷◌, map, length, Option, Some, None, unwrap_or, codes, refl, sym, subst, inl, inr, arith}
 use Rattle.std.proofs.lemmas.Bool.{cases_Bool}
 use Rattle.std.proofs.lemmas.List.{length-map}

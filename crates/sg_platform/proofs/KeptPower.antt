@@ -2,7 +2,7 @@
 use Rattle.std.proofs.Common.{ℕ, ◌≤◌, nat_le, ℤ, List, [], ◌∷◌, Option, Some, None, IfSome, option_and_then, option_map, unwrap_or, codes, inl, inr, arith}
 use Rattle.std.proofs.lemmas.Bool.{cases_Bool}
 use Rattle.std.proofs.lemmas.Bool.Decides.{nat_tests}
-use Rattle.sg_platform.specs.Build.{power_of, whole_at, with_off}
+use Rattle.sg_platform.specs.Build.{host_power, whole_at, with_off}
 use Rattle.sg_tables.proofs.Greatest.{whole_within}
 use Rattle.sg_tables.specs.Units.{whole_value}
 use Rattle.sg_rows.specs.Platform.{IsPower}
@@ -54,5 +54,5 @@ of_items off low (idle ∷ (epsilon ∷ [])) = tt
 of_items off low (idle ∷ (epsilon ∷ (all ∷ []))) = of_three off low _ _ _ (item_small idle) (item_small epsilon) (item_small all)
 of_items off low (idle ∷ (epsilon ∷ (all ∷ (more ∷ rest)))) = tt
 
-pub power_kept : (row : Data) → IfSome (power_of row) IsPower
+pub power_kept : (row : Data) → IfSome (host_power row) IsPower
 power_kept row = of_items (whole_at 0 1000000000 0 (codes "power_off") row) (off_small (option_and_then as_integer (get (codes "power_off") row))) (items_at (codes "power") row)

@@ -57,7 +57,7 @@ host_below names counts counted row name empty =
     let below = point_under names.zones names.hosts there.0 there.2 there.3 in
     rw there.1 (omega (arith, below, counted.hosts))
 
--- These rules are those of what a profile is of, where its table has these hosts and links.
+-- These rules are those of what a profile is of, if its table has these hosts and links.
 record AreOfSubjects (names : Known) (number : ℕ) (row : Data) (earlier_hosts earlier_links : Finds) (host link : TextRule) : Type 0 where
   hosts : (name : List ℕ) → text_kinds names number row host name ≡ kind_if (is_taken (earlier_hosts name) number) Duplicate ++ host_kinds names name
   links : (name : List ℕ) → text_kinds names number row link name ≡ profiled_link_kinds names earlier_links number row name

@@ -73,7 +73,7 @@ child_below names counts counted name empty =
     let below = rw there.1 at (counted.points name) in
     rw there.1 (child_at names.zones counts.points there.0 counts counted.zones refl below)
 
--- where a gateway may be left out, its end is a point
+-- if a gateway may be left out, its end is a point
 absent_gateway : (names : Known) (counts : Counts) → IsCounted names counts → (end : List ℕ) → end_kinds names end ≡ [] → is_zone names (names.points end) ≡ false → (point_id names end).0 < counts.points
 absent_gateway names counts counted end empty no_zone =
     let there = end_there names end empty in

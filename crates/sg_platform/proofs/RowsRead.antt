@@ -1,7 +1,7 @@
 -- What was read of each table of a platform is what the tree gives.
 use Rattle.std.proofs.Common.{◌≡◌, ◌∙◌, ap, codes, map}
 use Rattle.sg_platform.specs.Build.{host_row, network_of, profile_row, route_row, router_row, spoke_row, state_profile_row, zone_route_row, zone_row}
-use Rattle.sg_platform.specs.PlatformOf.{links_of, rows_of}
+use Rattle.sg_platform.specs.PlatformOf.{links_of, platform_rows}
 use Rattle.sg_rows.specs.Ends.{link_ends}
 use Rattle.sg_rows.specs.Platform.{Platform}
 use Rattle.sg_names.specs.Names.{Known}
@@ -21,8 +21,8 @@ pub record IsRead (names : Known) (tree : Members) (p : Platform) : Type 0 where
   pub profiles : p.profiles ≡ map (profile_row names) (rows_at (codes "profile") tree)
   pub state_profiles : p.state_profiles ≡ map (state_profile_row names) (rows_at (codes "state_profile") tree)
 
-pub rows_read : (names : Known) (tree : Members) (p : Platform) → IsRead names tree p → p ≡ rows_of names tree
-unfolding rows_of
+pub rows_read : (names : Known) (tree : Members) (p : Platform) → IsRead names tree p → p ≡ platform_rows names tree
+unfolding platform_rows
 rows_read names tree p read =
     let spokes = read.spokes ∙ ap (λ links. map (spoke_row names (link_ends links)) (rows_at (codes "spoke") tree)) read.links in
     λ i. record {

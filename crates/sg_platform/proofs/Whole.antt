@@ -11,7 +11,7 @@ use Rattle.sg_platform.specs.Build.{host_row, link_row, network_row, profile_row
 use Rattle.sg_rows.specs.Ends.{ends_from, ends_of, link_ends}
 use Rattle.sg_rows.specs.Network.{IsNetwork}
 use Rattle.sg_rows.specs.Platform.{Counts, IsHostRow, IsLinkRow, IsPlatform, IsProfileRow, IsRouteRow, IsRouterRow, IsSpokeRow, IsStateProfileRow, IsZoneRouteRow, IsZoneRow, counts_of}
-use Rattle.sg_platform.specs.PlatformOf.{links_of, rows_of}
+use Rattle.sg_platform.specs.PlatformOf.{links_of, platform_rows}
 use Rattle.sg_rows.specs.declared.rows.Policy.TheVariants.{Shared, Fatpipe, SplitDuplex}
 use Rattle.sg_rules.proofs.Kept.{rows_few, rows_kept}
 use Rattle.sg_names.proofs.NumbersBelow.{links_below, points_below}
@@ -121,16 +121,16 @@ counted tree =
       declared = λ q. below_less _ (length (flat_map link_names links)) (length (link_ends (links_of tree))) (omega (arith, names_within 0 links, link_ends_count (links_of tree))) (links_below tree q);
     }
 
-counts_same : (names : Known) (tree : Members) → counts_in tree ≡ counts_of (rows_of names tree)
-unfolding counts_in rows_of
+counts_same : (names : Known) (tree : Members) → counts_in tree ≡ counts_of (platform_rows names tree)
+unfolding counts_in platform_rows
 counts_same names tree =
     let zones = sym (length-map (rows_at (codes "zone") tree) (zone_row names)) in
     let hosts = sym (length-map (rows_at (codes "host") tree) (host_row names)) in
     let routers = sym (length-map (rows_at (codes "router") tree) (router_row names)) in
     λ i. record { zones = zones i; hosts = hosts i; points = hosts i + routers i; links = length (link_ends (links_of tree)) }
 
-rows_platform : (names : Known) (tree : Members) (counts : Counts) → counts ≡ counts_of (rows_of names tree) → IsCounted names counts → counts.links ≡ length (link_ends (links_of tree)) → NoFaults names tree → IsPlatform (rows_of names tree)
-unfolding rows_of
+rows_platform : (names : Known) (tree : Members) (counts : Counts) → counts ≡ counts_of (platform_rows names tree) → IsCounted names counts → counts.links ≡ length (link_ends (links_of tree)) → NoFaults names tree → IsPlatform (platform_rows names tree)
+unfolding platform_rows
 rows_platform names tree counts same kept ends none =
     let zones = rows_at (codes "zone") tree in
     let hosts = rows_at (codes "host") tree in
@@ -176,6 +176,6 @@ links_count : (tree : Members) → (counts_in tree).links ≡ length (link_ends 
 unfolding counts_in
 links_count tree = refl
 
-pub platform_without_faults : (names : Known) (tree : Members) → names ≡ platform_known tree → first (faults_of names platform_tables tree) ≡ None → IsPlatform (rows_of names tree)
+pub platform_without_faults : (names : Known) (tree : Members) → names ≡ platform_known tree → first (faults_of names platform_tables tree) ≡ None → IsPlatform (platform_rows names tree)
 platform_without_faults names tree known none =
     rows_platform names tree (counts_in tree) (counts_same names tree) (subst (λ k. IsCounted k (counts_in tree)) (sym known) (counted tree)) (links_count tree) (no_faults names tree none)

@@ -1,4 +1,5 @@
--- Which rule a text breaks, by what its reader tells; of no TOML, and for want of memory, none.
+-- Which rule a text breaks, by what its reader reports; none for bytes that aren't TOML, or if
+-- memory runs out.
 use Rattle.std.specs.Prelude.{Option, Some, None}
 use Rattle.sg_platform.specs.declared.deployment.DeploymentFault.{DeploymentFault}
 use Rattle.sg_platform.specs.declared.deployment.DeploymentFault.TheVariants as deployment

@@ -1,4 +1,4 @@
--- The rows that a tree gives, where it has no fault. A value that is missing or unfit stands for its default here.
+-- The rows that a tree gives, if it has no fault. A value that is missing or unfit stands for its default here.
 use Rattle.std.specs.Prelude.{ℕ, ◌-◌, Bool, false, nat_lt, List, map, if◌then◌else◌, Option, option_map, option_and_then, unwrap_or, codes}
 use Rattle.std.specs.Option.{option_map_or}
 use Rattle.std.specs.Str.{bytes_eq}
@@ -44,6 +44,7 @@ use Rattle.sg_tree.specs.Along.{first}
 use Rattle.sg_tree.specs.Tree.{text_at, text_or_empty}
 use Rattle.toml.specs.Data.{Data, get, as_integer}
 
+-- the zone of a name; an unknown name gives the first zone
 abbrev pub zone_id : Known → List ℕ → ZoneId
 zone_id names name = record { 0 = unwrap_or (names.points name) 0 }
 
@@ -51,10 +52,11 @@ zone_id names name = record { 0 = unwrap_or (names.points name) 0 }
 abbrev pub point_id : Known → List ℕ → PointId
 point_id names name = record { 0 = unwrap_or (names.points name) 0 - names.zones }
 
+-- the routing of a word: Star, Dijkstra, or else Full
 abbrev pub routing_of : List ℕ → Routing
 routing_of text = if bytes_eq text (codes "Star") then Star else if bytes_eq text (codes "Dijkstra") then Dijkstra else Full
 
--- the whole number at a key, where it is from the least to the greatest, or this default
+-- the whole number at a key, if it is from the least to the greatest, or this default
 abbrev pub whole_at : ℕ → ℕ → ℕ → List ℕ → Data → ℕ
 whole_at least greatest default key row = unwrap_or (option_and_then (whole_value least greatest) (option_and_then as_integer (get key row))) default
 
@@ -66,22 +68,25 @@ value_at quantity default key row = unwrap_or (option_and_then (quantity_value q
 abbrev pub with_off : ℕ → Powers → Power
 with_off off powers = record { idle = powers.idle; epsilon = powers.epsilon; all = powers.all; off = off }
 
--- what a host draws, where the row says it
-abbrev pub power_of : Data → Option Power
-power_of row = option_map (with_off (whole_at 0 1000000000 0 (codes "power_off") row)) (powers_in (items_at (codes "power") row))
+-- what a host draws, if the row says it
+abbrev pub host_power : Data → Option Power
+host_power row = option_map (with_off (whole_at 0 1000000000 0 (codes "power_off") row)) (powers_in (items_at (codes "power") row))
 
+-- the link of a name; an unknown name gives the first link
 abbrev pub link_id : Known → List ℕ → LinkId
 link_id names name = record { 0 = unwrap_or (names.links name) 0 }
 
+-- what a name in a zone stands for: a child zone, or a host or router
 abbrev pub child_of : Known → List ℕ → Child
 child_of names name =
     let number = unwrap_or (names.points name) 0 in
     if nat_lt number names.zones then ZoneChild (record { 0 = number }) else PointChild (record { 0 = number - names.zones })
 
--- the point that a key names; where it is absent, the end is its own gateway
+-- the point that a key names; if it is absent, the end is its own gateway
 abbrev pub gateway : Known → Data → List ℕ → List ℕ → PointId
 gateway names row key end = point_id names (unwrap_or (text_at key row) (text_or_empty end row))
 
+-- the sharing policy of a word: SPLITDUPLEX, FATPIPE, or else SHARED
 abbrev pub policy_of : List ℕ → Policy
 policy_of text = if bytes_eq text (codes "SPLITDUPLEX") then SplitDuplex else if bytes_eq text (codes "FATPIPE") then Fatpipe else Shared
 
@@ -93,7 +98,7 @@ amounts_at quantity key row = map (amount_or_zero quantity) (items_at key row)
 abbrev pub states_at : List ℕ → Data → List Bool
 states_at key row = map (λ item. unwrap_or (state_in item) false) (items_at key row)
 
--- a host where the row names one, else a link
+-- a host if the row names one, else a link
 abbrev pub subject_of : Known → Data → Profiled
 subject_of names row = option_map_or (λ host. OfHost (point_id names host)) (text_at (codes "host") row) (OfLink (link_id names (text_or_empty (codes "link") row)))
 
@@ -101,10 +106,11 @@ subject_of names row = option_map_or (λ host. OfHost (point_id names host)) (te
 abbrev pub links_at : Known → List ℕ → Data → List LinkId
 links_at names key row = map (λ item. link_id names (text_of item)) (items_at key row)
 
--- the links down to a child: by default the way back of those up
+-- the links down to a child: by default the reverse of those up
 abbrev pub down_links : Known → List LinkEnd → Data → List LinkId → List LinkId
 down_links names ends row up = option_map_or (λ d. links_at names (codes "down") row) (get (codes "down") row) (way_back ends up)
 
+-- the zone that a row declares: its name, its parent and its routing
 unfoldable pub zone_row : Known → Data → ZoneRow
 zone_row names row = record {
   id = text_or_empty (codes "id") row;
@@ -112,18 +118,21 @@ zone_row names row = record {
   routing = routing_of (text_or_empty (codes "routing") row);
 }
 
+-- the host that a row declares: its name, zone, speed, cores (by default 1) and power
 unfoldable pub host_row : Known → Data → HostRow
 host_row names row = record {
   id = text_or_empty (codes "id") row;
   zone = zone_id names (text_or_empty (codes "zone") row);
   speed = value_at Speed 0 (codes "speed") row;
   cores = whole_at 1 1024 1 (codes "core") row;
-  power = power_of row;
+  power = host_power row;
 }
 
+-- the router that a row declares: its name and its zone
 unfoldable pub router_row : Known → Data → RouterRow
 router_row names row = record { id = text_or_empty (codes "id") row; zone = zone_id names (text_or_empty (codes "zone") row) }
 
+-- the link that a row declares: its name, bandwidth, latency and sharing policy
 unfoldable pub link_row : Data → LinkRow
 link_row row = record {
   id = text_or_empty (codes "id") row;
@@ -132,6 +141,7 @@ link_row row = record {
   policy = policy_of (text_or_empty (codes "sharing_policy") row);
 }
 
+-- the route that a row declares: its two points, its links, and whether it is symmetrical
 unfoldable pub route_row : Known → Data → RouteRow
 route_row names row = record {
   src = point_id names (text_or_empty (codes "src") row);
@@ -140,6 +150,7 @@ route_row names row = record {
   symmetrical = truth_at (codes "symmetrical") row;
 }
 
+-- the route between two children of a zone that a row declares, with the gateways
 unfoldable pub zone_route_row : Known → Data → ZoneRouteRow
 zone_route_row names row = record {
   src = child_of names (text_or_empty (codes "src") row);
@@ -150,6 +161,7 @@ zone_route_row names row = record {
   symmetrical = truth_at (codes "symmetrical") row;
 }
 
+-- the spoke that a row declares: a child of a star zone, its gateway, and the links up and down
 unfoldable pub spoke_row : Known → List LinkEnd → Data → SpokeRow
 spoke_row names ends row = record {
   zone = zone_id names (text_or_empty (codes "zone") row);
@@ -159,6 +171,7 @@ spoke_row names ends row = record {
   down = down_links names ends row (links_at names (codes "up") row);
 }
 
+-- the profile that a row declares: speeds or bandwidths at dates, and the period if it repeats
 unfoldable pub profile_row : Known → Data → ProfileRow
 profile_row names row = record {
   of = subject_of names row;
@@ -167,6 +180,7 @@ profile_row names row = record {
   gap = option_and_then (quantity_value Time) (text_at (codes "loop") row);
 }
 
+-- the profile that a row declares: when a host or link is on or off
 unfoldable pub state_profile_row : Known → Data → StateProfileRow
 state_profile_row names row = record {
   of = subject_of names row;
@@ -175,12 +189,15 @@ state_profile_row names row = record {
   gap = option_and_then (quantity_value Time) (text_at (codes "loop") row);
 }
 
+-- the mutex that a row declares, which has a name only
 unfoldable pub mutex_row : Data → MutexRow
 mutex_row row = record { id = text_or_empty (codes "id") row }
 
+-- the semaphore that a row declares: its name and its capacity
 unfoldable pub semaphore_row : Data → SemaphoreRow
 semaphore_row row = record { id = text_or_empty (codes "id") row; capacity = whole_at 0 1000000000 0 (codes "capacity") row }
 
+-- the actor that a row declares: its name, host and function, and whether it begins with the run
 unfoldable pub actor_row : Known → Data → ActorRow
 actor_row names row = record {
   name = text_or_empty (codes "name") row;
@@ -189,6 +206,7 @@ actor_row names row = record {
   start = truth_at (codes "start") row;
 }
 
+-- the network model that a row declares: latency factor, bandwidth factor and window, each with a default
 unfoldable pub network_row : Data → Network
 network_row row = record {
   latency_factor = value_at Factor plain_network.latency_factor (codes "latency_factor") row;
@@ -196,6 +214,6 @@ network_row row = record {
   window = value_at Amount plain_network.window (codes "window") row;
 }
 
--- that of the one row that there may be
+-- the network of the one row that there may be
 abbrev pub network_of : List Data → Network
 network_of rows = option_map_or network_row (first rows) plain_network

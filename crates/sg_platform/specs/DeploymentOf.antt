@@ -1,5 +1,5 @@
--- The deployment that a text describes on a platform; or its fault of least place, and there of least kind, and none where
--- it is no TOML.
+-- The deployment that a text describes on a platform; or its fault of least place, and there of least kind, and none if
+-- it isn't TOML.
 use Rattle.std.specs.Prelude.{ℕ, List, map, length, codes, Option, Result}
 use Rattle.sg_platform.specs.Build.{actor_row, mutex_row, semaphore_row}
 use Rattle.sg_rows.specs.Deployment.{Deployed}
@@ -19,8 +19,8 @@ abbrev pub names_on : Platform → Members → Known
 names_on platform tree = known_by 0 (length platform.hosts) (host_number platform.hosts) tree
 
 -- the rows of a tree that has no fault
-unfoldable pub rows_of : Known → Members → Deployed
-rows_of names tree = record {
+unfoldable pub deployment_rows : Known → Members → Deployed
+deployment_rows names tree = record {
   actors = map (actor_row names) (rows_at (codes "actor") tree);
   mutexes = map mutex_row (rows_at (codes "mutex") tree);
   semaphores = map semaphore_row (rows_at (codes "semaphore") tree);
@@ -29,7 +29,8 @@ rows_of names tree = record {
 -- the first fault of the tree, else its rows
 unfoldable pub tree_deployment : Platform → Members → Result Deployed (Option Fault)
 tree_deployment platform tree =
-    rows_unless (first (faults_of (names_on platform tree) deployment_tables tree)) (rows_of (names_on platform tree) tree)
+    rows_unless (first (faults_of (names_on platform tree) deployment_tables tree)) (deployment_rows (names_on platform tree) tree)
 
+-- the deployment that a text describes on a platform, or its first fault
 unfoldable pub deployment_of : List ℕ → Platform → Result Deployed (Option Fault)
 deployment_of bytes platform = text_by (tree_deployment platform) bytes

@@ -1,4 +1,4 @@
--- The platform that a text describes; or its fault of least place, and there of least kind, and none where it is no TOML.
+-- The platform that a text describes; or its fault of least place, and there of least kind, and none if it isn't TOML.
 use Rattle.std.specs.Prelude.{ℕ, List, map, length, codes, if◌then◌else◌, nat_lt, Option, Some, None, Result, Ok, Err}
 use Rattle.std.specs.Option.{option_map_or}
 use Rattle.sg_platform.specs.Build.{host_row, link_row, network_of, profile_row, route_row, router_row, spoke_row, state_profile_row, zone_route_row, zone_row}
@@ -14,12 +14,13 @@ use Rattle.sg_tree.specs.declared.fault.Fault.{Fault}
 use Rattle.sg_tree.specs.declared.fault.Kind.TheVariants.{Limit}
 use Rattle.toml.specs.Data.{Members}
 
+-- the links that a platform text declares, without the loopback
 abbrev pub links_of : Members → List LinkRow
 links_of tree = map link_row (rows_at (codes "link") tree)
 
 -- the rows of a tree that has no fault
-unfoldable pub rows_of : Known → Members → Platform
-rows_of names tree = record {
+unfoldable pub platform_rows : Known → Members → Platform
+platform_rows names tree = record {
   zones = map (zone_row names) (rows_at (codes "zone") tree);
   hosts = map (host_row names) (rows_at (codes "host") tree);
   routers = map (router_row names) (rows_at (codes "router") tree);
@@ -36,8 +37,9 @@ rows_of names tree = record {
 abbrev pub rows_unless : {R : Type 0} → Option Fault → R → Result R (Option Fault)
 rows_unless fault rows = option_map_or (λ f. Err (Some f)) fault (Ok rows)
 
+-- the platform that a tree describes, or its first fault
 unfoldable pub tree_platform : Members → Result Platform (Option Fault)
-tree_platform tree = rows_unless (first (faults_of (platform_known tree) platform_tables tree)) (rows_of (platform_known tree) tree)
+tree_platform tree = rows_unless (first (faults_of (platform_known tree) platform_tables tree)) (platform_rows (platform_known tree) tree)
 
 -- the greatest text that is read, in bytes
 abbrev pub greatest_text : ℕ
@@ -51,5 +53,6 @@ too_long = record { place = record { table = 0; row = 0; key = 0 }; kind = Limit
 abbrev pub text_by : {R : Type 0} → (Members → Result R (Option Fault)) → List ℕ → Result R (Option Fault)
 text_by given bytes = if nat_lt greatest_text (length bytes) then Err (Some too_long) else option_map_or given (tree_of bytes) (Err None)
 
+-- the platform that a text describes, or its first fault; no fault is named if it is not TOML
 unfoldable pub platform_of : List ℕ → Result Platform (Option Fault)
 platform_of bytes = text_by tree_platform bytes

@@ -1,7 +1,7 @@
 //! Makes rows of a tree that has no fault.
 ghost use Rattle.std.specs.Prelude.{◌≡◌, ◌∷◌, [], List, IfOk, codes, map, option_and_then, unwrap_or};
 ghost use Rattle.std.specs.HashMap.{get_by_text};
-ghost use Rattle.sg_platform.specs.Build.{actor_row, amounts_at, child_of, down_links, gateway, host_row, link_id, link_row, links_at, mutex_row, network_of, network_row, point_id, policy_of, power_of, profile_row, route_row, router_row, routing_of, semaphore_row, spoke_row, state_profile_row, states_at, subject_of, value_at, whole_at, zone_id, zone_route_row, zone_row};
+ghost use Rattle.sg_platform.specs.Build.{actor_row, amounts_at, child_of, down_links, gateway, host_row, link_id, link_row, links_at, mutex_row, network_of, network_row, point_id, policy_of, host_power, profile_row, route_row, router_row, routing_of, semaphore_row, spoke_row, state_profile_row, states_at, subject_of, value_at, whole_at, zone_id, zone_route_row, zone_row};
 ghost use Rattle.sg_rows.specs.declared.ends.LinkEnd.{LinkEnd};
 ghost use Rattle.sg_names.specs.Names.{Known};
 ghost use Rattle.sg_tables.specs.Units.{quantity_value};
@@ -77,7 +77,7 @@ fn core_count(row: &Value) -> u32
     }
 }
 
-/// The whole number at a key, where it is from the least to the greatest, or this default.
+/// Returns the whole number at a key, if it is from the least to the greatest, or this default.
 fn whole_at(least: u64, greatest: u64, default: u64, row: &Value, key: &str) -> u64
     ensures { result ≡ whole_at least greatest default key.now (view row.now) }
 {
@@ -90,7 +90,7 @@ fn whole_at(least: u64, greatest: u64, default: u64, row: &Value, key: &str) -> 
     }
 }
 
-/// The amount at a key, or this default.
+/// Returns the amount at a key, or this default.
 fn value_at(quantity: Quantity, default: u64, row: &Value, key: &str) -> u64
     ensures { result ≡ value_at quantity default key.now (view row.now) }
 {
@@ -100,9 +100,9 @@ fn value_at(quantity: Quantity, default: u64, row: &Value, key: &str) -> u64
     }
 }
 
-/// What a host draws, where the row says it.
+/// Returns what a host draws, if the row says it.
 fn power_of(row: &Value) -> Option<Power>
-    ensures { result ≡ power_of (view row.now) }
+    ensures { result ≡ host_power (view row.now) }
 {
     let off = whole_at(0, 1_000_000_000, 0, row, "power_off");
     match powers_in(items_at(row, "power")) {
@@ -133,7 +133,7 @@ fn child_of(names: &Names, name: &str) -> Child
     }
 }
 
-/// The point that a key names; where it is absent, the end is its own gateway.
+/// Returns the point that a key names; if it is absent, the end is its own gateway.
 fn gateway(names: &Names, row: &Value, key: &str, end: &str) -> PointId
     ensures { result ≡ gateway (names_view names.now) (view row.now) key.now end.now }
 {
@@ -155,7 +155,7 @@ fn policy_of(text: &str) -> Policy
     }
 }
 
-/// The links that a list at a key names.
+/// Returns the links that a list at a key names.
 fn links_at(alloc: Global, names: &Names, row: &Value, key: &str) -> Result<Links, Memory>
     ensures { IfOk result
         (λ links. links ≡ links_at (names_view names.now) key.now (view row.now)) }
@@ -168,7 +168,7 @@ fn links_at(alloc: Global, names: &Names, row: &Value, key: &str) -> Result<Link
     Ok(Links::from_vec(made))
 }
 
-/// The amounts that the items of the array at a key give.
+/// Returns the amounts that the items of the array at a key give.
 fn amounts_at(alloc: Global, quantity: Quantity, row: &Value, key: &str) -> Result<Numbers, Memory>
     ensures { IfOk result (λ amounts. amounts ≡ amounts_at quantity key.now (view row.now)) }
 {
@@ -180,7 +180,7 @@ fn amounts_at(alloc: Global, quantity: Quantity, row: &Value, key: &str) -> Resu
     Ok(Numbers::from_vec(made))
 }
 
-/// The states that the items of the array at a key give.
+/// Returns the states that the items of the array at a key give.
 fn states_at(alloc: Global, row: &Value, key: &str) -> Result<States, Memory>
     ensures { IfOk result (λ states. states ≡ states_at key.now (view row.now)) }
 {
@@ -201,7 +201,7 @@ fn subject_of(names: &Names, row: &Value) -> Profiled
     }
 }
 
-/// How long after its last date a profile begins anew, where it does.
+/// Returns how long after its last date a profile begins anew, if it does.
 fn gap_of(row: &Value) -> Option<u64>
     ensures { result
         ≡ option_and_then (quantity_value quantity.Time)
@@ -213,7 +213,7 @@ fn gap_of(row: &Value) -> Option<u64>
     }
 }
 
-/// The links down to a child: by default the way back of those up.
+/// Returns the links down to a child: by default the reverse of those up.
 fn down_links(
     alloc: Global,
     names: &Names,
@@ -242,7 +242,7 @@ fn network_row(row: &Value) -> Network
     }
 }
 
-/// The network of the one row that there may be.
+/// Returns the network of the one row that there may be.
 pub fn network_of(rows: &[Value]) -> Network
     ensures { result ≡ network_of (map view rows.now) }
 {
@@ -261,7 +261,7 @@ pub trait Row: Sized {
             (λ made. made ≡ row_of (names_view names.now) ends.now (view row.now)) };
 }
 
-/// What rows of a tree give; each of them is let go once it is read.
+/// Reads rows of a tree; each of them is dropped once it is read.
 fn read_rows<R: Row + Drop>(
     alloc: Global,
     names: &Names,
@@ -279,7 +279,7 @@ fn read_rows<R: Row + Drop>(
     Ok(made)
 }
 
-/// The rows of a table, which is taken out of the tree.
+/// Returns the rows of a table, which is taken out of the tree.
 pub fn read_table<R: Row + Drop>(
     alloc: Global,
     names: &Names,

@@ -3,7 +3,7 @@ ghost use Rattle.std.specs.Prelude.{◌≡◌, ◌≢◌, Err, IfOk, Some};
 ghost use Rattle.std.specs.Result.{result_map_both};
 ghost use Rattle.sg_rows.specs.Deployment.{IsDeployedOn, IsDeployment};
 ghost use Rattle.sg_platform.specs.BrokenRules.{deployment_rule};
-ghost use Rattle.sg_platform.specs.DeploymentOf.{deployment_of, names_on, rows_of, tree_deployment};
+ghost use Rattle.sg_platform.specs.DeploymentOf.{deployment_of, names_on, deployment_rows, tree_deployment};
 ghost use Rattle.sg_platform.specs.declared.deployment.DeploymentFault.TheVariants.{Memory};
 ghost use Rattle.sg_names.specs.kept.NamesView.{names_view};
 ghost use Rattle.toml.specs.View.{table_view};
@@ -54,7 +54,7 @@ impl From<sg_base::Memory> for DeploymentFault {
 }
 
 impl DeploymentFault {
-    /// The rule that the text breaks, if it breaks one.
+    /// Returns the rule that the text breaks, if it breaks one.
     pub fn rule(&self) -> Option<Fault>
         ensures { result ≡ deployment_rule self.now }
     {
@@ -91,14 +91,14 @@ fn fault_of(fault: Fault) -> DeploymentFault
     }
 }
 
-#[tactic(auto, unfolding(crate::specs::DeploymentOf::rows_of))]
+#[tactic(auto, unfolding(crate::specs::DeploymentOf::deployment_rows))]
 fn rows_of(
     alloc: Global,
     names: &Names,
     tree: &mut toml::Table,
 ) -> Result<Deployment, sg_base::Memory>
-    requires { IsDeployment (rows_of (names_view names.now) (table_view tree.old)) }
-    ensures { IfOk result (λ d. d ≡ rows_of (names_view names.now) (table_view tree.old)) }
+    requires { IsDeployment (deployment_rows (names_view names.now) (table_view tree.old)) }
+    ensures { IfOk result (λ d. d ≡ deployment_rows (names_view names.now) (table_view tree.old)) }
 {
     let actors = read_table::<ActorRow>(alloc, names, &[], tree, "actor")?;
     let mutexes = read_table::<MutexRow>(alloc, names, &[], tree, "mutex")?;
@@ -106,7 +106,7 @@ fn rows_of(
     Deployment::with_rows(alloc, actors, mutexes, semaphores)
 }
 
-/// The names that stand beside a platform.
+/// Returns the names that stand beside a platform.
 fn names_on(
     alloc: Global,
     tree: &toml::Table,
@@ -120,7 +120,7 @@ fn names_on(
     Ok(names)
 }
 
-/// The deployment of a tree whose names on the platform these are. Its tables are taken out of it.
+/// Returns the deployment of a tree whose names on the platform these are. Its tables are taken out of it.
 #[tactic(auto, unfolding(crate::specs::DeploymentOf::tree_deployment))]
 fn deployment_in(
     alloc: Global,
@@ -156,7 +156,7 @@ fn tree_deployment(
 ///
 /// # Errors
 ///
-/// The text's fault of least place, and there of least kind, or want of memory.
+/// The text's fault of least place, and there of least kind, or out of memory.
 #[tactic(auto, unfolding(crate::specs::DeploymentOf::deployment_of))]
 pub fn read_deployment(
     alloc: Global,

@@ -1,4 +1,4 @@
-//! What the actors of a tree do, where it has no fault.
+//! What the actors of a tree do, if it has no fault.
 ghost use Rattle.std.specs.Prelude.{◌≡◌, IfOk, map};
 ghost use Rattle.sg_platform.specs.Functions.{amount_or_zero, function_of, master_of, worker_id};
 ghost use Rattle.sg_names.specs.kept.NamesView.{names_view};
@@ -19,7 +19,7 @@ fn amount_of(item: &Value) -> u64
     amount_in(Quantity::Amount, item).unwrap_or(0)
 }
 
-/// The worker that an argument names.
+/// Returns the worker that an argument names.
 fn worker_id(names: &Names, item: &Value) -> ActorId
     ensures { result ≡ worker_id (names_view names.now) (view item.now) }
 {
@@ -40,7 +40,7 @@ fn worker_ids(alloc: Global, names: &Names, items: &[Value]) -> Result<Ids, Memo
     Ok(Ids::from_vec(made))
 }
 
-/// The function of a master that is given these arguments.
+/// Returns the function of a master that is given these arguments.
 fn master_of(alloc: Global, names: &Names, items: &[Value]) -> Result<Function, Memory>
     ensures { IfOk result
         (λ function. function ≡ master_of (names_view names.now) (map view items.now)) }
@@ -61,7 +61,7 @@ fn master_of(alloc: Global, names: &Names, items: &[Value]) -> Result<Function, 
     }
 }
 
-/// What the actor of a row does.
+/// Returns what the actor of a row does.
 #[tactic(auto, unfolding(crate::specs::Functions::function_of))]
 pub fn function_of(alloc: Global, names: &Names, row: &Value) -> Result<Function, Memory>
     ensures { IfOk result

@@ -1,5 +1,5 @@
-//! Reads platforms and deployments in TOML. A text that is refused is told its fault of least place: table, then row,
-//! then key; at one place the one of least kind.
+//! Reads platforms and deployments in TOML. Of a text that is refused the fault of least place is reported: table, then
+//! row, then key; at one place the one of least kind.
 //! One enters by `read_platform` and `read_deployment`; the types of rows and places are those of the crates below.
 //! It stands on `sg_rules`, which finds the fault, `sg_rows`, which it makes, and what is below these.
 #![tactic(auto)]

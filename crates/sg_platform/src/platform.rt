@@ -5,7 +5,7 @@ ghost use Rattle.sg_rows.specs.Platform.{IsPlatform, rows_view};
 ghost use Rattle.sg_rows.specs.Ends.{link_ends};
 ghost use Rattle.sg_platform.specs.Build.{host_row, profile_row, route_row, router_row, spoke_row, state_profile_row, zone_route_row, zone_row};
 ghost use Rattle.sg_platform.specs.BrokenRules.{platform_rule};
-ghost use Rattle.sg_platform.specs.PlatformOf.{links_of, platform_of, rows_of, tree_platform};
+ghost use Rattle.sg_platform.specs.PlatformOf.{links_of, platform_of, platform_rows, tree_platform};
 ghost use Rattle.sg_platform.specs.declared.platform.PlatformFault.TheVariants.{Memory};
 ghost use Rattle.sg_names.specs.Names.{platform_known};
 ghost use Rattle.sg_rules.specs.PlatformKinds.{IsPlatformFault};
@@ -59,7 +59,7 @@ impl From<sg_base::Memory> for PlatformFault {
 }
 
 impl PlatformFault {
-    /// The rule that the text breaks, if it breaks one.
+    /// Returns the rule that the text breaks, if it breaks one.
     pub fn rule(&self) -> Option<Fault>
         ensures { result ≡ platform_rule self.now }
     {
@@ -172,7 +172,7 @@ fn read_routes(
     })
 }
 
-/// The rows of links, and those of routes over them.
+/// Returns the rows of links, and those of routes over them.
 fn read_ways(
     alloc: Global,
     names: &Names,
@@ -230,7 +230,7 @@ fn read_profiles(
     })
 }
 
-/// The rows of a tree, all of whose tables are taken out of it.
+/// Returns the rows of a tree, all of whose tables are taken out of it.
 fn read_all(
     alloc: Global,
     names: &Names,
@@ -238,7 +238,7 @@ fn read_all(
 ) -> Result<PlatformRows, sg_base::Memory>
     requires { length (links_of (table_view tree.old)) ≤ 65536 }
     ensures { IfOk result
-        (λ rows. rows_view rows ≡ rows_of (names_view names.now) (table_view tree.old)) }
+        (λ rows. rows_view rows ≡ platform_rows (names_view names.now) (table_view tree.old)) }
 {
     let network = network_of(rows_at(tree, "network"));
     let places = read_places(alloc, names, tree)?;
@@ -263,14 +263,14 @@ fn rows_of(
     names: &Names,
     tree: &mut toml::Table,
 ) -> Result<PlatformText, sg_base::Memory>
-    requires { IsPlatform (rows_of (names_view names.now) (table_view tree.old)) }
-    ensures { IfOk result (λ p. p ≡ rows_of (names_view names.now) (table_view tree.old)) }
+    requires { IsPlatform (platform_rows (names_view names.now) (table_view tree.old)) }
+    ensures { IfOk result (λ p. p ≡ platform_rows (names_view names.now) (table_view tree.old)) }
 {
     let rows = read_all(alloc, names, tree)?;
     Ok(PlatformText::with_rows(rows))
 }
 
-/// The platform of a tree whose names these are. Its tables are taken out of it.
+/// Returns the platform of a tree whose names these are. Its tables are taken out of it.
 #[tactic(auto, unfolding(crate::specs::PlatformOf::tree_platform))]
 fn platform_in(
     alloc: Global,
@@ -298,7 +298,7 @@ fn tree_platform(alloc: Global, tree: &mut toml::Table) -> Result<PlatformText, 
 /// The greatest text that is read, in bytes.
 pub const GREATEST_TEXT: usize = 16_777_216;
 
-/// The tree of a text that is not too long.
+/// Returns the tree of a text that is not too long.
 #[tactic(auto, unfolding(crate::specs::PlatformOf::platform_of))]
 fn text_tree(alloc: Global, bytes: &[u8]) -> Result<toml::Table, PlatformFault>
     ensures tree { IfOk result (λ tree. platform_of bytes.now ≡ tree_platform (table_view tree)) }
@@ -324,7 +324,7 @@ fn text_tree(alloc: Global, bytes: &[u8]) -> Result<toml::Table, PlatformFault>
 ///
 /// # Errors
 ///
-/// The text's fault of least place, and there of least kind, or want of memory.
+/// The text's fault of least place, and there of least kind, or out of memory.
 pub fn read_platform(alloc: Global, bytes: &[u8]) -> Result<PlatformText, PlatformFault>
     ensures { result ≢ Err Memory
         → result_map_both (λ p. p) platform_rule result ≡ platform_of bytes.now }
@@ -335,7 +335,7 @@ pub fn read_platform(alloc: Global, bytes: &[u8]) -> Result<PlatformText, Platfo
     }
 }
 
-/// Reads a platform as `read_platform` does, and lets its text go as soon as its tree stands.
+/// Reads a platform as `read_platform` does, and drops its text as soon as its tree is there.
 ///
 /// # Errors
 ///

@@ -6,7 +6,7 @@ use Rattle.sg_profile.specs.declared.turn.Turn.{Turn}
 use Rattle.sg_profile.specs.Ahead.{IsNear}
 use Rattle.sg_profile.specs.Laws.{AheadAtFirst, AheadMoves, AheadSteps, NextIsNear, NoneIsBefore, RowsAreLeft}
 use Rattle.sg_profile.specs.declared.profile.Profile.{Profile}
-use Rattle.sg_profile.specs.Profiles.{AreProfiles, IsSchedule, date_of, dates_of, earliest, first_turn, first_turns, profile_at, rows_due, rows_due_from, turns_after_row, turn_after, turn_at}
+use Rattle.sg_profile.specs.Profiles.{AreProfiles, IsSchedule, next_entry_date, dates_of, earliest, first_turn, first_turns, profile_at, rows_due, rows_due_from, turns_after_row, turn_after, turn_at}
 use Rattle.sg_profile.proofs.Cases.{no_profile}
 use Rattle.sg_profile.proofs.Dates.{IsDated, dates_set, row_dated}
 use Rattle.sg_profile.proofs.Earliest.{earliest_held, earliest_to}
@@ -15,7 +15,7 @@ use Rattle.sg_profile.proofs.RowsOfDate.{first_there, none_there, rest_there}
 
 -- the date that a row has once it is past its next entry
 abbrev date_after : List Profile → List Turn → ℕ → Option ℕ
-date_after profiles turns row = date_of (profile_at profiles row) (turn_after (profile_at profiles row) (turn_at turns row))
+date_after profiles turns row = next_entry_date (profile_at profiles row) (turn_after (profile_at profiles row) (turn_at turns row))
 
 -- what holds of the first row of a date
 record IsFirstOf (profiles : List Profile) (turns : List Turn) (row date : ℕ) : Type 0 where
@@ -60,7 +60,7 @@ pub ahead_at_first : AheadAtFirst
 ahead_at_first hosts links profiles are row next there =
     let dated = row_dated profiles (first_turns profiles) row next there in
     let turn : turn_at (first_turns profiles) row ≡ first_turn = get_or-replicate (length profiles) row first_turn first_turn dated.within in
-    let left = date_left (profile_at profiles row) first_turn next (sym (ap (date_of (profile_at profiles row)) turn) ∙ dated.date_is) in
+    let left = date_left (profile_at profiles row) first_turn next (sym (ap (next_entry_date (profile_at profiles row)) turn) ∙ dated.date_is) in
     let small = date_small (profile_at profiles row) 0 (are row no_profile dated.within).schedule left.within in
     record { from = omega arith; to = omega (arith, left.date_is, small) }
 

@@ -11,7 +11,7 @@ use Rattle.sg_rows.specs.declared.rows.StateProfileRow.{StateProfileRow}
 abbrev pub profiles_of : List ProfileRow → List StateProfileRow → List Profile
 profiles_of rows states = map profile_of rows ++ map state_profile_of states
 
--- behind the last entry
+-- after the last entry
 abbrev pub turn_over : Option ℕ → Turn → Turn
 turn_over gap turn = option_map_or (λ gap. record { number = turn.number + 1; entry = 0 }) gap (record turn { entry = turn.entry + 1 })
 

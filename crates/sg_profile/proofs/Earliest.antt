@@ -68,7 +68,7 @@ earliest_is dates row date there least =
     let same : to.first ≡ date = omega (arith, to.to, from) in
     to.is ∙ ap Some same
 
--- where no row has a date, none is the earliest
+-- if no row has a date, none is the earliest
 pub none_earliest : (dates : List (Option ℕ)) → ((row : ℕ) → get_or dates row None ≡ None) → earliest dates ≡ None
 none_earliest dates none = by (earliest dates) refl
   where

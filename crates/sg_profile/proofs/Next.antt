@@ -5,7 +5,7 @@ use Rattle.sg_heap.specs.Agenda.{IsLeast, IsNoLater, Key, key_at}
 use Rattle.sg_profile.specs.declared.turn.Turn.{Turn}
 use Rattle.sg_profile.specs.declared.entry.Entry.{Entry}
 use Rattle.sg_profile.specs.declared.profile.Profile.{Profile}
-use Rattle.sg_profile.specs.Profiles.{IsNextEntry, IsSchedule, Timetable, date_of, dates_of, entry_at, next_date, next_row, profile_at, row_by, rows_due, turn_at}
+use Rattle.sg_profile.specs.Profiles.{IsNextEntry, IsSchedule, Timetable, next_entry_date, dates_of, entry_at, next_date, next_row, profile_at, row_by, rows_due, turn_at}
 use Rattle.sg_profile.proofs.Cases.{no_profile}
 use Rattle.sg_profile.specs.kept.Slots.{IsKept, key_by, table_of}
 use Rattle.sg_profile.proofs.Dates.{IsDated, date_at, row_dated}
@@ -16,13 +16,13 @@ use Rattle.sg_profile.proofs.RowsOfDate.{IsFirst, row_first}
 -- The row has the next entry, at this date.
 pub record HasNext (table : Timetable) (row date : ℕ) : Type 0 where
   pub within : row < length table.profiles
-  pub dated : date_of (profile_at table.profiles row) (turn_at table.turns row) ≡ Some date
+  pub dated : next_entry_date (profile_at table.profiles row) (turn_at table.turns row) ≡ Some date
   pub date_is : next_date table.profiles table.turns ≡ Some date
   pub row_is : next_row table.profiles table.turns ≡ row
   pub rest : List ℕ
   pub first : rows_due date table.profiles table.turns ≡ row ∷ rest
 
--- The date behind a key, and its serial.
+-- The date of a key, and its number.
 record IsKeyOf (row : ℕ) (date : Option ℕ) (key : Key) : Type 0 where
   date_is : date ≡ Some key.date
   serial_is : key.serial ≡ row
@@ -105,7 +105,7 @@ row_found profiles turns keys row key its kept least is =
     let next = least_is_next (table_of profiles turns) keys row key kept least in
     let profile = profile_is profiles row its next.within is in
     let schedule = schedule_of profiles row its kept.schedules next.within is in
-    let left = date_left its (turn_at turns row) key.date (sym (ap (λ (p : Profile). date_of p (turn_at turns row)) profile) ∙ next.dated) in
+    let left = date_left its (turn_at turns row) key.date (sym (ap (λ (p : Profile). next_entry_date p (turn_at turns row)) profile) ∙ next.dated) in
     record {
       next = next;
       turn_within = omega (arith, next.within, kept.turns);
@@ -126,8 +126,8 @@ next_entry profiles turns row date its entry found e =
 
 -- the date that the row has by its turn stands among all dates
 pub row_date : (profiles : List Profile) (turns : List Turn) (row : ℕ) (its : Profile) (date : Option ℕ) → length turns ≡ length profiles → row < length profiles → its ≡ get_or profiles row its
-    → date ≡ date_of its (turn_at turns row) → date ≡ get_or (dates_of profiles turns) row None
+    → date ≡ next_entry_date its (turn_at turns row) → date ≡ get_or (dates_of profiles turns) row None
 row_date profiles turns row its date same within is e =
     e
-    ∙ ap (λ (p : Profile). date_of p (turn_at turns row)) (sym (profile_is profiles row its within is))
+    ∙ ap (λ (p : Profile). next_entry_date p (turn_at turns row)) (sym (profile_is profiles row its within is))
     ∙ sym (date_at profiles turns row same within)

@@ -5,7 +5,7 @@ use Rattle.std.proofs.lemmas.Option.{get_or_from_slice_get, slice_get_within}
 use Rattle.sg_profile.specs.declared.turn.Turn.{Turn}
 use Rattle.sg_profile.specs.Laws.{EntriesRise}
 use Rattle.sg_profile.specs.declared.profile.Profile.{Profile}
-use Rattle.sg_profile.specs.Profiles.{IsSchedule, date_of, turn_time}
+use Rattle.sg_profile.specs.Profiles.{IsSchedule, next_entry_date, turn_time}
 use Rattle.sg_profile.proofs.Cases.{turn_over}
 
 mapped : (k : ℕ) (o : Option ℕ) (a : ℕ) → option_map (λ date. k + date) o ≡ Some a → (x : ℕ) × ((o ≡ Some x) × (a ≡ k + x))
@@ -17,7 +17,7 @@ pub record IsLeftAt (profile : Profile) (turn : Turn) (date : ℕ) : Type 0 wher
   pub within : turn.entry < length profile.dates
   pub date_is : date ≡ turn.number * turn_time profile + slice_index profile.dates turn.entry
 
-pub date_left : (profile : Profile) (turn : Turn) (date : ℕ) → date_of profile turn ≡ Some date → IsLeftAt profile turn date
+pub date_left : (profile : Profile) (turn : Turn) (date : ℕ) → next_entry_date profile turn ≡ Some date → IsLeftAt profile turn date
 date_left profile turn date e =
     let m = mapped (turn.number * turn_time profile) (slice_get profile.dates turn.entry) date e in
     record {
@@ -28,7 +28,7 @@ date_left profile turn date e =
 one_more : (n t : ℕ) → (n + 1) * t ≡ n * t + t
 one_more n t = omega arith
 
--- the time of a turn, where another one follows
+-- the time of a turn, if another one follows
 pub time_is : (profile : Profile) (gap : ℕ) → profile.gap ≡ Some gap → turn_time profile ≡ slice_index profile.dates (length profile.dates - 1) + gap
 time_is profile gap some = ap (λ (o : Option ℕ). option_map_or (λ gap. slice_index profile.dates (length profile.dates - 1) + gap) o 0) some
 
@@ -47,7 +47,7 @@ entries_rise p t a b is at next = by (t.entry + 1 == length p.dates) refl
     turn_by : Bool → Turn
     turn_by c = cond c (turn_over p.gap t) (record t { entry = t.entry + 1 })
 
-    over : (g : Option ℕ) → p.gap ≡ g → t.entry + 1 ≡ length p.dates → date_of p (turn_over g t) ≡ Some b → (a < b) × (b ≤ a + 2 * 10 ^ 18)
+    over : (g : Option ℕ) → p.gap ≡ g → t.entry + 1 ≡ length p.dates → next_entry_date p (turn_over g t) ≡ Some b → (a < b) × (b ≤ a + 2 * 10 ^ 18)
     over None none ends there =
         let left : IsLeftAt p (record t { entry = t.entry + 1 }) b = date_left p (record t { entry = t.entry + 1 }) b there in
         absurd (omega (arith, ends, left.within))
@@ -62,9 +62,9 @@ entries_rise p t a b is at next = by (t.entry + 1 == length p.dates) refl
         (omega (arith, here.date_is, left.date_is, last, time, wide.0, more), omega (arith, here.date_is, left.date_is, last, time, wide.1, first, more))
 
     by : (c : Bool) → (t.entry + 1 == length p.dates) ≡ c → (a < b) × (b ≤ a + 2 * 10 ^ 18)
-    by true e = over p.gap refl (eqb-true (t.entry + 1) (length p.dates) e) (subst (λ (c : Bool). date_of p (turn_by c) ≡ Some b) e next)
+    by true e = over p.gap refl (eqb-true (t.entry + 1) (length p.dates) e) (subst (λ (c : Bool). next_entry_date p (turn_by c) ≡ Some b) e next)
     by false e =
-        let left : IsLeftAt p (record t { entry = t.entry + 1 }) b = date_left p (record t { entry = t.entry + 1 }) b (subst (λ (c : Bool). date_of p (turn_by c) ≡ Some b) e next) in
+        let left : IsLeftAt p (record t { entry = t.entry + 1 }) b = date_left p (record t { entry = t.entry + 1 }) b (subst (λ (c : Bool). next_entry_date p (turn_by c) ≡ Some b) e next) in
         let less : slice_index p.dates t.entry < slice_index p.dates (t.entry + 1) = is.rising t.entry left.within in
         let small = date_small p (t.entry + 1) is left.within in
         (omega (arith, here.date_is, left.date_is, less), omega (arith, here.date_is, left.date_is, small))

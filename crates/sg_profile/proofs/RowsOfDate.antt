@@ -34,7 +34,7 @@ pub record IsThere (from date row : ℕ) (dates : List (Option ℕ)) : Type 0 wh
   pub from_on : from ≤ row
   pub there : get_or dates (row - from) None ≡ Some date
 
--- the first that is told has the date
+-- the first of the list has the date
 pub first_there : (from date row : ℕ) (dates : List (Option ℕ)) (rest : List ℕ) → rows_due_from from date dates ≡ row ∷ rest → IsThere from date row dates
 first_there from date row [] rest e = absurd (no_first from date row rest e)
 first_there from date row (its ∷ dates) rest e = elim (same (is_at date its)) [
@@ -68,18 +68,18 @@ rest_there from date row (its ∷ dates) rest other ne e = elim (same (is_at dat
       ∙ rest_there (from + 1) date row dates rest other ne there
 ]
 
--- where no row has the date, none is told
+-- if no row has the date, the list is empty
 pub none_there : (from date : ℕ) (dates : List (Option ℕ)) → ((row : ℕ) → get_or dates row None ≢ Some date) → rows_due_from from date dates ≡ []
 unfolding rows_due_from
 none_there from date [] none = refl
 none_there from date (its ∷ dates) none = past from date its dates (not_at date its (none 0)) ∙ none_there (from + 1) date dates (λ row. none (suc row))
 
--- This row is told first.
+-- This row comes first.
 pub record IsFirst (from date row : ℕ) (dates : List (Option ℕ)) : Type 0 where
   pub rest : List ℕ
   pub is : rows_due_from from date dates ≡ (from + row) ∷ rest
 
--- a row that has the date, and none before it has, is told first
+-- a row that has the date, and none before it has, comes first
 pub row_first : (from date row : ℕ) (dates : List (Option ℕ)) → get_or dates row None ≡ Some date → ((i : ℕ) → i < row → get_or dates i None ≢ Some date) → IsFirst from date row dates
 row_first from date row [] there none = absurd (cc there)
 row_first from date zero (its ∷ dates) there none =

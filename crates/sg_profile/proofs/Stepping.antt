@@ -6,7 +6,7 @@ use Rattle.sg_heap.proofs.Changes.{lt_cases}
 use Rattle.sg_heap.specs.Agenda.{Key, key_at}
 use Rattle.sg_profile.specs.declared.turn.Turn.{Turn}
 use Rattle.sg_profile.specs.declared.profile.Profile.{Profile}
-use Rattle.sg_profile.specs.Profiles.{IsSchedule, Timetable, date_of, dates_of, first_turn, first_turns, profile_at, turn_after, turn_time}
+use Rattle.sg_profile.specs.Profiles.{IsSchedule, Timetable, next_entry_date, dates_of, first_turn, first_turns, profile_at, turn_after, turn_time}
 use Rattle.sg_profile.proofs.Cases.{turn_over}
 use Rattle.sg_profile.specs.kept.Slots.{AreKeys, IsKept, key_by, table_of}
 use Rattle.sg_profile.proofs.Dates.{dates_set, length_dates}
@@ -39,9 +39,9 @@ first_kept profiles turns keys few schedules first slots are = record {
 
 -- a row has another turn, and its slot the date of that
 pub step_kept : (table : Timetable) (keys : List (Option Key)) (row : ℕ) (turn : Turn) → IsKept table keys → row < length table.profiles
-    → IsKept (record table { turns = set table.turns row turn }) (set keys row (key_by row (date_of (profile_at table.profiles row) turn)))
+    → IsKept (record table { turns = set table.turns row turn }) (set keys row (key_by row (next_entry_date (profile_at table.profiles row) turn)))
 step_kept table keys row turn kept within =
-    let date = date_of (profile_at table.profiles row) turn in
+    let date = next_entry_date (profile_at table.profiles row) turn in
     let n = length_dates table.profiles table.turns kept.turns in
     let now : AreKeys (set (dates_of table.profiles table.turns) row date) (set keys row (key_by row date)) =
     keys_set (dates_of table.profiles table.turns) keys row date kept.keys (omega (arith, n, within)) (omega (arith, kept.slots, within)) in
@@ -79,7 +79,7 @@ keys_more dates keys row within each i less = elim (eqb_tells i row) [
 ]
 
 -- the next turn begins before so long
-pub after_small : (profile : Profile) (turn : Turn) (date : ℕ) → IsSchedule profile → date_of profile turn ≡ Some date → date < 10 ^ 33 → (turn_after profile turn).number * turn_time profile < 10 ^ 34
+pub after_small : (profile : Profile) (turn : Turn) (date : ℕ) → IsSchedule profile → next_entry_date profile turn ≡ Some date → date < 10 ^ 33 → (turn_after profile turn).number * turn_time profile < 10 ^ 34
 after_small profile turn date is there small = by (turn.entry + 1 == length profile.dates)
   where
     begun : turn.number * turn_time profile < 10 ^ 33

@@ -4,7 +4,7 @@ use Rattle.std.proofs.lemmas.Option.{slice_get-get_or}
 use Rattle.sg_profile.specs.declared.turn.Turn.{Turn}
 use Rattle.sg_profile.specs.Laws.{LoopsComeAgain, OthersComeOnce, turn_past}
 use Rattle.sg_profile.specs.declared.profile.Profile.{Profile}
-use Rattle.sg_profile.specs.Profiles.{date_of, turn_after, turn_time}
+use Rattle.sg_profile.specs.Profiles.{next_entry_date, turn_after, turn_time}
 use Rattle.sg_profile.proofs.Cases.{turn_over}
 use Rattle.sg_profile.proofs.Rising.{time_is}
 
@@ -20,7 +20,7 @@ module _ (profile : Profile) (gap : ℕ) (some : profile.gap ≡ Some gap) where
   entry_after : (k i : ℕ) → i + 1 < length profile.dates → turn_after profile (turn k i) ≡ turn k (i + 1)
   entry_after k i less = ap (after_by profile (turn k i)) (ne_eqb (i + 1) (length profile.dates) (λ e. omega (arith, less, e)))
 
-  -- behind the last entry
+  -- after the last entry
   turn_next : (k i : ℕ) → i + 1 ≡ length profile.dates → turn_after profile (turn k i) ≡ turn (k + 1) 0
   turn_next k i last =
       ap (after_by profile (turn k i)) (eq-eqb (i + 1) (length profile.dates) last)
@@ -57,8 +57,8 @@ loops_come_again profile gap k i some less =
     let dates = profile.dates in
     let begun = turns_begin profile gap some (length dates - 1) k (omega (arith, less)) in
     let there = entries_within profile gap some k (k * length dates) begun i less in
-    let date : date_of profile (turn k i) ≡ Some (k * turn_time profile + slice_index dates i) = ap (option_map (λ date. k * turn_time profile + date)) (slice_get-get_or dates i 0 less) in
-    ap (date_of profile) there ∙ date ∙ ap (λ (time : ℕ). Some (k * time + slice_index dates i)) (time_is profile gap some)
+    let date : next_entry_date profile (turn k i) ≡ Some (k * turn_time profile + slice_index dates i) = ap (option_map (λ date. k * turn_time profile + date)) (slice_get-get_or dates i 0 less) in
+    ap (next_entry_date profile) there ∙ date ∙ ap (λ (time : ℕ). Some (k * time + slice_index dates i)) (time_is profile gap some)
 
 -- ---- without
 once : (profile : Profile) → profile.gap ≡ None → (i : ℕ) → turn_past profile i ≡ turn 0 i
@@ -77,4 +77,4 @@ from_zero time None = refl
 from_zero time (Some date) = ap Some (omega arith)
 
 pub others_come_once : OthersComeOnce
-others_come_once profile i none = ap (date_of profile) (once profile none i) ∙ from_zero (turn_time profile) (slice_get profile.dates i)
+others_come_once profile i none = ap (next_entry_date profile) (once profile none i) ∙ from_zero (turn_time profile) (slice_get profile.dates i)

@@ -5,7 +5,7 @@ use Rattle.sg_profile.specs.declared.entry.Entry.{Entry}
 use Rattle.sg_profile.specs.declared.profile.Profile.{Profile}
 use Rattle.sg_profile.specs.declared.turn.Turn.{Turn}
 use Rattle.sg_profile.specs.Ahead.{IsAhead, IsNear}
-use Rattle.sg_profile.specs.Profiles.{AreProfiles, IsEntry, IsSchedule, date_of, entry_at, first_turn, first_turns, next_date, profiles_in, rows_due, turns_after_row, turn_after}
+use Rattle.sg_profile.specs.Profiles.{AreProfiles, IsEntry, IsSchedule, next_entry_date, entry_at, first_turn, first_turns, next_date, profiles_in, rows_due, turns_after_row, turn_after}
 
 -- The profiles of a platform are of its hosts and links.
 abbrev pub PlatformsPromise : Type 0
@@ -28,20 +28,20 @@ turn_past profile (suc n) = turn_after profile (turn_past profile n)
 abbrev pub LoopsComeAgain : Type 0
 LoopsComeAgain =
     (profile : Profile) (gap k i : ℕ) → profile.gap ≡ Some gap → i < length profile.dates
-    → date_of profile (turn_past profile (k * length profile.dates + i))
+    → next_entry_date profile (turn_past profile (k * length profile.dates + i))
     ≡ Some (k * (slice_index profile.dates (length profile.dates - 1) + gap) + slice_index profile.dates i)
 
 -- Without a gap the entries come once, each at its own date.
 abbrev pub OthersComeOnce : Type 0
 OthersComeOnce =
     (profile : Profile) (i : ℕ) → profile.gap ≡ None
-    → date_of profile (turn_past profile i) ≡ slice_get profile.dates i
+    → next_entry_date profile (turn_past profile i) ≡ slice_get profile.dates i
 
 -- The next entry of a profile is later, by 2 × 10^18 ns at most.
 abbrev pub EntriesRise : Type 0
 EntriesRise =
     (profile : Profile) (turn : Turn) (a b : ℕ) → IsSchedule profile
-    → date_of profile turn ≡ Some a → date_of profile (turn_after profile turn) ≡ Some b
+    → next_entry_date profile turn ≡ Some a → next_entry_date profile (turn_after profile turn) ≡ Some b
     → (a < b) × (b ≤ a + 2 * 10 ^ 18)
 
 -- Once the first row of a date is past its entry, the others are left.

@@ -13,21 +13,25 @@ use Rattle.sg_profile.specs.declared.entry.Entry.TheVariants.{Speed, Bandwidth, 
 use Rattle.sg_profile.specs.declared.profile.Profile.{Profile}
 use Rattle.sg_profile.specs.declared.turn.Turn.{Turn}
 
+-- the entry that sets the speed of a host, or the bandwidth of a link, to a value
 abbrev pub entry_by : Profiled → ℕ → Entry
 entry_by (Host host) value = Speed host value
 entry_by (Link link) value = Bandwidth link value
 
+-- a profile of speeds or bandwidths, as the simulation uses it
 abbrev pub profile_of : ProfileRow → Profile
 profile_of row = record { dates = row.dates; entries = map (entry_by row.of) row.values; gap = row.gap }
 
+-- the entry that turns a host or a link on or off
 abbrev pub state_entry_by : Profiled → Bool → Entry
 state_entry_by (Host host) on = HostOn host on
 state_entry_by (Link link) on = LinkOn link on
 
+-- a profile of on and off states, as the simulation uses it
 abbrev pub state_profile_of : StateProfileRow → Profile
 state_profile_of row = record { dates = row.dates; entries = map (state_entry_by row.of) row.states; gap = row.gap }
 
--- those of speeds and bandwidths, and behind them those of states
+-- those of speeds and bandwidths, and after them those of states
 abbrev pub profiles_in : Platform → List Profile
 profiles_in platform = map profile_of platform.profiles ++ map state_profile_of platform.state_profiles
 
@@ -56,19 +60,20 @@ abbrev pub AreProfiles : ℕ → ℕ → List Profile → Type 0
 AreProfiles hosts links profiles = All (IsProfile hosts links) profiles
 
 -- ---- one profile
+-- the start of a profile: its first entry is next, and it has not repeated yet
 abbrev pub first_turn : Turn
 first_turn = record { number = 0; entry = 0 }
 
--- how long a turn takes, where another one follows
+-- how long a turn takes, if another one follows
 abbrev pub turn_time : Profile → ℕ
 turn_time profile = option_map_or (λ gap. slice_index profile.dates (length profile.dates - 1) + gap) profile.gap 0
 
--- the date of the next entry; none: none is left
-abbrev pub date_of : Profile → Turn → Option ℕ
-date_of profile turn =
+-- the date of the next entry; none: no entry remains
+abbrev pub next_entry_date : Profile → Turn → Option ℕ
+next_entry_date profile turn =
     option_map (λ date. turn.number * turn_time profile + date) (slice_get profile.dates turn.entry)
 
--- past the next entry; after the last one the next turn begins, where there is one
+-- past the next entry; after the last one the next turn begins, if there is one
 abbrev pub turn_after : Profile → Turn → Turn
 turn_after profile turn =
     let next = record turn { entry = turn.entry + 1 } in
@@ -81,6 +86,7 @@ pub record Timetable : Type 0 where
   pub profiles : List Profile
   pub turns : List Turn
 
+-- every profile is at its start
 abbrev pub first_turns : List Profile → List Turn
 first_turns profiles = replicate (length profiles) first_turn
 
@@ -89,7 +95,7 @@ first_table profiles = record { profiles = profiles; turns = first_turns profile
 
 -- the date of the next entry of each row
 unfoldable pub dates_of : List Profile → List Turn → List (Option ℕ)
-dates_of (profile ∷ profiles) (turn ∷ turns) = date_of profile turn ∷ dates_of profiles turns
+dates_of (profile ∷ profiles) (turn ∷ turns) = next_entry_date profile turn ∷ dates_of profiles turns
 dates_of profiles turns = []
 
 -- the earliest of these dates
@@ -98,6 +104,7 @@ earliest [] = None
 earliest (None ∷ dates) = earliest dates
 earliest (Some date ∷ dates) = Some (option_map_or (min date) (earliest dates) date)
 
+-- the date of the next entry of all profiles; none: no entry remains
 abbrev pub next_date : List Profile → List Turn → Option ℕ
 next_date profiles turns = earliest (dates_of profiles turns)
 
@@ -120,9 +127,11 @@ row_by (Some date) profiles turns = slice_index (rows_due date profiles turns) 0
 abbrev pub next_row : List Profile → List Turn → ℕ
 next_row profiles turns = row_by (next_date profiles turns) profiles turns
 
+-- the profile of a row; a row that isn't there has no entries
 abbrev pub profile_at : List Profile → ℕ → Profile
 profile_at profiles row = slice_index_or profiles row (record { dates = []; entries = []; gap = None })
 
+-- how far the profile of a row is: its repetition, and its next entry
 abbrev pub turn_at : List Turn → ℕ → Turn
 turn_at turns row = slice_index_or turns row first_turn
 

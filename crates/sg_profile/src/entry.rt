@@ -33,14 +33,14 @@ impl Model for Entries {
 }
 
 impl Entries {
-    /// These entries. It takes no memory.
+    /// Returns these entries. It takes no memory.
     pub(crate) fn from_vec(entries: Vec<Entry>) -> Entries
         ensures { result ≡ entries.items }
     {
         Entries { entries }
     }
 
-    /// The entries.
+    /// Returns the entries.
     pub fn as_slice(&self) -> &[Entry]
         ensures { result.now ≡ self.now }
     {

@@ -11,8 +11,8 @@ pub fn entries_exist()
     ensures { EntriesExist }
 {}
 
-/// Where a profile has a gap, entry i of its turn k comes at its own date after k times the last date and the gap;
-/// without one its entries come once.
+/// If a profile has a gap, entry i of its turn k comes at its own date after k times the last date and the gap; without
+/// one its entries come once.
 pub fn turns_follow()
     ensures again { LoopsComeAgain }
     ensures once { OthersComeOnce }
@@ -23,7 +23,7 @@ pub fn entries_rise()
     ensures { EntriesRise }
 {}
 
-/// The rows of a date follow one another, until none is left.
+/// The rows of a date follow one another, until no row remains.
 pub fn rows_are_left()
     ensures next { RowsAreLeft }
     ensures none { NoneIsBefore }

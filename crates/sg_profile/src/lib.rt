@@ -1,4 +1,4 @@
-//! How the speeds of hosts and the bandwidths of links change while a run goes on, and when they go on or off: which
+//! How the speeds of hosts and the bandwidths of links change during a run, and when they are turned on or off: which
 //! entries come, and when.
 //! One enters by `Profiles`: `next` is the entry of least date, `step` goes past it.
 //! It stands on `sg_rows` for the rows of a platform, and on `sg_heap` for whose entry is next.

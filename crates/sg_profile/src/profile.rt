@@ -8,7 +8,7 @@ use sg_base::Memory;
 use sg_rows::{Numbers, ProfileRow, Profiled, StateProfileRow};
 use std::alloc::Global;
 
-/// What changes of a host or a link while a run goes on, and when.
+/// What changes of a host or a link during a run, and when.
 #[derive(Drop)]
 pub struct Profile {
     /// The dates of a turn, in nanoseconds.
@@ -19,7 +19,7 @@ pub struct Profile {
     pub gap: Option<u64>,
 }
 
-/// The next entry of a profile.
+/// Returns the next entry of a profile.
 pub(crate) fn entry_at(profile: &Profile, turn: Turn) -> Entry
     requires { turn.entry < length profile.now.entries }
     ensures { slice_get profile.now.entries turn.entry ≡ Some result }
@@ -92,7 +92,7 @@ fn state_profile_of(alloc: Global, row: &StateProfileRow) -> Result<Profile, Mem
     })
 }
 
-/// The profiles of these rows: those of states come last.
+/// Returns the profiles of these rows: those of states come last.
 pub(crate) fn profiles_of(
     alloc: Global,
     rows: &[ProfileRow],

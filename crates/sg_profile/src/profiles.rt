@@ -20,7 +20,7 @@ use std::marker::Model;
 pub struct Profiles {
     profiles: Vec<Profile>,
     turns: Vec<Turn>,
-    // for each row a slot with the date of its next entry, where one is left
+    // for each row a slot with the date of its next entry, if one is left
     agenda: Agenda,
 }
 
@@ -47,11 +47,11 @@ impl Model for Profiles {
 }
 
 impl Profiles {
-    /// The profiles of a platform, each at its first entry.
+    /// Makes the profiles of a platform, each at its first entry.
     ///
     /// # Errors
     ///
-    /// Want of memory.
+    /// Out of memory.
     pub fn new(alloc: Global, platform: &PlatformText) -> Result<Profiles, Memory>
         ensures table { IfOk result
             (λ profiles. profiles ≡ first_table (profiles_in platform.now)) }
@@ -62,7 +62,7 @@ impl Profiles {
         Profiles::with_profiles(alloc, profiles)
     }
 
-    /// These profiles, each at its first entry.
+    /// Returns these profiles, each at its first entry.
     pub(crate) fn with_profiles(alloc: Global, profiles: Vec<Profile>) -> Result<Profiles, Memory>
         requires few { vec_len profiles ≤ 8192 }
         requires schedules { All IsSchedule profiles.items }
@@ -77,8 +77,8 @@ impl Profiles {
         })
     }
 
-    /// The next entry of all, with its date in nanoseconds: the one of the least date, and there that of the first row.
-    /// `None` where no entry is left.
+    /// Returns the next entry of all, with its date in nanoseconds: the one of the least date, and there that of the
+    /// first row. `None` if no entry is left.
     pub fn next(&self) -> Option<(u128, Entry)>
         ensures next { MatchOption result (next_date self.now.profiles self.now.turns ≡ None)
             (λ next. IsNextEntry self.now next.0 next.1) }

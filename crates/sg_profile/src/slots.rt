@@ -1,6 +1,6 @@
 //! Turns of rows, and the dates of their next entries in slots.
 ghost use Rattle.std.specs.Prelude.{◌≡◌, ◌≤◌, ◌<◌, ◌^◌, All, IfOk, IsSomeAnd, length, slice_set};
-ghost use Rattle.sg_profile.specs.Profiles.{IsSchedule, date_of, dates_of, first_turns, profile_at, turns_after_row, turn_at};
+ghost use Rattle.sg_profile.specs.Profiles.{IsSchedule, next_entry_date, dates_of, first_turns, profile_at, turns_after_row, turn_at};
 ghost use Rattle.sg_profile.specs.kept.Slots.{AreKeys, IsKept, key_by, table_of};
 
 use crate::profile::Profile;
@@ -9,7 +9,7 @@ use sg_base::{Memory, Serial};
 use sg_heap::Agenda;
 use std::alloc::Global;
 
-/// Each row stands at the first entry of its first turn.
+/// Returns the turns of so many rows, each at the first entry of its first turn.
 pub(crate) fn first_turns(alloc: Global, profiles: &[Profile]) -> Result<Vec<Turn>, Memory>
     ensures { IfOk result (λ turns. turns.items ≡ first_turns profiles.now) }
 {
@@ -40,7 +40,7 @@ fn enter_all(profiles: &[Profile], turns: &[Turn], agenda: &mut Agenda)
     }
 }
 
-/// A slot for each row, with the date of its first entry.
+/// Returns a slot for each row, with the date of its first entry.
 pub(crate) fn agenda_of(
     alloc: Global,
     profiles: &[Profile],
@@ -57,11 +57,12 @@ pub(crate) fn agenda_of(
     Ok(agenda)
 }
 
-/// A row steps past its next entry.
+/// Moves a row past its next entry.
 pub(crate) fn step_row(profiles: &[Profile], turns: &mut [Turn], agenda: &mut Agenda, row: usize)
     requires kept { IsKept (table_of profiles.now turns.old) agenda.old }
     requires row { row < length profiles.now }
-    requires date { IsSomeAnd (date_of (profile_at profiles.now row) (turn_at turns.old row))
+    requires date { IsSomeAnd
+        (next_entry_date (profile_at profiles.now row) (turn_at turns.old row))
         (λ date. date < 10 ^ 33) }
     ensures turns { turns.new ≡ turns_after_row profiles.now row turns.old }
     ensures kept { IsKept (table_of profiles.now turns.new) agenda.new }

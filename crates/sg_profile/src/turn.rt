@@ -1,6 +1,6 @@
 //! How far a profile is.
 ghost use Rattle.std.specs.Prelude.{◌≡◌, ◌≤◌, ◌<◌, ◌+◌, ◌*◌, ◌^◌, length};
-ghost use Rattle.sg_profile.specs.Profiles.{IsSchedule, date_of, turn_after, turn_time};
+ghost use Rattle.sg_profile.specs.Profiles.{IsSchedule, next_entry_date, turn_after, turn_time};
 
 use crate::profile::Profile;
 
@@ -17,7 +17,7 @@ pub(crate) const FIRST: Turn = Turn {
     entry: 0,
 };
 
-/// How long a turn takes in nanoseconds, where another one follows.
+/// Returns how long a turn takes in nanoseconds, if another one follows.
 fn turn_time(profile: &Profile) -> u128
     requires { IsSchedule profile.now }
     ensures time { result ≡ turn_time profile.now }
@@ -32,17 +32,17 @@ fn turn_time(profile: &Profile) -> u128
     }
 }
 
-/// The date of the next entry in nanoseconds; `None` where none is left.
+/// Returns the date of the next entry in nanoseconds; `None` if no entry remains.
 pub(crate) fn date_of(profile: &Profile, turn: Turn) -> Option<u128>
     requires schedule { IsSchedule profile.now }
     requires small { turn.number * turn_time profile.now < 10 ^ 34 }
-    ensures { result ≡ date_of profile.now turn }
+    ensures { result ≡ next_entry_date profile.now turn }
 {
     let date = *profile.dates.as_slice().get(turn.entry)?;
     Some(turn.number * turn_time(profile) + u128::from(date))
 }
 
-/// Past the next entry.
+/// Returns the turn past the next entry.
 pub(crate) fn turn_after(profile: &Profile, turn: Turn) -> Turn
     requires schedule { IsSchedule profile.now }
     requires entry { turn.entry < length profile.now.dates }

@@ -74,7 +74,7 @@ module _ {T : Type 0} (blank : T) where
       let few : length new.idle ≤ new.nodes = short apart 0 in
       (record { apart = apart; homes_fit = kept.homes_fit ∙ sym nodes; homes_are = homes_stay nodes heads kept.homes_are; free = sym count }, omega (arith, count, kept.homes_fit, nodes, few))
 
-  -- a place more for a value, which isn't used
+  -- one more place for a value, which isn't used
   pub entries_grown : (values : List T) (queues : List (List ℕ)) → entries_of blank (values ++ blank ∷ []) queues ≡ entries_of blank values queues
   entries_grown values queues = ap (λ (f : ℕ → ℕ × T). map (map f) queues) (fun_ext (λ slot. ap (λ (v : T). (slot, v)) (read_grown values blank blank slot (λ is. refl))))
 

@@ -1,4 +1,4 @@
--- The places of values: what becomes of them where a node is added, and where a value is written.
+-- What happens to the places of values as a node is added, and as a value is written.
 use Rattle.std.proofs.Common.{◌≡◌, ◌≢◌, ◌<◌, ◌≤◌, ◌+◌, ◌∙◌, inl, inr, sym, ap, refl, ℕ, true, eqb, List, [], ◌∷◌, ◌++◌, length, get_or, set, arith}
 use Rattle.std.specs.Prelude.{map}
 use Rattle.std.proofs.Math.Path.{fun_ext}
@@ -31,7 +31,7 @@ no_homes {rings = rings} nodes heads = record {
   others = λ node past. read_grown [] nowhere nowhere node (λ is. refl) ∙ get_or_past [] node nowhere (omega arith);
 }
 
--- a head more
+-- one more head
 pub homes_headed : {old new : Rings} {homes : List ℕ} {places : ℕ} → new.nodes ≡ old.nodes + 1 → new.heads ≡ old.heads ++ old.nodes ∷ [] → length homes ≡ old.nodes → AreHomes old homes places → AreHomes new (homes ++ nowhere ∷ []) places
 homes_headed {old = old} {new = new} {homes = homes} {places = places} nodes heads len are =
     let same : (node : ℕ) → home (homes ++ nowhere ∷ []) node ≡ home homes node = λ node. read_grown homes nowhere nowhere node (λ is. refl) in
@@ -49,7 +49,7 @@ homes_headed {old = old} {new = new} {homes = homes} {places = places} nodes hea
     last : (slot n : ℕ) → slot ≡ n → is_in slot (n ∷ []) ≡ true
     last slot n e = rw (eq-eqb slot n e) refl
 
--- a slot more, with a place of its own
+-- one more slot, with a place of its own
 pub homes_grown : {old new : Rings} {homes : List ℕ} {places : ℕ} → new.nodes ≡ old.nodes + 1 → new.heads ≡ old.heads → length homes ≡ old.nodes → places < nowhere → AreHomes old homes places → AreHomes new (homes ++ places ∷ []) (places + 1)
 homes_grown {old = old} {new = new} {homes = homes} {places = places} nodes heads len room are =
     let mine : home (homes ++ places ∷ []) (length homes) ≡ places = get_or_push homes places nowhere (length homes) refl in
@@ -82,11 +82,11 @@ homes_grown {old = old} {new = new} {homes = homes} {places = places} nodes head
     }
 
 module _ {T : Type 0} (blank : T) where
-  -- a head more has no value
+  -- one more head has no value
   pub nodes_headed : (values : List T) (homes : List ℕ) → length values ≤ nowhere → by_node blank values (homes ++ nowhere ∷ []) ≡ by_node blank values homes ++ blank ∷ []
   nodes_headed values homes few = map_push (value_in blank values) homes nowhere ∙ ap (λ v. by_node blank values homes ++ v ∷ []) (get_or_past values nowhere blank few)
 
-  -- a slot more has none yet
+  -- one more slot has none yet
   pub nodes_grown : (values : List T) (homes : List ℕ) → by_node blank (values ++ blank ∷ []) (homes ++ length values ∷ []) ≡ by_node blank values homes ++ blank ∷ []
   nodes_grown values homes =
       let same : value_in blank (values ++ blank ∷ []) ≡ value_in blank values = fun_ext (λ place. read_grown values blank blank place (λ is. refl)) in

@@ -27,13 +27,13 @@ module _ {X : Type 0} where
   pub front_any : (test : X → Bool) (queue : List X) (first : X) → front queue ≡ Some first → test first ≡ true → list_any test queue ≡ true
   front_any test queue first is passes = rw (from_front queue first is) (ap (λ b. b || list_any test (behind queue)) passes)
 
-  -- where nobody has a number, nobody leaves by it
+  -- if nobody has a number, nobody leaves by it
   pub without_none : (number : X → ℕ) (n : ℕ) (xs : List X) → All (λ x. number x ≢ n) xs → filter (λ x. not (eqb (number x) n)) xs ≡ xs
   without_none number n [] none = refl
   without_none number n (x ∷ xs) none =
       rw (ne_eqb (number x) n (All-head (λ y. number y ≢ n) x xs none)) (ap (λ l. x ∷ l) (without_none number n xs (All-tail (λ y. number y ≢ n) x xs none)))
 
-  -- where numbers differ, the first alone leaves by its number
+  -- if numbers differ, the first alone leaves by its number
   pub without_first : (number : X → ℕ) (xs : List X) (first : X) → AllPairs (λ a b. number a ≢ number b) xs → front xs ≡ Some first → filter (λ x. not (eqb (number x) (number first))) xs ≡ behind xs
   without_first number [] first once is = absurd (cc)
   without_first number (x ∷ xs) first once is =

@@ -1,4 +1,4 @@
--- What becomes of the rings where a node is added, and where a slot leaves or joins.
+-- What happens to the rings as a node is added, and as a slot leaves or joins.
 use Rattle.std.proofs.Common.{◌≡◌, ◌≢◌, ◌<◌, ◌+◌, ◌^◌, ◌∙◌, inl, inr, sym, ap, subst, subst₂, refl, ℕ, true, cond, eqb, List, [], ◌∷◌, ◌++◌, length, Some, arith}
 use Rattle.std.proofs.Math.Path.{fun_ext}
 use Rattle.std.proofs.lemmas.Bool.{cases_eq, cases_lt, or_parts, false≢true}
@@ -14,7 +14,7 @@ use Rattle.sg_queues.proofs.Rows.{alone_joined, alone_left, joined_at, is_head, 
 abbrev seen : ℕ → List ℕ → List (List ℕ) → Rings
 seen nodes heads rows = record { nodes = nodes; heads = heads; idle = queue_at rows 0; queues = behind rows }
 
--- a node more, which leads to itself, changes no link
+-- one more node, which leads to itself, changes no link
 at_grown : (links : List ℕ) (n : ℕ) → length links ≡ n → at (links ++ n ∷ []) ≡ at links
 at_grown links n len = fun_ext (λ node. read_grown links n node node (λ is. sym len ∙ sym is))
 

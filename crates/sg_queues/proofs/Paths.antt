@@ -19,7 +19,7 @@ module _ {old prev : List ℕ} (linked : AreLinked old prev) where
   only : (node to : ℕ) → at old node ≡ to → node ≡ at prev to
   only node to is = sym (linked.inverse.back node) ∙ ap (at prev) is
 
-  -- but for two, each node leads to where it led
+  -- except for two, each node leads to where it led
   pub stays : {new : List ℕ} (a b node : ℕ) → IsExchanged old new (at prev a) b → at old node ≢ a → node ≢ b → at new node ≡ at old node
   stays a b node ex other = ex.others node (λ is. other (ap (at old) is ∙ linked.inverse.forth a))
 

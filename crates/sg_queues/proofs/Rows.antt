@@ -1,4 +1,4 @@
--- What becomes of the rows of slots where one leaves or joins.
+-- What happens to the rows of slots as one leaves or joins.
 use Rattle.std.proofs.Common.{◌≡◌, ◌≢◌, ◌<◌, ◌≤◌, ◌+◌, ◌∙◌, ◌⊎◌, inl, inr, sym, ap, refl, ℕ, Bool, true, false, not, ◌&&◌, ◌||◌, cond, eqb, List, [], ◌∷◌, ◌++◌, length, arith}
 use Rattle.std.specs.Prelude.{AllPairs}
 use Rattle.std.proofs.lemmas.Bool.{cases_eq, cases_order, eq-eqb, ne_eqb, eqb-true, eqb-false, or_cases, or_parts, and_parts, false≢true, false_from_ne_true}
@@ -21,7 +21,7 @@ in_push node n nodes is = elim (or_cases (is_in node nodes) (is_in node (n ∷ [
   | inr new ↦ elim (or_cases (eqb node n) false new) [ inl same ↦ inl (eqb-true node n same) | inr never ↦ absurd (false≢true never) ]
 ]
 
--- who is in a row where a slot has left, or come to its end
+-- who is in a row that a slot has left at any place
 in_left : (node slot row : ℕ) (rows : List (List ℕ)) → is_in node (queue_at (left slot rows) row) ≡ (not (eqb node slot) && is_in node (queue_at rows row))
 in_left node slot row rows = ap (is_in node) (map_at (without slot) [] rows row) ∙ in_without node slot (queue_at rows row)
 
@@ -83,7 +83,7 @@ module _ {nodes : ℕ} {heads : List ℕ} {rows : List (List ℕ)} (kept : AreAp
   pub new_apart : (row : ℕ) → is_in nodes (queue_at rows row) ≡ false
   new_apart row = false_from_ne_true (is_in nodes (queue_at rows row)) (λ there. omega (arith, (kept.slots row nodes there).within))
 
-  -- a node more is a slot
+  -- one more node is a slot
   pub new_slot : IsSlot (nodes + 1) heads nodes
   new_slot = record { within = omega arith; moves = false_from_ne_true (is_in nodes heads) (λ is. omega (arith, kept.below nodes is)) }
 
@@ -97,7 +97,7 @@ module _ {nodes : ℕ} {heads : List ℕ} {rows : List (List ℕ)} (kept : AreAp
     apart = kept.apart;
   }
 
-  -- a node more is the head of a row more
+  -- one more node is the head of one more row
   pub apart_headed : AreApart (nodes + 1) (heads ++ nodes ∷ []) (rows ++ [] ∷ [])
   apart_headed =
       let at : (row : ℕ) → queue_at (rows ++ [] ∷ []) row ≡ queue_at rows row = λ row. read_grown rows [] [] row (λ is. refl) in

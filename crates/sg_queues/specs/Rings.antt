@@ -2,7 +2,7 @@
 use Rattle.std.specs.Prelude.{◌≡◌, ◌≢◌, ℕ, ◌<◌, ◌==◌, nat_eq, Bool, true, false, not, Option, None, Some, List, [], ◌∷◌, ◌++◌, length, map, filter, slice_index_or, slice_set, AllPairs}
 use Rattle.std.specs.List.{list_any}
 
--- how many nodes there are: slots, and heads, which never move; the head of the idle slots, and behind it that of each queue; and which slots are idle and in each queue, in order
+-- how many nodes there are: slots, and heads, which never move; the head of the idle slots, and after it that of each queue; and which slots are idle and in each queue, in order
 pub record Rings : Type 0 where
   pub nodes : ℕ
   pub heads : List ℕ
@@ -16,10 +16,12 @@ is_in node nodes = list_any (nat_eq node) nodes
 abbrev pub queue_at : {X : Type 0} → List (List X) → ℕ → List X
 queue_at queues queue = slice_index_or queues queue []
 
+-- the first of a queue, if it isn't empty
 abbrev pub front : {X : Type 0} → List X → Option X
 front [] = None
 front (first ∷ rest) = Some first
 
+-- the queue after its first
 abbrev pub behind : {X : Type 0} → List X → List X
 behind [] = []
 behind (first ∷ rest) = rest
@@ -32,7 +34,7 @@ pub record IsSlot (nodes : ℕ) (heads : List ℕ) (node : ℕ) : Type 0 where
 abbrev pub without : ℕ → List ℕ → List ℕ
 without slot queue = filter (λ other. not (other == slot)) queue
 
--- the slot leaves the place where it is
+-- the slot leaves its place
 abbrev pub left : ℕ → List (List ℕ) → List (List ℕ)
 left slot rows = map (without slot) rows
 

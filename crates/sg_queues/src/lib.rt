@@ -1,5 +1,5 @@
-//! First-in-first-out queues that can also let go an element from the middle.
-//! One enters by `Queues`, whose slots have values, or by `Rings`, where the caller keeps the values.
+//! First-in-first-out queues that also release elements from the middle.
+//! The types are `Queues`, whose slots have values, and `Rings`, for a caller that keeps the values.
 //! It stands on `sg_base`.
 #![tactic(auto)]
 

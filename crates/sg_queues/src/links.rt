@@ -26,7 +26,7 @@ pub(crate) fn push<T: Copy + Drop>(items: &mut Vec<T>, item: T)
 }
 
 impl Links {
-    // One node leads to another.
+    // Links one node to another.
     fn link(&mut self, from: usize, to: usize)
         requires from { from < length self.old.next.items }
         requires to { to < length self.old.prev.items }
@@ -39,7 +39,7 @@ impl Links {
         self.prev[to] = from as u32;
     }
 
-    /// What a node leads to.
+    /// Returns what a node leads to.
     pub(crate) fn next_of(&self, node: usize) -> usize
         requires linked { AreLinked self.now.next.items self.now.prev.items }
         requires node { node < length self.now.next.items }
@@ -58,8 +58,8 @@ impl Links {
         self.prev[node] as usize
     }
 
-    /// A slot, and the node that leads to this one, exchange what they lead to: this takes a slot out of its ring, where
-    /// it is the node itself, and puts a slot that is alone into the ring of another node, in front of that.
+    /// Exchanges what a slot, and the node that leads to this one, lead to: this takes a slot out of its ring, if it is
+    /// the node itself, and puts a slot that is alone into the ring of another node, in front of that.
     pub(crate) fn exchange_before(&mut self, node: usize, slot: usize)
         requires linked { AreLinked self.old.next.items self.old.prev.items }
         requires node { node < length self.old.next.items }
@@ -74,7 +74,7 @@ impl Links {
         self.link(slot, node);
     }
 
-    /// A node more, which is alone. It takes memory before it changes anything.
+    /// Adds a node, which is alone, and returns its number. It takes memory before it changes anything.
     pub(crate) fn add(&mut self) -> Result<usize, Memory>
         requires { length self.old.prev.items ≡ length self.old.next.items }
         ensures node { IfOk result (λ node. node ≡ length self.old.next.items) }

@@ -9,10 +9,10 @@ use sg_base::Memory;
 use std::alloc::Global;
 use std::marker::Model;
 
-/// Queues by number from 0 on, first in, first out, which can also let go a value from the middle.
+/// Queues by number from 0 on, first in, first out, which can also release a value from the middle.
 ///
-/// Each value is in a slot, whose number stays the same as long as the value is there. Each call costs the same
-/// however long the queues are. Only `reserve` and `add_queue` take memory.
+/// Each value is in a slot, whose number stays the same as long as the value is there. Each call costs the same however
+/// long the queues are. Only `reserve` and `add_queue` take memory.
 #[derive(Drop)]
 pub struct Queues<T> {
     rings: Rings,
@@ -20,7 +20,7 @@ pub struct Queues<T> {
     homes: Vec<u32>,
     // the value in each place
     values: Vec<T>,
-    // what stands where there is no value
+    // what fills the place of a missing value
     blank: T,
     room: usize,
 }
@@ -47,7 +47,7 @@ impl<T> Model for Queues<T> {
 }
 
 impl<T: Copy + Drop> Queues<T> {
-    /// No queues, and no room. The blank is any value.
+    /// Makes a state without queues and room. The blank is any value.
     pub fn new(alloc: Global, blank: T) -> Result<Queues<T>, Memory>
         ensures { IfOk result (λ q. q ≡ record { queues = []; room = 0 }) }
     {
@@ -63,7 +63,7 @@ impl<T: Copy + Drop> Queues<T> {
         })
     }
 
-    /// A queue more, which is empty. It answers its number, which is how many queues there were.
+    /// Adds an empty queue, and returns its number, which is how many queues there were.
     pub fn add_queue(&mut self) -> Result<usize, Memory>
         ensures number { IfOk result (λ number. number ≡ length self.old.queues) }
         ensures queue { OnOk result (self.new ≡ record self.old {
@@ -78,7 +78,7 @@ impl<T: Copy + Drop> Queues<T> {
         Ok(number)
     }
 
-    // A slot more, which is free.
+    // Adds a slot, which is free.
     fn add_slot(&mut self) -> Result<(), Memory>
         ensures room { OnOk result (self.new ≡ record self.old { room = self.old.room + 1 }) }
         ensures kept { OnErr result (self.new ≡ self.old) }
@@ -107,7 +107,7 @@ impl<T: Copy + Drop> Queues<T> {
         Ok(())
     }
 
-    /// A value comes to the end of a queue, in the slot that is answered.
+    /// Puts a value at the end of a queue, and returns its slot.
     pub fn push_back(&mut self, queue: usize, value: T) -> usize
         requires { CanPush queue self.old }
         ensures queues { self.new.queues ≡ queued self.old.queues queue (result, value) }
@@ -127,7 +127,7 @@ impl<T: Copy + Drop> Queues<T> {
         slot
     }
 
-    /// The first value of a queue, with its slot.
+    /// Returns the first value of a queue, with its slot.
     pub fn front(&self, queue: usize) -> Option<(usize, T)>
         requires { queue < length self.now.queues }
         ensures first { result ≡ front (queue_at self.now.queues queue) }
@@ -142,7 +142,7 @@ impl<T: Copy + Drop> Queues<T> {
         }
     }
 
-    /// The value in this slot leaves its queue, from wherever it stands there.
+    /// Removes the value in this slot from its queue, from any place.
     pub fn remove(&mut self, slot: usize)
         requires { IsHeld slot self.old.queues }
         ensures queues { self.new.queues ≡ let_go slot self.old.queues }

@@ -8,8 +8,8 @@ use sg_base::Memory;
 use std::alloc::Global;
 use std::marker::Model;
 
-/// Slots, each of which is alone, idle or in one queue at any time. A slot leaves the place where it is, and then comes
-/// to the end of another.
+/// Slots, each of which is alone, idle or in one queue at any time. A slot leaves its place, and then joins another
+/// queue at its end.
 ///
 /// Slots and heads are nodes, numbered from 0 on as they are added: node 0 is the head of the idle slots, and each
 /// queue has a head of its own. Each move costs the same however long the queues are; only adding takes memory.
@@ -44,7 +44,7 @@ impl Model for Rings {
 }
 
 impl Rings {
-    /// No queues and no slots.
+    /// Makes a state without queues and slots.
     pub fn new(alloc: Global) -> Result<Rings, Memory>
         ensures { IfOk result (λ rings. rings
             ≡ record { nodes = 1; heads = 0 ∷ []; idle = []; queues = [] }) }
@@ -60,7 +60,7 @@ impl Rings {
         })
     }
 
-    /// A queue more, which is empty. It answers its number, which is how many queues there were.
+    /// Adds an empty queue, and returns its number, which is how many queues there were.
     pub fn add_queue(&mut self) -> Result<usize, Memory>
         ensures number { IfOk result (λ number. number ≡ length self.old.queues) }
         ensures queue { OnOk result (self.new ≡ record self.old {
@@ -78,7 +78,7 @@ impl Rings {
         Ok(number)
     }
 
-    /// A slot more, which is alone. Its number is how many nodes there were.
+    /// Adds a slot, which is alone, and returns its number, which is how many nodes there were.
     pub fn add_slot(&mut self) -> Result<usize, Memory>
         ensures number { IfOk result (λ slot. slot ≡ self.old.nodes) }
         ensures slot { OnOk result (self.new ≡ record self.old { nodes = self.old.nodes + 1 }) }
@@ -99,7 +99,7 @@ impl Rings {
         self.heads[queue] as usize
     }
 
-    /// The first slot of a queue.
+    /// Returns the first slot of a queue.
     pub fn front(&self, queue: usize) -> Option<usize>
         requires { queue < length self.now.queues }
         ensures { result ≡ front (queue_at self.now.queues queue) }
@@ -109,7 +109,7 @@ impl Rings {
         if first == head { None } else { Some(first) }
     }
 
-    /// The idle slot that was so for longest.
+    /// Returns the idle slot that was so for longest.
     pub fn idle(&self) -> Option<usize>
         ensures { result ≡ front self.now.idle }
     {
@@ -117,7 +117,7 @@ impl Rings {
         if first == IDLE { None } else { Some(first) }
     }
 
-    /// A slot leaves the place where it is, and is alone.
+    /// Removes a slot from its place, and makes it alone.
     pub fn leave(&mut self, slot: usize)
         requires { IsSlot self.old.nodes self.old.heads slot }
         ensures left { self.new ≡ record self.old {
@@ -130,7 +130,7 @@ impl Rings {
         self.links.exchange_before(slot, slot);
     }
 
-    /// A slot that is alone comes to the end of a queue.
+    /// Puts a slot that is alone at the end of a queue.
     pub fn join(&mut self, slot: usize, queue: usize)
         requires { CanJoin slot queue self.old }
         ensures joined { self.new ≡ record self.old {
@@ -142,7 +142,7 @@ impl Rings {
         self.links.exchange_before(head, slot);
     }
 
-    /// A slot that is alone is idle, behind all others that are.
+    /// Makes a slot that is alone idle, after all others that are.
     pub fn retire(&mut self, slot: usize)
         requires slot { IsSlot self.old.nodes self.old.heads slot }
         requires alone { IsAlone slot (rows_of self.old) }

@@ -4,7 +4,7 @@ use Rattle.std.specs.Option.{option_to_list}
 use Rattle.sg_base.specs.declared.awaits.Await.{Await}
 use Rattle.sg_queues.specs.Rings.{front, behind}
 
--- what each actor may wait for, by actor from 1 on, oldest first; how many requests were made in all; room for so many more; and the serials of what the actor awaited that was let go last
+-- what each actor may wait for, by actor from 1 on, oldest first; how many requests were made in all; room for so many more; and the activity ids awaited by the last released actor
 pub record Requested : Type 0 where
   pub queues : List (List Await)
   pub asked : ℕ
@@ -15,9 +15,11 @@ pub record Requested : Type 0 where
 abbrev pub queue_at : List (List Await) → ℕ → List Await
 queue_at queues actor = slice_index_or queues (actor - 1) []
 
+-- the oldest of an actor's requests, if it has one
 abbrev pub oldest : List Await → Option Await
 oldest queue = front queue
 
+-- the requests of an actor, except the oldest
 abbrev pub rest_of : List Await → List Await
 rest_of queue = behind queue
 
@@ -40,10 +42,11 @@ unfoldable pub rising_numbers : List ℕ → List ℕ
 rising_numbers [] = []
 rising_numbers (n ∷ more) = rising_numbers_with n (rising_numbers more)
 
+-- the id of the activity for which a request waits
 abbrev pub serial_of : Await → ℕ
 serial_of request = request.serial.0
 
--- the serials of these requests, and of the activity on which the actor is blocked, if there is one
+-- the activity ids of these requests, and of the activity on which the actor is blocked, if there is one
 abbrev pub awaited_with : Option Await → List Await → List ℕ
 awaited_with on queue = rising_numbers (map serial_of (option_to_list on ++ queue))
 

@@ -1,6 +1,6 @@
-//! The requests of actors: communications for which they asked without waiting.
-//! One enters by `Requests`: `push` a new one, `take` the oldest, `let_go` all of an actor, whose serials `awaited`
-//! tells.
+//! The requests of actors: communications that they started without waiting.
+//! The type is `Requests`: `push` adds one, `take` removes the oldest, `let_go` releases all of an actor, and `awaited`
+//! returns their activity ids.
 //! It stands on `sg_base`, and on `sg_queues` for the order in which they came.
 #![tactic(auto)]
 

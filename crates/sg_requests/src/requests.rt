@@ -8,7 +8,7 @@ use sg_queues::Queues;
 use std::alloc::Global;
 use std::marker::Model;
 
-// What stands where there is no request.
+// What fills the place of a missing request.
 const BLANK: Await = Await {
     serial: Serial(0),
     party: Party::Alone,
@@ -16,8 +16,8 @@ const BLANK: Await = Await {
 
 /// What each actor asked for without waiting, and hasn't waited for yet: oldest first.
 ///
-/// Pushing and taking cost the same however many actors and requests there are, and letting go as much as sorting what
-/// the actor awaited. Only `new` and `reserve` take memory.
+/// Pushing and taking cost the same however many actors and requests there are; releasing all of an actor's requests
+/// costs as much as sorting what it awaited. Only `new` and `reserve` take memory.
 pub struct Requests {
     /// A queue for each actor.
     queues: Queues<Await>,
@@ -27,7 +27,7 @@ pub struct Requests {
     standing: usize,
     /// Room for so many more.
     room: usize,
-    /// The serials of what the actor awaited that was let go last.
+    /// The activity ids awaited by the last released actor.
     awaited: Vec<u64>,
 }
 
@@ -62,7 +62,7 @@ impl Model for Requests {
     ghost invariant = { λ s. IsRoomy s.queues s.asked s.standing s.room (vec_capacity s.awaited) };
 }
 
-// A queue for each of so many actors.
+// Returns a queue for each of so many actors.
 fn queues_of(alloc: Global, actors: usize) -> Result<Queues<Await>, Memory>
     ensures { IfOk result (λ q. q ≡ record { queues = replicate actors []; room = 0 }) }
 {
@@ -74,7 +74,7 @@ fn queues_of(alloc: Global, actors: usize) -> Result<Queues<Await>, Memory>
 }
 
 impl Requests {
-    /// No request of so many actors, and no room.
+    /// Makes a state of so many actors, without requests and room.
     pub fn new(alloc: Global, actors: usize) -> Result<Requests, Memory>
         ensures { IfOk result (λ r. r
             ≡ record { queues = replicate actors []; asked = 0; room = 0; awaited = [] }) }
@@ -104,7 +104,7 @@ impl Requests {
         Ok(())
     }
 
-    /// An actor makes a request, which becomes its newest.
+    /// Adds a request of an actor, which becomes its newest.
     pub fn push(&mut self, actor: ActorId, request: Await)
         requires actor { (0 < actor.0) × (actor.0 ≤ length self.old.queues) }
         requires few { self.old.asked < 10 ^ 18 }
@@ -122,7 +122,7 @@ impl Requests {
         self.room -= 1;
     }
 
-    /// Takes away the oldest request of an actor, which answers it: `None` where the actor has none.
+    /// Removes and returns the oldest request of an actor: `None` if the actor has none.
     pub fn take(&mut self, actor: ActorId) -> Option<Await>
         requires actor { (0 < actor.0) × (actor.0 ≤ length self.old.queues) }
         ensures oldest { result ≡ oldest (queue_at self.old.queues actor.0) }
@@ -139,8 +139,8 @@ impl Requests {
         }
     }
 
-    /// Lets go all requests of an actor, which makes none any more. `awaited` tells their serials then, with that of the
-    /// activity on which the actor is blocked, if there is one.
+    /// Releases all requests of an actor, which makes none any more. `awaited` returns their activity ids then, with
+    /// that of the activity on which the actor is blocked, if there is one.
     pub fn let_go(&mut self, actor: ActorId, on: Option<Await>)
         requires actor { (0 < actor.0) × (actor.0 ≤ length self.old.queues) }
         ensures { self.new ≡ record self.old {
@@ -155,7 +155,7 @@ impl Requests {
         sort(&mut self.awaited);
     }
 
-    /// The serials of what the actor awaited that was let go last, by rising serial, each once.
+    /// Returns the activity ids awaited by the last released actor, in rising order, each once.
     pub fn awaited(&self) -> &[u64]
         ensures { result.now ≡ self.now.awaited }
     {

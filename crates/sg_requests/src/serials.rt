@@ -1,4 +1,4 @@
-//! Lists of serials.
+//! Lists of activity ids.
 ghost use Rattle.std.specs.Prelude.{◌≡◌, ◌+◌, ◌<◌, ◌≤◌, ◌++◌, ◌∷◌, [], length, map, slice_set, vec_capacity, vec_len};
 ghost use Rattle.std.specs.Option.{option_to_list};
 ghost use Rattle.sg_queues.specs.Queues.{values_of};
@@ -8,7 +8,7 @@ ghost use Rattle.sg_requests.specs.Requested.{rising_numbers, serial_of};
 use sg_base::Await;
 use sg_queues::Queues;
 
-// A serial comes to the end of a list that has room.
+// Adds an activity id at the end of a list that has room.
 fn push(serials: &mut Vec<u64>, serial: u64)
     requires { vec_len serials.old < vec_capacity serials.old }
     ensures items { serials.new.items ≡ serials.old.items ++ serial ∷ [] }
@@ -21,7 +21,7 @@ fn push(serials: &mut Vec<u64>, serial: u64)
     }
 }
 
-/// The list begins anew, with the serial of this activity, if there is one. It has room for that.
+/// Begins the list anew, with the id of this activity, if there is one. It has room for that.
 pub(crate) fn begin(serials: &mut Vec<u64>, on: Option<Await>)
     requires { 0 < vec_capacity serials.old }
     ensures items { serials.new.items ≡ map serial_of (option_to_list on) }
@@ -34,7 +34,7 @@ pub(crate) fn begin(serials: &mut Vec<u64>, on: Option<Await>)
     }
 }
 
-/// All requests of a queue go from it, and their serials to the end of a list that has room.
+/// Removes all requests of a queue, and adds their activity ids at the end of a list that has room.
 pub(crate) fn empty(queues: &mut Queues<Await>, queue: usize, serials: &mut Vec<u64>)
     requires queue { queue < length queues.old.queues }
     requires room { vec_len serials.old + length (queue_at queues.old.queues queue)
@@ -53,7 +53,7 @@ pub(crate) fn empty(queues: &mut Queues<Await>, queue: usize, serials: &mut Vec<
     }
 }
 
-/// Sorts serials, and keeps each once.
+/// Sorts activity ids, and keeps each once.
 pub(crate) fn sort(serials: &mut Vec<u64>)
     ensures items { serials.new.items ≡ rising_numbers serials.old.items }
     ensures capacity { vec_capacity serials.new ≡ vec_capacity serials.old }

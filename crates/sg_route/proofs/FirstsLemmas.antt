@@ -7,7 +7,7 @@ use Rattle.sg_base.specs.declared.ids.PointId.{PointId}
 use Rattle.sg_route.specs.declared.router.RouteFault.{RouteFault}
 use Rattle.sg_route.specs.declared.router.RouteFault.TheVariants.{TooLong}
 use Rattle.sg_route.specs.Roads.{Roads}
-use Rattle.sg_route.specs.Route.{Way, whole_way, route_of, route_or_fault, latency_of, LeavesRoute}
+use Rattle.sg_route.specs.Route.{RouteLinks, whole_way, route_of, route_or_fault, latency_of, LeavesRoute}
 use Rattle.sg_route.specs.DistinctLinks.{is_among, distinct_links}
 
 -- no link stands twice
@@ -80,7 +80,7 @@ pairs_apart (x ∷ rest) once i zero d less few = absurd (omega arith)
 pairs_apart (x ∷ rest) once zero (suc j) d less few = apart_at x rest j d once.0 (omega arith)
 pairs_apart (x ∷ rest) once (suc i) (suc j) d less few = pairs_apart rest once.1 i j d (omega arith) (omega arith)
 
-once_of : (m : Roads) (w : Way) (result : Result ℕ RouteFault) (links : List LinkId) → LeavesRoute (route_or_fault m w) result links → AreOnce links
+once_of : (m : Roads) (w : RouteLinks) (result : Result ℕ RouteFault) (links : List LinkId) → LeavesRoute (route_or_fault m w) result links → AreOnce links
 once_of m (Err missing) result links h = let P : List LinkId → Type 0 = AreOnce in subst P (sym h.1) tt
 once_of m (Ok all) result links h = go (nat_lt 64 (length (distinct_links [] all))) h
   where

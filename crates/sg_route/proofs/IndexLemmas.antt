@@ -3,67 +3,55 @@ use Rattle.std.proofs.Common.{◌≡◌, ◌+◌, ◌-◌, ◌<◌, ◌≤◌, �
 use Rattle.std.proofs.Math.Seq.{drop-cons}
 use Rattle.std.proofs.lemmas.Bool.Decides.{nat_tests}
 use Rattle.std.proofs.lemmas.Option.{slice_get_past, slice_get_read}
-use Rattle.std.specs.BTreeMap.{BTreeMap, get, Updates}
+use Rattle.std.specs.HashMap.{HashMap, get, Updates}
 use Rattle.std.specs.List.{find, position_from, slice_get}
 use Rattle.std.specs.Option.{option_and_then, option_copied, option_map}
-use Rattle.std.specs.Ordering.{is_eq, nat_cmp, ordering_then}
 use Rattle.std.specs.Prelude.{◌&&◌, ◌==◌}
 use Rattle.std.specs.Slice.{IsItemAt}
-use Rattle.std.specs.declared.cmp.Ordering.{Ordering}
-use Rattle.std.specs.declared.cmp.Ordering.TheVariants.{Less, Equal, Greater}
 use Rattle.sg_base.specs.declared.ids.Child.{Child}
 use Rattle.sg_base.specs.declared.ids.Child.TheVariants.{Point, Zone}
 use Rattle.sg_rows.specs.declared.rows.SpokeRow.{SpokeRow}
 use Rattle.sg_route.specs.declared.locals.Local.{Local}
 use Rattle.sg_route.specs.declared.locals.Pair.{Pair}
-use Rattle.sg_route.specs.Equal.{child_eq, pair_eq}
+use Rattle.sg_route.specs.Equal.{child_eq, child_pair_eq}
 use Rattle.sg_route.specs.declared.spokes.RowsByChild.{RowsByChild}
-use Rattle.sg_route.specs.kept.Index.{child_cmp, pair_cmp, row_of, PairsFrom, ChildrenFrom}
+use Rattle.sg_route.specs.kept.Index.{ChildKey, child_key, child_key_eq, pair_key, pair_key_eq, row_of, PairsFrom, ChildrenFrom}
 
--- ---- the order of keys tells equal ones
+-- ---- equal keys are those of equal pairs
 
-nat_cmp_is : (a b : ℕ) → is_eq (nat_cmp a b) ≡ (b == a)
-nat_cmp_is a b = grind (arith, nat_tests)
+same_number : (a b : ℕ) → (a == b) ≡ (b == a)
+same_number a b = grind (arith, nat_tests)
 
-pub child_cmp_is : (a b : Child) → is_eq (child_cmp a b) ≡ child_eq b a
-child_cmp_is (Point a) (Point b) = nat_cmp_is a.0 b.0
-child_cmp_is (Point a) (Zone b) = refl
-child_cmp_is (Zone a) (Point b) = refl
-child_cmp_is (Zone a) (Zone b) = nat_cmp_is a.0 b.0
+child_key_is : (a b : Child) → child_key_eq (child_key a) (child_key b) ≡ child_eq b a
+child_key_is (Point a) (Point b) = same_number a.0 b.0
+child_key_is (Point a) (Zone b) = refl
+child_key_is (Zone a) (Point b) = refl
+child_key_is (Zone a) (Zone b) = same_number a.0 b.0
 
-is_eq_then : (o p : Ordering) → is_eq (ordering_then o p) ≡ (is_eq o && is_eq p)
-is_eq_then Less p = refl
-is_eq_then Equal p = refl
-is_eq_then Greater p = refl
+pair_key_is : (a b : Pair) → pair_key_eq (pair_key a) (pair_key b) ≡ child_pair_eq b a
+pair_key_is a b =
+    let e = child_key_is a.from b.from in
+    let f = child_key_is a.to b.to in
+    ap (λ x. x && child_key_eq (child_key a.to) (child_key b.to)) e ∙ ap (λ x. child_eq b.from a.from && x) f
 
-pub pair_cmp_is : (a b : Pair) → is_eq (pair_cmp a b) ≡ pair_eq b a
-pair_cmp_is a b =
-    let e = child_cmp_is a.from b.from in
-    let f = child_cmp_is a.to b.to in
-    is_eq_then (child_cmp a.from b.from) (child_cmp a.to b.to)
-    ∙ ap (λ x. x && is_eq (child_cmp a.to b.to)) e ∙ ap (λ x. child_eq b.from a.from && x) f
+-- ---- one row more before the others
 
--- ---- one row more in front
-
-entered : {K X : Type 0} (cmp : K → K → Ordering) (eq : K → K → Bool) (key : X → K) (agrees : (a b : K) → is_eq (cmp a b) ≡ eq b a)
-    (at new : BTreeMap K ℕ) (i next : ℕ) (x : X) (rest : List X) → next ≡ i + 1
-    → ((k : K) → get cmp at k ≡ position_from (λ y. eq k (key y)) next rest) → Updates cmp at new (key x) (Some i)
-    → (k : K) → get cmp new k ≡ position_from (λ y. eq k (key y)) i (x ∷ rest)
-entered {K} {X} cmp eq key agrees at new i next x rest is index updates k =
-    updates.0 k ∙ ap (λ b. cond b (Some i) (get cmp at k)) (agrees (key x) k)
-    ∙ ap (λ o. cond (eq k (key x)) (Some i) o) (index k ∙ ap (λ n. position_from (λ y. eq k (key y)) n rest) is)
+entered : {S : Type 0} (at new : HashMap (ChildKey × ChildKey) ℕ S) (i next : ℕ) (x : Local) (rest : List Local) → next ≡ i + 1
+    → PairsFrom next at rest → Updates pair_key_eq at new (pair_key x.pair) (Some i) → PairsFrom i new (x ∷ rest)
+entered at new i next x rest is index updates k =
+    updates.0 (pair_key k) ∙ ap (λ b. cond b (Some i) (get pair_key_eq at (pair_key k))) (pair_key_is x.pair k)
+    ∙ ap (λ o. cond (child_pair_eq k x.pair) (Some i) o) (index k ∙ ap (λ n. position_from (λ (y : Local). child_pair_eq k y.pair) n rest) is)
 
 split_at : {X : Type 0} (rows : List X) (left : ℕ) (x : X) → 0 < left → left ≤ length rows → x ≡ get_or rows (left - 1) x → drop (left - 1) rows ≡ x ∷ drop left rows
 split_at rows left x some within is =
     let e : suc (left - 1) ≡ left = omega arith in
     drop-cons rows (left - 1) x (omega arith) ∙ ap (λ n. get_or rows (left - 1) x ∷ drop n rows) e ∙ ap (λ y. y ∷ drop left rows) (sym is)
 
-pub pairs_entered : (at new : BTreeMap Pair ℕ) (left : ℕ) (rows : List Local) (x : Local) → 0 < left → left ≤ length rows → x ≡ get_or rows (left - 1) x
-    → PairsFrom left at (drop left rows) → Updates pair_cmp at new x.pair (Some (left - 1)) → PairsFrom (left - 1) new (drop (left - 1) rows)
+pub pairs_entered : {S : Type 0} (at new : HashMap (ChildKey × ChildKey) ℕ S) (left : ℕ) (rows : List Local) (x : Local) → 0 < left → left ≤ length rows → x ≡ get_or rows (left - 1) x
+    → PairsFrom left at (drop left rows) → Updates pair_key_eq at new (pair_key x.pair) (Some (left - 1)) → PairsFrom (left - 1) new (drop (left - 1) rows)
 pairs_entered at new left rows x some within is index updates =
     let P : List Local → Type 0 = λ xs. PairsFrom (left - 1) new xs in
-    subst P (sym (split_at rows left x some within is))
-    (entered pair_cmp pair_eq (λ l. l.pair) pair_cmp_is at new (left - 1) left x (drop left rows) (omega arith) index updates)
+    subst P (sym (split_at rows left x some within is)) (entered at new (left - 1) left x (drop left rows) (omega arith) index updates)
 
 pub children_entered : (at new : RowsByChild) (left : ℕ) (rows : List SpokeRow) (x : SpokeRow) → 0 < left → left ≤ length rows → x ≡ get_or rows (left - 1) x
     → ChildrenFrom left at (drop left rows) → ((k : Child) → row_of new k ≡ cond (child_eq k x.child) (Some (left - 1)) (row_of at k)) → ChildrenFrom (left - 1) new (drop (left - 1) rows)

@@ -36,7 +36,7 @@ keep_all_is seen (x ∷ rest) few =
     let r = kept_with (is_among x seen) (length seen == 64) refl (keep_all_is seen rest few) (λ room. keep_all_is (seen ++ x ∷ []) rest room) in
     record { over = r.0; links = r.1 }
   where
-    -- what is kept of x and the rest, where b says whether x is there and full whether there is no room
+    -- what is kept of x and the rest; b says whether x is there, and full whether there is no room
     kept_with : (b full : Bool) → full ≡ (length seen == 64) → IsKept seen rest (keep_all (record { links = seen; over = false }) rest)
         → (length (seen ++ x ∷ []) ≤ 64 → IsKept (seen ++ x ∷ []) rest (keep_all (record { links = seen ++ x ∷ []; over = false }) rest))
         → (let kept : Kept = keep_all (cond b (record { links = seen; over = false }) (cond full (record { links = seen; over = true }) (record { links = seen ++ x ∷ []; over = false }))) rest in

@@ -12,7 +12,7 @@ use Rattle.sg_rows.specs.declared.rows.Policy.{Policy}
 use Rattle.sg_rows.specs.declared.rows.Policy.TheVariants.{Shared, Fatpipe, SplitDuplex}
 use Rattle.sg_route.specs.DistinctLinks.{distinct_links}
 use Rattle.sg_route.specs.Roads.{Roads, roads_of}
-use Rattle.sg_route.specs.Route.{Route, Way, route_or_fault, latency_of, route_of, whole_way}
+use Rattle.sg_route.specs.Route.{Route, RouteLinks, route_or_fault, latency_of, route_of, whole_way}
 use Rattle.sg_route.specs.declared.router.RouteFault.TheVariants.{TooLong}
 use Rattle.sg_route.proofs.Each.{each_at, each_from}
 use Rattle.sg_zones.proofs.Each.{Each, each_append}
@@ -53,7 +53,7 @@ pub record IsQuick (r : Route) : Type 0 where
   pub few : length r.links ≤ 64
   pub latency : r.latency ≤ 64000000000000000
 
-judged_quick : (m : Roads) (w : Way) (r : Route) → ((link : LinkId) → latency_of m link ≤ 1000000000000000) → route_or_fault m w ≡ Ok r → IsQuick r
+judged_quick : (m : Roads) (w : RouteLinks) (r : Route) → ((link : LinkId) → latency_of m link ≤ 1000000000000000) → route_or_fault m w ≡ Ok r → IsQuick r
 judged_quick m (Err e) r h is = absurd (cc)
 judged_quick m (Ok links) r h is = go (nat_lt 64 (length (distinct_links [] links))) refl is
   where

@@ -13,7 +13,7 @@ use Rattle.sg_rows.specs.declared.rows.Routing.{Routing}
 use Rattle.sg_rows.specs.declared.rows.Routing.TheVariants.{Full, Star, Dijkstra}
 use Rattle.sg_rows.specs.declared.rows.SpokeRow.{SpokeRow}
 use Rattle.sg_rows.specs.declared.rows.ZoneRouteRow.{ZoneRouteRow}
-use Rattle.sg_route.specs.Equal.{child_eq, pair_eq}
+use Rattle.sg_route.specs.Equal.{child_eq, child_pair_eq}
 use Rattle.sg_route.specs.DistinctLinks.{distinct_links, is_among}
 use Rattle.sg_route.specs.Local.{row_locals, declared_route, route_local, routes_declared, spoke_at, zone_route_local, zone_routes_declared}
 use Rattle.sg_paths.proofs.LeastLemmas.{least_found}
@@ -22,7 +22,7 @@ use Rattle.sg_paths.specs.Path.{IsPath, links_of}
 use Rattle.sg_paths.specs.declared.route.PathRoute.{PathRoute}
 use Rattle.sg_route.specs.Roads.{Roads, roads_of}
 use Rattle.sg_route.specs.PathRoutes.{path_routes_between, path_routes}
-use Rattle.sg_route.specs.Route.{Passage, Route, Way, by_path, by_spokes, way_over, latency_of, leg, route_or_fault, passage, passage_on, route_of, to_itself, unless_there, way, whole_way}
+use Rattle.sg_route.specs.Route.{Passage, Route, RouteLinks, by_path, by_spokes, route_over, latency_of, leg, route_or_fault, passage, passage_on, route_of, to_itself, unless_there, way, whole_way}
 use Rattle.sg_route.proofs.Passages.{by_declared, by_passage, or_loopback}
 use Rattle.sg_route.specs.declared.leg.Leg.{Leg}
 use Rattle.sg_route.specs.declared.locals.Local.{Local}
@@ -33,7 +33,7 @@ use Rattle.sg_route.proofs.Each.{each_all, each_contained, each_flat, each_found
 use Rattle.sg_route.proofs.Latency.{route_quick}
 use Rattle.sg_zones.proofs.Each.{Each, each_append}
 use Rattle.sg_zones.specs.Faults.{is_dijkstra}
-use Rattle.sg_zones.specs.Tree.{home, routing_in, tree_of}
+use Rattle.sg_zones.specs.Tree.{home, routing_in, zone_tree}
 use Rattle.std.specs.Option.{option_map}
 use Rattle.std.proofs.lemmas.Bool.Decides.{nat_tests}
 
@@ -78,7 +78,7 @@ full_links : (p : Platform) → IsPlatform p → (pair : Pair) (o : Option Local
 full_links p kept pair None w found is = absurd (cc)
 full_links p kept pair (Some l) w found is =
     let e : l.links ≡ w.links = cc in
-    let r = each_found (λ l. Good p l.links) (λ x. pair_eq pair x.pair) (roads_of p).locals l found (locals_links p kept) in
+    let r = each_found (λ l. Good p l.links) (λ x. child_pair_eq pair x.pair) (roads_of p).locals l found (locals_links p kept) in
     let P : List LinkId → Type 0 = Good p in
     subst P e r.0
 
@@ -96,16 +96,16 @@ star_links p kept from to (Some a) (Some b) w found other is =
     subst P e (record { some = omega arith; each = each_append (Exists p) a.up b.down r.up.each s.down.each })
 
 -- each step of a path has links that exist
-steps_links : (p : Platform) → IsPlatform p → Each (λ (r : PathRoute). Good p r.links) (path_routes (tree_of p) (roads_of p).locals)
+steps_links : (p : Platform) → IsPlatform p → Each (λ (r : PathRoute). Good p r.links) (path_routes (zone_tree p) (roads_of p).locals)
 steps_links p kept =
     let G : PathRoute → Type 0 = λ r. Good p r.links in
     let L : Local → Type 0 = λ l. Good p l.links in
-    each_flat G L (λ l. path_routes_between (tree_of p) l.pair.from l.pair.to l.links) (roads_of p).locals (λ l good. one l.pair.from l.pair.to l.links good) (locals_links p kept)
+    each_flat G L (λ l. path_routes_between (zone_tree p) l.pair.from l.pair.to l.links) (roads_of p).locals (λ l good. one l.pair.from l.pair.to l.links good) (locals_links p kept)
   where
-    one : (from to : Child) (links : List LinkId) → Good p links → Each (λ (r : PathRoute). Good p r.links) (path_routes_between (tree_of p) from to links)
+    one : (from to : Child) (links : List LinkId) → Good p links → Each (λ (r : PathRoute). Good p r.links) (path_routes_between (zone_tree p) from to links)
     one (Zone a) to links good = tt
     one (Point a) (Zone b) links good = tt
-    one (Point a) (Point b) links good = go (is_dijkstra (routing_in (tree_of p) (home (tree_of p) a)))
+    one (Point a) (Point b) links good = go (is_dijkstra (routing_in (zone_tree p) (home (zone_tree p) a)))
       where
         go : (t : Bool) → Each (λ (r : PathRoute). Good p r.links) (cond t (record { from = a.0; to = b.0; links = links } ∷ []) [])
         go true = (good, tt)
@@ -125,19 +125,19 @@ some_links p steps from to (route ∷ path) each is apart =
     let some = good.some in
     omega (arith, length-append route.links (links_of path))
 
-path_links : (p : Platform) → IsPlatform p → (from to : Child) (w : Passage) → by_path (path_routes (tree_of p) (roads_of p).locals) from to ≡ Some w → Good p w.links
+path_links : (p : Platform) → IsPlatform p → (from to : Child) (w : Passage) → by_path (path_routes (zone_tree p) (roads_of p).locals) from to ≡ Some w → Good p w.links
 path_links p kept (Zone x) to w is = absurd (cc)
 path_links p kept (Point a) (Zone x) w is = absurd (cc)
-path_links p kept (Point a) (Point b) w is = go (a.0 == b.0) refl (least_path (path_routes (tree_of p) (roads_of p).locals) a.0 b.0) refl is
+path_links p kept (Point a) (Point b) w is = go (a.0 == b.0) refl (least_path (path_routes (zone_tree p) (roads_of p).locals) a.0 b.0) refl is
   where
-    go : (t : Bool) → (a.0 == b.0) ≡ t → (o : Option (List LinkId)) → least_path (path_routes (tree_of p) (roads_of p).locals) a.0 b.0 ≡ o
+    go : (t : Bool) → (a.0 == b.0) ≡ t → (o : Option (List LinkId)) → least_path (path_routes (zone_tree p) (roads_of p).locals) a.0 b.0 ≡ o
         → cond t None (option_map (λ links. record { start = a; end = b; links = links }) o) ≡ Some w → Good p w.links
     go true e o f h = absurd (cc)
     go false e None f h = absurd (cc)
     go false e (Some links) f h =
         let apart : a.0 ≢ b.0 = grind (arith, nat_tests) in
         let same : links ≡ w.links = cc in
-        let steps = path_routes (tree_of p) (roads_of p).locals in
+        let steps = path_routes (zone_tree p) (roads_of p).locals in
         let r = (least_found steps a.0 b.0 links f).reached in
         let each = steps_links p kept in
         let G : List LinkId → Type 0 = Good p in
@@ -151,19 +151,19 @@ passage_links p kept Dijkstra from to w is = path_links p kept from to w is
 
 -- ---- ways
 
-abbrev WayExists : Platform → Way → Type 0
+abbrev WayExists : Platform → RouteLinks → Type 0
 WayExists p (Err missing) = Unit {0}
 WayExists p (Ok links) = Each (Exists p) links
 
-abbrev WayGood : Platform → Way → Type 0
+abbrev WayGood : Platform → RouteLinks → Type 0
 WayGood p (Err missing) = Unit {0}
 WayGood p (Ok links) = Good p links
 
-forget : (p : Platform) (w : Way) → WayGood p w → WayExists p w
+forget : (p : Platform) (w : RouteLinks) → WayGood p w → WayExists p w
 forget p (Err e) g = tt
 forget p (Ok links) g = g.each
 
-joined_good : (p : Platform) (front behind : Way) (own : List LinkId) → WayExists p front → Good p own → WayExists p behind → WayGood p (way_over front own behind)
+joined_good : (p : Platform) (front behind : RouteLinks) (own : List LinkId) → WayExists p front → Good p own → WayExists p behind → WayGood p (route_over front own behind)
 joined_good p (Err e) behind own f o b = tt
 joined_good p (Ok links) (Err e) own f o b = tt
 joined_good p (Ok links) (Ok rest) own f o b =
@@ -172,14 +172,14 @@ joined_good p (Ok links) (Ok rest) own f o b =
     let some = o.some in
     record { some = omega arith; each = each_append (Exists p) (links ++ own) rest (each_append (Exists p) links own f o.each) b }
 
-there_exists : (p : Platform) (w : PointId → PointId → Way) (a b : PointId) → WayExists p (w a b) → WayExists p (unless_there w a b)
+there_exists : (p : Platform) (w : PointId → PointId → RouteLinks) (a b : PointId) → WayExists p (w a b) → WayExists p (unless_there w a b)
 there_exists p w a b h = go (a.0 == b.0)
   where
     go : (t : Bool) → WayExists p (cond t (Ok []) (w a b))
     go true = tt
     go false = h
 
-step_good : (p : Platform) (w : PointId → PointId → Way) (a b : PointId) (l : Leg) (o : Option Passage) → ((x y : PointId) → WayExists p (w x y))
+step_good : (p : Platform) (w : PointId → PointId → RouteLinks) (a b : PointId) (l : Leg) (o : Option Passage) → ((x y : PointId) → WayExists p (w x y))
     → ((q : Passage) → o ≡ Some q → Good p q.links) → WayGood p (by_passage w a b l o)
 step_good p w a b l None h k = tt
 step_good p w a b l (Some q) h k =
@@ -210,14 +210,14 @@ loop_good p kept Full a = go (declared_route (roads_of p).locals (record { from 
     go None e = let n = link_ends_count p.links in record { some = omega arith; each = (omega arith, tt) }
     go (Some l) e =
         let pair : Pair = record { from = Point a; to = Point a } in
-        (each_found (λ l. Good p l.links) (λ x. pair_eq pair x.pair) (roads_of p).locals l e (locals_links p kept)).0
+        (each_found (λ l. Good p l.links) (λ x. child_pair_eq pair x.pair) (roads_of p).locals l e (locals_links p kept)).0
 
 whole_good : (p : Platform) → IsPlatform p → (a b : PointId) → WayGood p (whole_way (roads_of p) a b)
 unfolding whole_way
 whole_good p kept a b = go (a.0 == b.0)
   where
-    go : (t : Bool) → WayGood p (cond t (Ok (to_itself (roads_of p) (routing_in (tree_of p) (home (tree_of p) a)) a)) (way 16 (roads_of p) a b))
-    go true = loop_good p kept (routing_in (tree_of p) (home (tree_of p) a)) a
+    go : (t : Bool) → WayGood p (cond t (Ok (to_itself (roads_of p) (routing_in (zone_tree p) (home (zone_tree p) a)) a)) (way 16 (roads_of p) a b))
+    go true = loop_good p kept (routing_in (zone_tree p) (home (zone_tree p) a)) a
     go false = way_good 15 p kept a b
 
 -- ---- first places
@@ -234,7 +234,7 @@ firsts_some : (xs : List LinkId) → 0 < length xs → 0 < length (distinct_link
 firsts_some [] some = absurd (omega arith)
 firsts_some (x ∷ xs) some = omega arith
 
-judged_good : (p : Platform) (m : Roads) (w : Way) (r : Route) → WayGood p w → route_or_fault m w ≡ Ok r → Good p r.links
+judged_good : (p : Platform) (m : Roads) (w : RouteLinks) (r : Route) → WayGood p w → route_or_fault m w ≡ Ok r → Good p r.links
 judged_good p m (Err e) r g is = absurd (cc)
 judged_good p m (Ok links) r g is = go (nat_lt 64 (length (distinct_links [] links))) is
   where

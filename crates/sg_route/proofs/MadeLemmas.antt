@@ -19,7 +19,7 @@ use Rattle.sg_route.specs.declared.router.RouteFault.TheVariants.{TooLong}
 use Rattle.sg_route.specs.DistinctLinks.{distinct_links}
 use Rattle.sg_route.specs.Made.{HasNoneFrom, IsJoined, IsLeastThere, IsMadeOf, IsReached, IsWithoutPath, LeavesMade, UnlessThere}
 use Rattle.sg_route.specs.Roads.{Roads}
-use Rattle.sg_route.specs.Route.{LeavesRoute, Passage, Way, by_path, latency_of, leg, passage, passage_on, route_of, route_or_fault, unless_there, way, way_over, whole_way}
+use Rattle.sg_route.specs.Route.{LeavesRoute, Passage, RouteLinks, by_path, latency_of, leg, passage, passage_on, route_of, route_or_fault, unless_there, way, route_over, whole_way}
 use Rattle.sg_route.proofs.Passages.{by_passage}
 use Rattle.sg_route.specs.PathRoutes.{path_routes}
 use Rattle.sg_route.proofs.LegLemmas.{from_point, to_point}
@@ -67,7 +67,7 @@ all_least m l own is dijkstra = let r = in_dijkstra m l own is dijkstra in r.lea
 
 -- ---- ways are made of local routes
 
-unless_made : (made : PointId → PointId → List LinkId → Type 0) (w : PointId → PointId → Way) (a b : PointId) (links : List LinkId)
+unless_made : (made : PointId → PointId → List LinkId → Type 0) (w : PointId → PointId → RouteLinks) (a b : PointId) (links : List LinkId)
     → (a.0 ≢ b.0 → w a b ≡ Ok links → made a b links) → unless_there w a b ≡ Ok links → UnlessThere made a b links
 unless_made made w a b links each is = go (a.0 == b.0) refl is
   where
@@ -81,19 +81,19 @@ unless_made made w a b links each is = go (a.0 == b.0) refl is
         inr (far, each far h)
 
 -- what is joined of three
-record IsOver (front behind : Way) (own links : List LinkId) : Type 0 where
+record IsOver (front behind : RouteLinks) (own links : List LinkId) : Type 0 where
   before : List LinkId
   after : List LinkId
   in_front : front ≡ Ok before
   on : behind ≡ Ok after
   joined : links ≡ before ++ own ++ after
 
-over : (front behind : Way) (own links : List LinkId) → way_over front own behind ≡ Ok links → IsOver front behind own links
+over : (front behind : RouteLinks) (own links : List LinkId) → route_over front own behind ≡ Ok links → IsOver front behind own links
 over (Err e) behind own links h = absurd (cc)
 over (Ok xs) (Err e) own links h = absurd (cc)
 over (Ok xs) (Ok ys) own links h = record { before = xs; after = ys; in_front = refl; on = refl; joined = cc }
 
-step_made : (has : Leg → Passage → Type 0) (made : PointId → PointId → List LinkId → Type 0) (w : PointId → PointId → Way) (m : Roads) (a b : PointId) (o : Option Passage) (links : List LinkId)
+step_made : (has : Leg → Passage → Type 0) (made : PointId → PointId → List LinkId → Type 0) (w : PointId → PointId → RouteLinks) (m : Roads) (a b : PointId) (o : Option Passage) (links : List LinkId)
     → AllHave has m → ((x y : PointId) (all : List LinkId) → w x y ≡ Ok all → made x y all)
     → passage_on m (leg m a b) ≡ o → by_passage w a b (leg m a b) o ≡ Ok links → IsJoined has made m a b links
 step_made has made w m a b None links each inner is h = absurd (cc)
@@ -116,7 +116,7 @@ way_made has zero m each a b links is = let none : links ≡ [] = cc in none
 way_made has (suc levels) m each a b links is =
     step_made has (IsMadeOf has levels m) (way levels m) m a b (passage_on m (leg m a b)) links each (λ x y all h. way_made has levels m each x y all h) refl is
 
-judged_made : (has : Leg → Passage → Type 0) (m : Roads) (a b : PointId) (w : Way) (result : Result ℕ RouteFault) (links : List LinkId)
+judged_made : (has : Leg → Passage → Type 0) (m : Roads) (a b : PointId) (w : RouteLinks) (result : Result ℕ RouteFault) (links : List LinkId)
     → ((all : List LinkId) → w ≡ Ok all → IsMadeOf has 16 m a b all) → LeavesRoute (route_or_fault m w) result links → LeavesMade has m a b result links
 judged_made has m a b (Err missing) result links made h =
     let P : Result ℕ RouteFault → Type 0 = λ r. LeavesMade has m a b r links in
@@ -155,7 +155,7 @@ record IsMissing (m : Roads) (missing : Leg) : Type 0 where
   same : leg m a b ≡ missing
   none : passage_on m (leg m a b) ≡ None
 
-unless_missing : (w : PointId → PointId → Way) (a b : PointId) (missing : Leg) (P : Type 0)
+unless_missing : (w : PointId → PointId → RouteLinks) (a b : PointId) (missing : Leg) (P : Type 0)
     → (a.0 ≢ b.0 → w a b ≡ Err missing → P) → unless_there w a b ≡ Err missing → P
 unless_missing w a b missing P each is = go (a.0 == b.0) refl is
   where
@@ -163,12 +163,12 @@ unless_missing w a b missing P each is = go (a.0 == b.0) refl is
     go true e h = absurd (cc)
     go false e h = let far : a.0 ≢ b.0 = grind (arith, nat_tests) in each far h
 
-over_missing : (front behind : Way) (own : List LinkId) (missing : Leg) (P : Type 0) → (front ≡ Err missing → P) → (behind ≡ Err missing → P) → way_over front own behind ≡ Err missing → P
+over_missing : (front behind : RouteLinks) (own : List LinkId) (missing : Leg) (P : Type 0) → (front ≡ Err missing → P) → (behind ≡ Err missing → P) → route_over front own behind ≡ Err missing → P
 over_missing (Err e) behind own missing P f b h = f h
 over_missing (Ok xs) (Err e) own missing P f b h = b h
 over_missing (Ok xs) (Ok ys) own missing P f b h = absurd (cc)
 
-step_missing : (w : PointId → PointId → Way) (m : Roads) (a b : PointId) (o : Option Passage) (missing : Leg) → a.0 ≢ b.0
+step_missing : (w : PointId → PointId → RouteLinks) (m : Roads) (a b : PointId) (o : Option Passage) (missing : Leg) → a.0 ≢ b.0
     → ((x y : PointId) → x.0 ≢ y.0 → w x y ≡ Err missing → IsMissing m missing)
     → passage_on m (leg m a b) ≡ o → by_passage w a b (leg m a b) o ≡ Err missing → IsMissing m missing
 step_missing w m a b None missing far inner is h = let same : leg m a b ≡ missing = cc in
@@ -207,7 +207,7 @@ missing_none m missing is dijkstra =
     subst P is.same
     (none_between m l.from l.to (λ x y f t same. is.far (ap (λ p. p.0) (from_point za is.a is.b us vs x f) ∙ same ∙ sym (ap (λ p. p.0) (to_point za is.a is.b us vs y t)))) none)
 
-judged_none : (m : Roads) (w : Way) (result : Result ℕ RouteFault) (links : List LinkId) → ((missing : Leg) → w ≡ Err missing → IsMissing m missing)
+judged_none : (m : Roads) (w : RouteLinks) (result : Result ℕ RouteFault) (links : List LinkId) → ((missing : Leg) → w ≡ Err missing → IsMissing m missing)
     → LeavesRoute (route_or_fault m w) result links → IfErr result (IsWithoutPath m)
 judged_none m (Err missing) result links is h =
     let P : Result ℕ RouteFault → Type 0 = λ r. IfErr r (IsWithoutPath m) in

@@ -9,7 +9,7 @@ use Rattle.sg_route.specs.declared.router.RouteFault.{RouteFault}
 use Rattle.sg_route.specs.declared.router.RouteFault.TheVariants.{NoRoute, TooLong}
 use Rattle.sg_route.specs.Roads.{Roads}
 use Rattle.sg_zones.specs.Tree.{home, routing_in}
-use Rattle.sg_route.specs.Route.{Way, Route, to_itself, unless_there, way, whole_way, route_of, route_or_fault, latency_of, LeavesRoute}
+use Rattle.sg_route.specs.Route.{RouteLinks, Route, to_itself, unless_there, way, whole_way, route_of, route_or_fault, latency_of, LeavesRoute}
 use Rattle.sg_route.specs.DistinctLinks.{distinct_links}
 use Rattle.sg_route.specs.kept.Kept.{Kept, keep_all, KeepsWay}
 use Rattle.sg_route.proofs.KeptLemmas.{IsKept, keep_all_is}
@@ -29,7 +29,7 @@ whole_elsewhere m a b apart = go (a.0 == b.0) (grind (arith, nat_tests)) ∙ sym
     go : (t : Bool) → t ≡ false → cond t (Ok (to_itself m (routing_in m.tree (home m.tree a)) a)) (way 16 m a b) ≡ way 16 m a b
     go t e = rw e refl
 
-judged_missing : (m : Roads) (w : Way) (leg : Leg) (old new : Kept) → KeepsWay w (Err leg) old new → LeavesRoute (route_or_fault m w) (Err (NoRoute leg.zone leg.from leg.to)) []
+judged_missing : (m : Roads) (w : RouteLinks) (leg : Leg) (old new : Kept) → KeepsWay w (Err leg) old new → LeavesRoute (route_or_fault m w) (Err (NoRoute leg.zone leg.from leg.to)) []
 judged_missing m (Ok links) leg old new h = absurd (let q = h.0 in cc)
 judged_missing m (Err missing) leg old new h =
     let fault : Leg → Result ℕ RouteFault = λ l. Err (NoRoute l.zone l.from l.to) in
@@ -46,7 +46,7 @@ judged_ok m links kept is = go (nat_lt 64 (length (distinct_links [] links))) is
     go true e h = ((λ o. (refl, refl)), (λ o. absurd (cc)))
     go false e h = ((λ o. absurd (cc)), (λ o. (ap (λ xs. Ok (sum_by (latency_of m) xs)) (h o), h o)))
 
-kept_of : (w : Way) (old new : Kept) (m : Roads) → old ≡ record { links = []; over = false } → KeepsWay w (Ok tt) old new
+kept_of : (w : RouteLinks) (old new : Kept) (m : Roads) → old ≡ record { links = []; over = false } → KeepsWay w (Ok tt) old new
     → ((new.over ≡ true → LeavesRoute (route_or_fault m w) (Err TooLong) []) × (new.over ≡ false → LeavesRoute (route_or_fault m w) (Ok (sum_by (latency_of m) new.links)) new.links))
 kept_of (Err missing) old new m start h = absurd (cc)
 kept_of (Ok links) old new m start h =

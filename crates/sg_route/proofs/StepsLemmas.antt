@@ -21,7 +21,7 @@ use Rattle.sg_route.specs.declared.locals.Pair.{Pair}
 use Rattle.sg_route.proofs.Each.{each_all, each_flat, each_from}
 use Rattle.sg_zones.proofs.Each.{Each, each_append}
 use Rattle.sg_zones.specs.Faults.{is_dijkstra}
-use Rattle.sg_zones.specs.Tree.{home, routing_in, tree_of}
+use Rattle.sg_zones.specs.Tree.{home, routing_in, zone_tree}
 
 -- both children are there
 record Joins (p : Platform) (pair : Pair) : Type 0 where
@@ -46,24 +46,24 @@ locals_join p kept =
 abbrev pub IsWithin : Platform → PathRoute → Type 0
 IsWithin p r = (r.from < (counts_of p).points) × (r.to < (counts_of p).points)
 
-pub steps_join : (p : Platform) → IsPlatform p → Each (IsWithin p) (path_routes (tree_of p) (roads_of p).locals)
+pub steps_join : (p : Platform) → IsPlatform p → Each (IsWithin p) (path_routes (zone_tree p) (roads_of p).locals)
 steps_join p kept =
-    each_flat (IsWithin p) (λ l. Joins p l.pair) (λ l. path_routes_between (tree_of p) l.pair.from l.pair.to l.links) (roads_of p).locals (λ l joins. one l.pair.from l.pair.to l.links joins.from joins.to) (locals_join p kept)
+    each_flat (IsWithin p) (λ l. Joins p l.pair) (λ l. path_routes_between (zone_tree p) l.pair.from l.pair.to l.links) (roads_of p).locals (λ l joins. one l.pair.from l.pair.to l.links joins.from joins.to) (locals_join p kept)
   where
-    one : (from to : Child) (links : List LinkId) → IsChild (counts_of p) from → IsChild (counts_of p) to → Each (IsWithin p) (path_routes_between (tree_of p) from to links)
+    one : (from to : Child) (links : List LinkId) → IsChild (counts_of p) from → IsChild (counts_of p) to → Each (IsWithin p) (path_routes_between (zone_tree p) from to links)
     one (Zone a) to links f t = tt
     one (Point a) (Zone b) links f t = tt
-    one (Point a) (Point b) links f t = go (is_dijkstra (routing_in (tree_of p) (home (tree_of p) a)))
+    one (Point a) (Point b) links f t = go (is_dijkstra (routing_in (zone_tree p) (home (zone_tree p) a)))
       where
         go : (t : Bool) → Each (IsWithin p) (cond t (record { from = a.0; to = b.0; links = links } ∷ []) [])
         go true = ((f, t), tt)
         go false = tt
 
-pub steps_within : (p : Platform) → IsPlatform p → All (λ r. (r.from < (counts_of p).points) × (r.to < (counts_of p).points)) (path_routes (tree_of p) (roads_of p).locals)
-steps_within p kept = each_all (IsWithin p) (path_routes (tree_of p) (roads_of p).locals) (steps_join p kept)
+pub steps_within : (p : Platform) → IsPlatform p → All (λ r. (r.from < (counts_of p).points) × (r.to < (counts_of p).points)) (path_routes (zone_tree p) (roads_of p).locals)
+steps_within p kept = each_all (IsWithin p) (path_routes (zone_tree p) (roads_of p).locals) (steps_join p kept)
 
 -- the points are the hosts and the routers
-pub points_count : (p : Platform) → length (tree_of p).homes ≡ length p.hosts + length p.routers
+pub points_count : (p : Platform) → length (zone_tree p).homes ≡ length p.hosts + length p.routers
 points_count p =
     let hosts : List ZoneId = map (λ (row : HostRow). row.zone) p.hosts in
     let routers : List ZoneId = map (λ (row : RouterRow). row.zone) p.routers in

@@ -14,7 +14,7 @@ use Rattle.sg_paths.proofs.LeastLemmas.{least_path_is, no_least_path}
 use Rattle.sg_paths.specs.Least.{least_path}
 use Rattle.sg_paths.specs.Path.{HasNoPath, IsLeastPath}
 use Rattle.sg_paths.specs.declared.route.PathRoute.{PathRoute}
-use Rattle.sg_route.specs.Route.{Way, Passage, by_path, leg, passage, passage_on, way_over, unless_there, through_lowest, way}
+use Rattle.sg_route.specs.Route.{RouteLinks, Passage, by_path, leg, passage, passage_on, route_over, unless_there, through_lowest, way}
 use Rattle.sg_route.proofs.Passages.{by_passage}
 use Rattle.sg_route.specs.PathRoutes.{path_routes}
 use Rattle.sg_zones.specs.Tree.{home, path_in, routing_in}
@@ -35,25 +35,25 @@ way_step (suc levels) m a b some =
     let e : suc levels - 1 ≡ levels = omega arith in
     rw e refl
 
-pub there : (w : PointId → PointId → Way) (a b : PointId) → a.0 ≡ b.0 → unless_there w a b ≡ Ok []
+pub there : (w : PointId → PointId → RouteLinks) (a b : PointId) → a.0 ≡ b.0 → unless_there w a b ≡ Ok []
 there w a b same = go (a.0 == b.0) (grind (arith, nat_tests))
   where
     go : (t : Bool) → t ≡ true → cond t (Ok []) (w a b) ≡ Ok []
     go t e = rw e refl
 
-pub elsewhere : (w : PointId → PointId → Way) (a b : PointId) → a.0 ≢ b.0 → unless_there w a b ≡ w a b
+pub elsewhere : (w : PointId → PointId → RouteLinks) (a b : PointId) → a.0 ≢ b.0 → unless_there w a b ≡ w a b
 elsewhere w a b apart = go (a.0 == b.0) (grind (arith, nat_tests))
   where
     go : (t : Bool) → t ≡ false → cond t (Ok []) (w a b) ≡ w a b
     go t e = rw e refl
 
 -- nothing to walk
-pub walked_there : (w : PointId → PointId → Way) (a b : PointId) (kept : Kept) → a.0 ≡ b.0 → KeepsWay (unless_there w a b) (Ok tt) kept kept
-walked_there w a b kept same = let P : Way → Type 0 = λ x. KeepsWay x (Ok tt) kept kept in subst P (sym (there w a b same)) (refl, refl)
+pub walked_there : (w : PointId → PointId → RouteLinks) (a b : PointId) (kept : Kept) → a.0 ≡ b.0 → KeepsWay (unless_there w a b) (Ok tt) kept kept
+walked_there w a b kept same = let P : RouteLinks → Type 0 = λ x. KeepsWay x (Ok tt) kept kept in subst P (sym (there w a b same)) (refl, refl)
 
 pub walked_zero : (levels : ℕ) (m : Roads) (a b : PointId) (kept : Kept) → a.0 ≢ b.0 → levels ≡ 0 → KeepsWay (unless_there (way levels m) a b) (Ok tt) kept kept
 walked_zero levels m a b kept apart none =
-    let P : Way → Type 0 = λ x. KeepsWay x (Ok tt) kept kept in
+    let P : RouteLinks → Type 0 = λ x. KeepsWay x (Ok tt) kept kept in
     subst P (sym (elsewhere (way levels m) a b apart ∙ way_zero levels m a b none)) (refl, refl)
 
 -- the way by a passage, or without one
@@ -67,15 +67,15 @@ pub walked_none : (levels : ℕ) (m : Roads) (a b : PointId) (old new : Kept) �
     → passage_on m (leg m a b) ≡ None
     → KeepsWay (unless_there (way levels m) a b) (Err (leg m a b)) old new
 walked_none levels m a b old new apart some is =
-    let P : Way → Type 0 = λ x. KeepsWay x (Err (leg m a b)) old new in
+    let P : RouteLinks → Type 0 = λ x. KeepsWay x (Err (leg m a b)) old new in
     subst P (sym (way_by levels m a b None apart some is)) refl
 
-front_fails : (front behind : Way) (own : List LinkId) (e : Leg) (old mid new : Kept) → KeepsWay front (Err e) old mid → KeepsWay (way_over front own behind) (Err e) old new
+front_fails : (front behind : RouteLinks) (own : List LinkId) (e : Leg) (old mid new : Kept) → KeepsWay front (Err e) old mid → KeepsWay (route_over front own behind) (Err e) old new
 front_fails (Ok links) behind own e old mid new h = absurd (let q = h.0 in cc)
 front_fails (Err missing) behind own e old mid new h = h
 
-all_walked : (front behind : Way) (own : List LinkId) (result : Result (Unit {0}) Leg) (old mid next new : Kept) → KeepsWay front (Ok tt) old mid → next ≡ keep_all mid own → KeepsWay behind result next new
-    → KeepsWay (way_over front own behind) result old new
+all_walked : (front behind : RouteLinks) (own : List LinkId) (result : Result (Unit {0}) Leg) (old mid next new : Kept) → KeepsWay front (Ok tt) old mid → next ≡ keep_all mid own → KeepsWay behind result next new
+    → KeepsWay (route_over front own behind) result old new
 all_walked (Err missing) behind own result old mid next new f k h = absurd (cc)
 all_walked (Ok links) (Err missing) own result old mid next new f k h = h
 all_walked (Ok links) (Ok rest) own result old mid next new f k h =
@@ -86,7 +86,7 @@ pub walked_front : (levels : ℕ) (m : Roads) (a b : PointId) (p : Passage) (e :
     → KeepsWay (unless_there (way (levels - 1) m) a p.start) (Err e) old mid
     → KeepsWay (unless_there (way levels m) a b) (Err e) old new
 walked_front levels m a b p e old mid new apart some is front =
-    let P : Way → Type 0 = λ x. KeepsWay x (Err e) old new in
+    let P : RouteLinks → Type 0 = λ x. KeepsWay x (Err e) old new in
     subst P (sym (way_by levels m a b (Some p) apart some is))
     (front_fails (unless_there (way (levels - 1) m) a p.start) (unless_there (way (levels - 1) m) p.end b) p.links e old mid new front)
 
@@ -95,7 +95,7 @@ pub walked_through : (levels : ℕ) (m : Roads) (a b : PointId) (p : Passage) (r
     → KeepsWay (unless_there (way (levels - 1) m) a p.start) (Ok tt) old mid → next ≡ keep_all mid p.links → KeepsWay (unless_there (way (levels - 1) m) p.end b) result next new
     → KeepsWay (unless_there (way levels m) a b) result old new
 walked_through levels m a b p result old mid next new apart some is front own behind =
-    let P : Way → Type 0 = λ x. KeepsWay x result old new in
+    let P : RouteLinks → Type 0 = λ x. KeepsWay x result old new in
     subst P (sym (way_by levels m a b (Some p) apart some is))
     (all_walked (unless_there (way (levels - 1) m) a p.start) (unless_there (way (levels - 1) m) p.end b) p.links result old mid next new front own behind)
 
@@ -107,13 +107,13 @@ err_is (Err x) e h = ap Err h
 -- ---- by a path
 
 -- a local route between the points themselves is the whole way
-pub direct : (w : PointId → PointId → Way) (a b : PointId) (l : Leg) (q : Passage) → a.0 ≡ q.start.0 → q.end.0 ≡ b.0 → by_passage w a b l (Some q) ≡ Ok q.links
+pub direct : (w : PointId → PointId → RouteLinks) (a b : PointId) (l : Leg) (q : Passage) → a.0 ≡ q.start.0 → q.end.0 ≡ b.0 → by_passage w a b l (Some q) ≡ Ok q.links
 direct w a b l q e f = go (unless_there w a q.start) (unless_there w q.end b) (there w a q.start e) (there w q.end b f)
   where
-    go : (x y : Way) → x ≡ Ok [] → y ≡ Ok [] → way_over x q.links y ≡ Ok q.links
-    go x y g h = ap (λ z. way_over z q.links y) g ∙ ap (λ z. way_over (Ok []) q.links z) h ∙ ap (λ xs. Ok xs) (append-nil q.links)
+    go : (x y : RouteLinks) → x ≡ Ok [] → y ≡ Ok [] → route_over x q.links y ≡ Ok q.links
+    go x y g h = ap (λ z. route_over z q.links y) g ∙ ap (λ z. route_over (Ok []) q.links z) h ∙ ap (λ xs. Ok xs) (append-nil q.links)
 
-way_by_path : (w : PointId → PointId → Way) (a b : PointId) (l : Leg) (steps : List PathRoute) (f t : Child) → ((q : PointId) → f ≡ Point q → a ≡ q) → ((q : PointId) → t ≡ Point q → b ≡ q)
+way_by_path : (w : PointId → PointId → RouteLinks) (a b : PointId) (l : Leg) (steps : List PathRoute) (f t : Child) → ((q : PointId) → f ≡ Point q → a ≡ q) → ((q : PointId) → t ≡ Point q → b ≡ q)
     → by_passage w a b l (by_path steps f t) ≡ path_way l (by_path steps f t)
 way_by_path w a b l steps (Zone x) t from to = refl
 way_by_path w a b l steps (Point p) (Zone x) from to = refl
@@ -132,7 +132,7 @@ pub walked_path : (levels : ℕ) (m : Roads) (a b : PointId) (l : Leg) (steps : 
     → KeepsWay (path_way l (by_path steps l.from l.to)) result old new
     → KeepsWay (unless_there (way levels m) a b) result old new
 walked_path levels m a b l steps result old new apart some is routing over keeps =
-    let P : Way → Type 0 = λ x. KeepsWay x result old new in
+    let P : RouteLinks → Type 0 = λ x. KeepsWay x result old new in
     let Q : Leg → Type 0 = λ k. routing_in m.tree k.zone ≡ Dijkstra in
     let R : Leg → Type 0 = λ k. KeepsWay (path_way k (by_path (path_routes m.tree m.locals) k.from k.to)) result old new in
     let S : List PathRoute → Type 0 = λ s. KeepsWay (path_way l (by_path s l.from l.to)) result old new in

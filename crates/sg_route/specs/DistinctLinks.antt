@@ -3,6 +3,7 @@ use Rattle.std.specs.Prelude.{Bool, ◌==◌, if◌then◌else◌, List, [], ◌
 use Rattle.std.specs.List.{list_any}
 use Rattle.sg_base.specs.declared.ids.LinkId.{LinkId}
 
+-- whether a link is in a list
 abbrev pub is_among : LinkId → List LinkId → Bool
 is_among link links = list_any (λ other. other.0 == link.0) links
 

@@ -11,7 +11,7 @@ abbrev pub child_towards : PointId → List ZoneId → Child
 child_towards point [] = Point point
 child_towards point (zone ∷ rest) = Zone zone
 
--- Both paths are gone down from the root as long as they agree: the last zone on both is the lowest that holds both
+-- Both paths are followed down from the root as long as they agree: the last zone on both is the lowest that holds both
 -- points, and the next steps are its children that hold them.
 abbrev pub lowest_leg : ZoneId → PointId → PointId → List ZoneId → List ZoneId → Leg
 lowest_leg last from to (x ∷ rest_from) (y ∷ rest_to) =

@@ -1,4 +1,4 @@
--- Local routes: those that rows declare, and their ways back.
+-- Local routes: those that rows declare, and their reverse routes.
 use Rattle.std.specs.Prelude.{Bool, if◌then◌else◌, Option, List, [], ◌∷◌, ◌++◌, find}
 use Rattle.std.specs.List.{flat_map}
 use Rattle.sg_base.specs.declared.ids.Child.{Child}
@@ -10,26 +10,29 @@ use Rattle.sg_rows.specs.declared.rows.SpokeRow.{SpokeRow}
 use Rattle.sg_rows.specs.declared.rows.ZoneRouteRow.{ZoneRouteRow}
 use Rattle.sg_route.specs.declared.locals.Local.{Local}
 use Rattle.sg_route.specs.declared.locals.Pair.{Pair}
-use Rattle.sg_route.specs.Equal.{child_eq, pair_eq}
+use Rattle.sg_route.specs.Equal.{child_eq, child_pair_eq}
 
--- what a row declares
+-- the local route between two points that a row declares, which are its own gateways
 abbrev pub route_local : RouteRow → Local
 route_local row = record { pair = record { from = Point row.src; to = Point row.dst }; start = row.src; end = row.dst; links = row.links }
 
+-- what the row of a zone_route declares: two children of a zone, their gateways and the links
 abbrev pub zone_route_local : ZoneRouteRow → Local
 zone_route_local row = record { pair = record { from = row.src; to = row.dst }; start = row.gw_src; end = row.gw_dst; links = row.links }
 
--- the way back of a local route: its ends exchanged, its gateways exchanged, and the way back over its links
+-- the reverse of a local route: its ends and its gateways exchanged, and its links reversed
 abbrev pub local_back : List LinkEnd → Local → Local
 local_back ends l = record { pair = record { from = l.pair.to; to = l.pair.from }; start = l.end; end = l.start; links = way_back ends l.links }
 
--- a local route, and behind it its way back where it is symmetrical
+-- a local route, and after it its reverse if it is symmetrical
 abbrev pub row_locals : List LinkEnd → Bool → Local → List Local
 row_locals ends symmetrical l = if symmetrical then l ∷ (local_back ends l ∷ []) else l ∷ []
 
+-- the local routes between points that rows declare, each with its reverse after it if it is symmetrical
 abbrev pub routes_declared : List LinkEnd → List RouteRow → List Local
 routes_declared ends rows = flat_map (λ row. row_locals ends row.symmetrical (route_local row)) rows
 
+-- the local routes that zone_routes declare, each with its reverse after it if it is symmetrical
 abbrev pub zone_routes_declared : List LinkEnd → List ZoneRouteRow → List Local
 zone_routes_declared ends rows = flat_map (λ row. row_locals ends row.symmetrical (zone_route_local row)) rows
 
@@ -39,7 +42,7 @@ locals_of ends routes zone_routes = routes_declared ends routes ++ zone_routes_d
 
 -- the first local route of a pair
 abbrev pub declared_route : List Local → Pair → Option Local
-declared_route locals pair = find (λ l. pair_eq pair l.pair) locals
+declared_route locals pair = find (λ l. child_pair_eq pair l.pair) locals
 
 -- the first spoke of a child
 abbrev pub spoke_at : List SpokeRow → Child → Option SpokeRow

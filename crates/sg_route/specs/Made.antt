@@ -30,7 +30,7 @@ IsReached m l own = routing_in m.tree l.zone ≡ Dijkstra → IsPathOf m l own
 abbrev pub IsLeastThere : Roads → Leg → Passage → Type 0
 IsLeastThere m l own = routing_in m.tree l.zone ≡ Dijkstra → IsLeast (path_routes m.tree m.locals) own.start.0 own.end.0 own.links
 
--- no path leads from the one to the other, where these are points
+-- no path leads from the one to the other, if these are points
 abbrev pub HasNoneFrom : Roads → Child → Child → Type 0
 HasNoneFrom m (Point a) (Point b) = HasNoPath (path_routes m.tree m.locals) a.0 b.0
 HasNoneFrom m (Point a) (Zone b) = Unit {0}
@@ -47,7 +47,7 @@ IsWithoutPath m TooLong = Unit {0}
 abbrev pub UnlessThere : (PointId → PointId → List LinkId → Type 0) → PointId → PointId → List LinkId → Type 0
 UnlessThere made a b links = ((a.0 ≡ b.0) × (links ≡ [])) ⊎ ((a.0 ≢ b.0) × made a b links)
 
--- the links of the local route of the lowest zone that holds both, behind those from a to its first gateway, and before
+-- the links of the local route of the lowest zone that holds both, after those from a to its first gateway, and before
 -- those from its second gateway to b
 pub record IsJoined (has : Leg → Passage → Type 0) (made : PointId → PointId → List LinkId → Type 0) (m : Roads) (a b : PointId) (links : List LinkId) : Type 0 where
   pub own : Passage
@@ -59,12 +59,12 @@ pub record IsJoined (has : Leg → Passage → Type 0) (made : PointId → Point
   pub after : UnlessThere made own.end b behind
   pub joined : links ≡ front ++ own.links ++ behind
 
--- so through so many levels of zones
+-- a route through so many levels of zones is made so
 unfoldable pub IsMadeOf : (Leg → Passage → Type 0) → ℕ → Roads → PointId → PointId → List LinkId → Type 0
 IsMadeOf has zero m a b links = links ≡ []
 IsMadeOf has (suc levels) m a b links = IsJoined has (IsMadeOf has levels m) m a b links
 
--- what is left of such a route: each link once, at its first place, or none where these are more than 64
+-- what is left of such a route: each link once, at its first place, or none if these are more than 64
 abbrev pub LeavesMade : (Leg → Passage → Type 0) → Roads → PointId → PointId → Result ℕ RouteFault → List LinkId → Type 0
 LeavesMade has m a b (Ok latency) links = (all : List LinkId) × IsMadeOf has 16 m a b all × (links ≡ distinct_links [] all)
 LeavesMade has m a b (Err TooLong) links = (all : List LinkId) × IsMadeOf has 16 m a b all × (64 < length (distinct_links [] all))

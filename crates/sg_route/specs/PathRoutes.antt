@@ -11,7 +11,8 @@ use Rattle.sg_route.specs.Roads.{Roads}
 use Rattle.sg_zones.specs.Faults.{is_dijkstra}
 use Rattle.sg_zones.specs.Tree.{Tree, home, routing_in}
 
--- a route between two points, where the first stands in a Dijkstra zone; on a platform without zone faults so does the other
+-- a route between two points, if the first stands in a Dijkstra zone; on a platform without zone faults so does the
+-- other
 abbrev pub path_routes_between : Tree → Child → Child → List LinkId → List PathRoute
 path_routes_between t (Point a) (Point b) links =
     if is_dijkstra (routing_in t (home t a)) then record { from = a.0; to = b.0; links = links } ∷ [] else []

@@ -6,7 +6,7 @@ use Rattle.sg_rows.specs.declared.ends.LinkEnd.{LinkEnd}
 use Rattle.sg_rows.specs.declared.rows.SpokeRow.{SpokeRow}
 use Rattle.sg_route.specs.declared.locals.Local.{Local}
 use Rattle.sg_route.specs.Local.{locals_of}
-use Rattle.sg_zones.specs.Tree.{Tree, tree_of}
+use Rattle.sg_zones.specs.Tree.{Tree, zone_tree}
 
 -- the zone tree, the local routes that rows declare, the spokes, and the links
 pub record Roads : Type 0 where
@@ -15,9 +15,10 @@ pub record Roads : Type 0 where
   pub spokes : List SpokeRow
   pub ends : List LinkEnd
 
+-- what routing needs of a platform: its zone tree, its declared local routes, its spokes and its links
 abbrev pub roads_of : Platform → Roads
 roads_of p = record {
-  tree = tree_of p;
+  tree = zone_tree p;
   locals = locals_of (link_ends p.links) p.routes p.zone_routes;
   spokes = p.spokes;
   ends = link_ends p.links;

@@ -34,12 +34,13 @@ abbrev pub by_spokes : Option SpokeRow → Option SpokeRow → Option Passage
 by_spokes (Some from) (Some to) = Some (record { start = from.gateway; end = to.gateway; links = from.up ++ to.down })
 by_spokes from to = None
 
--- the least path from a point to another: it begins and ends at the points themselves
+-- the shortest path from a point to another: it begins and ends at the points themselves
 abbrev pub by_path : List PathRoute → Child → Child → Option Passage
 by_path steps (Point a) (Point b) =
     if a.0 == b.0 then None else option_map (λ links. record { start = a; end = b; links = links }) (least_path steps a.0 b.0)
 by_path steps from to = None
 
+-- the local route between two children of a zone, by its routing: declared, over spokes, or shortest path
 abbrev pub passage : Roads → Routing → Child → Child → Option Passage
 passage m Full from to =
     option_map (λ l. record { start = l.start; end = l.end; links = l.links }) (declared_route m.locals (record { from = from; to = to }))
@@ -52,32 +53,33 @@ passage m Dijkstra from to = by_path (path_routes m.tree m.locals) from to
 abbrev pub leg : Roads → PointId → PointId → Leg
 leg m a b = lowest_leg (home m.tree a) a b (path_in m.tree (home m.tree a)) (path_in m.tree (home m.tree b))
 
+-- the local route of a leg, in the zone of that leg; none: it is missing
 abbrev pub passage_on : Roads → Leg → Option Passage
 passage_on m l = passage m (routing_in m.tree l.zone) l.from l.to
 
 -- the links of a whole route, or the leg whose local route is missing
-abbrev pub Way : Type 0
-Way = Result (List LinkId) Leg
+abbrev pub RouteLinks : Type 0
+RouteLinks = Result (List LinkId) Leg
 
--- in front, the local route, behind: what is missing in front is told before what is missing behind
-abbrev pub way_over : Way → List LinkId → Way → Way
-way_over (Err missing) links behind = Err missing
-way_over (Ok front) links (Err missing) = Err missing
-way_over (Ok front) links (Ok behind) = Ok (front ++ links ++ behind)
+-- the route before, the local route and the route after; if several parts are missing, the earlier one is reported
+abbrev pub route_over : RouteLinks → List LinkId → RouteLinks → RouteLinks
+route_over (Err missing) links behind = Err missing
+route_over (Ok front) links (Err missing) = Err missing
+route_over (Ok front) links (Ok behind) = Ok (front ++ links ++ behind)
 
 -- no links from a point to itself
-abbrev pub unless_there : (PointId → PointId → Way) → PointId → PointId → Way
+abbrev pub unless_there : (PointId → PointId → RouteLinks) → PointId → PointId → RouteLinks
 unless_there way a b = if a.0 == b.0 then Ok [] else way a b
 
 -- The route from a to another point b: the local route of the lowest zone that holds both, between its children that
--- hold them; in front of it the way from a to its first gateway, and behind it the way from its second gateway to b.
--- Where the local route is missing, this is told before all others.
-abbrev pub through_lowest : (PointId → PointId → Way) → Roads → PointId → PointId → Way
+-- hold them; before it the route from a to its first gateway, and after it that from its second gateway to b. If the
+-- local route is missing, this is reported ahead of all others.
+abbrev pub through_lowest : (PointId → PointId → RouteLinks) → Roads → PointId → PointId → RouteLinks
 through_lowest way m a b =
-    option_map_or (λ p. way_over (unless_there way a p.start) p.links (unless_there way p.end b)) (passage_on m (leg m a b)) (Err (leg m a b))
+    option_map_or (λ p. route_over (unless_there way a p.start) p.links (unless_there way p.end b)) (passage_on m (leg m a b)) (Err (leg m a b))
 
 -- such a route through so many levels of zones
-unfoldable pub way : ℕ → Roads → PointId → PointId → Way
+unfoldable pub way : ℕ → Roads → PointId → PointId → RouteLinks
 way zero m a b = Ok []
 way (suc levels) m a b = through_lowest (way levels m) m a b
 
@@ -94,24 +96,27 @@ to_itself m other a = loopback m ∷ []
 
 -- ---- what is answered
 
+-- the latency of a link, in nanoseconds
 abbrev pub latency_of : Roads → LinkId → ℕ
 latency_of m link = (slice_index_or m.ends link.0 (link_end 0 0)).latency
 
+-- the answer for two hosts: the distinct links on the route, and the sum of their latencies
 pub record Route : Type 0 where
   pub links : List LinkId
   pub latency : ℕ
 
 -- each link counts once, at its first place; a route that misses nothing and has over 64 links is too long
-abbrev pub route_or_fault : Roads → Way → Result Route RouteFault
+abbrev pub route_or_fault : Roads → RouteLinks → Result Route RouteFault
 route_or_fault m (Err missing) = Err (NoRoute missing.zone missing.from missing.to)
 route_or_fault m (Ok links) =
     if nat_lt 64 (length (distinct_links [] links)) then Err TooLong
     else Ok (record { links = distinct_links [] links; latency = sum_by (latency_of m) (distinct_links [] links) })
 
 -- the links from a point to another, or from a host to itself; zones are at most 16 deep
-unfoldable pub whole_way : Roads → PointId → PointId → Way
+unfoldable pub whole_way : Roads → PointId → PointId → RouteLinks
 whole_way m a b = if a.0 == b.0 then Ok (to_itself m (routing_in m.tree (home m.tree a)) a) else way 16 m a b
 
+-- the route between two hosts, or why there is none: a local route is missing, or it is too long
 unfoldable pub route_of : Roads → PointId → PointId → Result Route RouteFault
 route_of m a b = route_or_fault m (whole_way m a b)
 

@@ -3,7 +3,7 @@ ghost use Rattle.std.specs.Prelude.{◌≡◌, ◌++◌, IfOk, OnOk};
 ghost use Rattle.sg_route.specs.Local.{local_back, row_locals, routes_declared, zone_routes_declared, locals_of};
 ghost use Rattle.sg_route.specs.Roads.{roads_of};
 ghost use Rattle.sg_route.specs.PathRoutes.{net_of, path_routes_between, path_routes};
-ghost use Rattle.sg_zones.specs.Tree.{tree_of};
+ghost use Rattle.sg_zones.specs.Tree.{zone_tree};
 
 use crate::locals::{Local, Locals, Pair};
 use crate::router::Router;
@@ -17,14 +17,14 @@ use sg_rows::{
 use sg_zones::Zones;
 use std::alloc::Global;
 
-/// A copy of these links.
+/// Returns a copy of these links.
 fn copy_of(alloc: Global, links: &Links) -> Result<Links, Memory>
     ensures { IfOk result (λ copy. copy ≡ links.now) }
 {
     Ok(Links::from_vec(Vec::from_slice(alloc, links.as_slice())?))
 }
 
-/// The way back of a local route.
+/// Returns the reverse of a local route.
 fn local_back(alloc: Global, ends: &[LinkEnd], local: &Local) -> Result<Local, Memory>
     ensures { IfOk result (λ back. back ≡ local_back ends.now local.now) }
 {
@@ -39,7 +39,7 @@ fn local_back(alloc: Global, ends: &[LinkEnd], local: &Local) -> Result<Local, M
     })
 }
 
-/// Adds a local route, and where it is symmetrical its way back.
+/// Adds a local route, and its reverse if it is symmetrical.
 fn add_declared(
     alloc: Global,
     ends: &[LinkEnd],
@@ -110,7 +110,7 @@ fn add_zone_routes(
     Ok(())
 }
 
-/// All local routes that rows declare.
+/// Returns all local routes that rows declare.
 fn locals_of(
     alloc: Global,
     ends: &[LinkEnd],
@@ -125,7 +125,7 @@ fn locals_of(
     Ok(locals)
 }
 
-/// A copy of these spokes.
+/// Returns a copy of these spokes.
 fn copies_of(alloc: Global, rows: &[SpokeRow]) -> Result<Vec<SpokeRow>, Memory>
     ensures { IfOk result (λ copies. copies.items ≡ rows.now) }
 {
@@ -142,7 +142,7 @@ fn copies_of(alloc: Global, rows: &[SpokeRow]) -> Result<Vec<SpokeRow>, Memory>
     Ok(copies)
 }
 
-/// Adds the route between two points of a Dijkstra zone, where this is one.
+/// Adds the route between two points of a Dijkstra zone, if this is one.
 fn add_steps(
     alloc: Global,
     zones: &Zones,
@@ -168,7 +168,7 @@ fn add_steps(
     }
 }
 
-/// The routes over which paths go.
+/// Returns the routes over which paths go.
 fn path_routes(alloc: Global, zones: &Zones, locals: &[Local]) -> Result<Vec<PathRoute>, Memory>
     ensures { IfOk result (λ steps. steps.items ≡ path_routes zones.now locals.now) }
 {
@@ -179,14 +179,14 @@ fn path_routes(alloc: Global, zones: &Zones, locals: &[Local]) -> Result<Vec<Pat
     Ok(steps)
 }
 
-/// The points of a platform, and the routes over which paths go between them.
+/// Returns the points of a platform, and the routes over which paths go between them.
 fn paths_of(
     alloc: Global,
     platform: &PlatformText,
     zones: &Zones,
     rows: &[Local],
 ) -> Result<Paths, Memory>
-    requires zones { zones.now ≡ tree_of platform.now }
+    requires zones { zones.now ≡ zone_tree platform.now }
     requires rows { rows.now ≡ (roads_of platform.now).locals }
     ensures { IfOk result (λ paths. paths ≡ net_of (roads_of platform.now)) }
 {
@@ -195,7 +195,7 @@ fn paths_of(
     Paths::build(alloc, points, steps.as_slice())
 }
 
-/// What a router knows of a platform, with its local routes.
+/// Returns what a router knows of a platform, with its local routes.
 fn ways_of(
     alloc: Global,
     platform: &PlatformText,
@@ -203,7 +203,7 @@ fn ways_of(
     ends: Vec<LinkEnd>,
     rows: Vec<Local>,
 ) -> Result<Ways, Memory>
-    requires zones { zones.now ≡ tree_of platform.now }
+    requires zones { zones.now ≡ zone_tree platform.now }
     requires ends { ends.items ≡ (roads_of platform.now).ends }
     requires rows { rows.items ≡ (roads_of platform.now).locals }
     ensures { IfOk result (λ ways. ways ≡ roads_of platform.now) }
@@ -223,13 +223,13 @@ fn ways_of(
 }
 
 impl Router {
-    /// The router of a platform, with the zones that were made from it.
+    /// Makes the router of a platform, with the zones that were made from it.
     ///
     /// # Errors
     ///
-    /// Want of memory.
+    /// Out of memory.
     pub fn build(alloc: Global, platform: &PlatformText, zones: &Zones) -> Result<Router, Memory>
-        requires { zones.now ≡ tree_of platform.now }
+        requires { zones.now ≡ zone_tree platform.now }
         ensures { IfOk result (λ router. router ≡ roads_of platform.now) }
     {
         let ends = link_ends(alloc, platform.links())?;

@@ -12,7 +12,7 @@ pub struct Leg {
     pub to: Child,
 }
 
-/// The child at which the rest of a path begins: its first zone, or the point itself.
+/// Returns the child at which the rest of a path begins: its first zone, or the point itself.
 fn child_towards(point: PointId, rest: &[ZoneId]) -> Child
     ensures { result ≡ child_towards point rest.now }
 {
@@ -22,7 +22,7 @@ fn child_towards(point: PointId, rest: &[ZoneId]) -> Child
     }
 }
 
-/// The last zone that both paths share, where `last` is that above them, and its children on the two ways.
+/// Returns the last zone that both paths share, if `last` is that above them, and its children on the two paths.
 pub(crate) fn lowest_leg(
     last: ZoneId,
     from: PointId,

@@ -4,7 +4,7 @@
 #![tactic(auto)]
 
 mod build;
-mod kept;
+mod distinct_links;
 mod laws;
 mod leg;
 mod locals;

@@ -1,20 +1,23 @@
 //! Declared local routes, found by their pair of children.
 ghost use Rattle.std.specs.Prelude.{◌≡◌, IfOk};
 ghost use Rattle.std.specs.Option.{option_copied};
-ghost use Rattle.sg_route.specs.kept.Index.{IsIndexOfPairs};
+ghost use Rattle.sg_route.specs.kept.Index.{IsIndexOfPairs, child_key, pair_key};
 ghost use Rattle.sg_route.specs.Local.{declared_route};
 
 use sg_base::{Child, Links, Memory, PointId};
 use std::alloc::Global;
-use std::collections::BTreeMap;
+use std::collections::HashMap;
 use std::marker::Model;
 
 /// An ordered pair of children of a zone.
-#[derive(Clone, Copy, PartialEq, Eq, PartialOrd, Ord)]
+#[derive(Clone, Copy)]
 pub struct Pair {
     pub from: Child,
     pub to: Child,
 }
+
+/// By which a map finds a pair: of each child whether it is a zone, and its number.
+type Key = ((bool, u32), (bool, u32));
 
 /// A local route from one child of a zone to another.
 #[derive(Drop)]
@@ -27,11 +30,11 @@ pub struct Local {
     pub links: Links,
 }
 
-/// Local routes, which contracts see as their list. The first one of a pair is found in the time of a look-up.
+/// Local routes, which contracts see as their list. Finding the first one of a pair costs one lookup.
 #[derive(Drop)]
 pub(crate) struct Locals {
     rows: Vec<Local>,
-    at: BTreeMap<Pair, usize>,
+    at: HashMap<Key, usize>,
 }
 
 impl Model for Locals {
@@ -46,15 +49,30 @@ impl Model for Locals {
     ghost invariant = { λ l. IsIndexOfPairs l.at l.rows.items };
 }
 
-/// Of each pair its first row: the rows are entered from the last to the first.
-fn index_of(alloc: Global, rows: &[Local]) -> Result<BTreeMap<Pair, usize>, Memory>
+fn child_key(child: Child) -> (bool, u32)
+    ensures { result ≡ child_key child }
+{
+    match child {
+        Child::Point(point) => (false, point.0),
+        Child::Zone(zone) => (true, zone.0),
+    }
+}
+
+fn pair_key(pair: Pair) -> Key
+    ensures { result ≡ pair_key pair }
+{
+    (child_key(pair.from), child_key(pair.to))
+}
+
+/// Returns for each pair its first row: the rows are entered from the last to the first.
+fn index_of(alloc: Global, rows: &[Local]) -> Result<HashMap<Key, usize>, Memory>
     ensures { IfOk result (λ at. IsIndexOfPairs at rows.now) }
 {
-    let mut at = BTreeMap::new(alloc);
+    let mut at = HashMap::with_capacity(alloc, rows.len())?;
     let mut left = rows.len();
     while left > 0 {
         left -= 1;
-        at.insert(rows[left].pair, left)?;
+        at.insert(pair_key(rows[left].pair), left)?;
     }
     Ok(at)
 }
@@ -67,11 +85,11 @@ impl Locals {
         Ok(Locals { rows, at })
     }
 
-    /// The first local route of a pair.
+    /// Returns the first local route of a pair.
     pub(crate) fn of(&self, pair: Pair) -> Option<&Local>
         ensures { option_copied result ≡ declared_route self.now pair }
     {
-        match self.at.get(&pair) {
+        match self.at.get(&pair_key(pair)) {
             Some(at) => self.rows.get(*at),
             None => None,
         }

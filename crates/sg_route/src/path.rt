@@ -1,15 +1,15 @@
-//! The least path within a Dijkstra zone.
+//! The shortest path within a Dijkstra zone.
 ghost use Rattle.std.specs.Prelude.{◌≡◌};
 ghost use Rattle.sg_route.specs.kept.Kept.{path_way, KeepsWay};
 ghost use Rattle.sg_route.specs.Route.{by_path};
 
-use crate::kept::keep_all;
+use crate::distinct_links::keep_all;
 use crate::leg::Leg;
 use arrayvec::ArrayVec;
 use sg_base::{Child, LinkId};
 use sg_paths::Paths;
 
-/// Keeps the links of the least path between the two points of a leg, or tells that there is none.
+/// Keeps the links of the shortest path between the two points of a leg, or reports that there is no path.
 pub(crate) fn keep_path(
     paths: &mut Paths,
     leg: Leg,

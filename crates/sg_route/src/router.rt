@@ -4,7 +4,7 @@ ghost use Rattle.sg_route.specs.Made.{IsLeastThere, IsReached, IsWithoutPath, Le
 ghost use Rattle.sg_route.specs.Route.{route_of, LeavesRoute};
 ghost use Rattle.sg_route.specs.PathRoutes.{net_of};
 
-use crate::kept::refuse;
+use crate::distinct_links::refuse;
 use crate::walk::{Trip, keep_whole};
 use crate::ways::Ways;
 use arrayvec::ArrayVec;
@@ -15,8 +15,8 @@ use std::marker::Model;
 /// Why there is no route.
 #[derive(Clone, Copy)]
 pub enum RouteFault {
-    /// The zone has no local route from the one of its children to the other. Where several are missing, the lowest
-    /// zone that holds both points is told, else the first in front of its local route, else the first behind it.
+    /// The zone has no local route from the one of its children to the other. If several are missing, that of the
+    /// lowest zone that holds both points is reported, else the first before its local route, else the first after it.
     NoRoute {
         zone: ZoneId,
         from: Child,
@@ -83,11 +83,11 @@ fn leave_route(
 }
 
 impl Router {
-    /// Leaves in `links` the links of the route from a point to another, or from a host to itself, and answers its
+    /// Leaves in `links` the links of the route from a point to another, or from a host to itself, and returns its
     /// latency in nanoseconds. It takes no memory, and the answer is the same whatever was asked before.
     ///
-    /// A route is made of local routes. In each Dijkstra zone that it crosses this is the path with the fewest links, and
-    /// of these the one with the least list; none is told there exactly where there is no path.
+    /// A route is made of local routes. In each Dijkstra zone that it crosses this is the path with the fewest links,
+    /// and of these the one with the least list; it is missing there exactly if there is no path.
     ///
     /// # Errors
     ///
@@ -105,7 +105,7 @@ impl Router {
             LeavesMade (IsReached self.old) self.old a b result links.new.items }
         ensures least { a.0 ≢ b.0 →
             LeavesMade (IsLeastThere self.old) self.old a b result links.new.items }
-        // .. and where the local route of one is missing, there is no path.
+        // .. and if the local route of one is missing, there is no path.
         ensures none { IfErr result (IsWithoutPath self.old) }
         ensures apart { AllPairs (λ x y. x ≢ y) links.new.items }
         ensures kept { self.new ≡ self.old }

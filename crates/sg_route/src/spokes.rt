@@ -52,7 +52,7 @@ fn grow(rows: &mut Vec<Option<usize>>, n: usize) -> Result<(), Memory>
     Ok(())
 }
 
-// The row under a number.
+// Returns the row under a number.
 fn row_under(rows: &[Option<usize>], number: u32) -> Option<usize>
     ensures { result ≡ slice_index_or rows.now number None }
 {
@@ -84,7 +84,7 @@ fn enter(at: &mut RowsByChild, child: Child, row: usize) -> Result<(), Memory>
     }
 }
 
-/// Of each child its first row: the rows are entered from the last to the first.
+/// Returns for each child its first row: the rows are entered from the last to the first.
 fn index_of(alloc: Global, rows: &[SpokeRow]) -> Result<RowsByChild, Memory>
     ensures { IfOk result (λ at. IsIndexOfChildren at rows.now) }
 {
@@ -101,7 +101,7 @@ fn index_of(alloc: Global, rows: &[SpokeRow]) -> Result<RowsByChild, Memory>
 }
 
 impl RowsByChild {
-    // The row under a child.
+    // Returns the row under a child.
     fn of(&self, child: Child) -> Option<usize>
         ensures { result ≡ row_of self.now child }
     {
@@ -120,7 +120,7 @@ impl Spokes {
         Ok(Spokes { rows, at })
     }
 
-    /// The first spoke of a child.
+    /// Returns the first spoke of a child.
     pub(crate) fn of(&self, child: Child) -> Option<&SpokeRow>
         ensures { option_copied result ≡ spoke_at self.now child }
     {

@@ -4,7 +4,7 @@ ghost use Rattle.sg_route.specs.kept.Kept.{KeepsWay};
 ghost use Rattle.sg_route.specs.Route.{unless_there, way, whole_way};
 ghost use Rattle.sg_route.specs.PathRoutes.{net_of};
 
-use crate::kept::keep_all;
+use crate::distinct_links::keep_all;
 use crate::leg::Leg;
 use crate::path::keep_path;
 use crate::ways::Ways;
@@ -20,7 +20,7 @@ pub(crate) struct Trip {
     pub(crate) to: PointId,
 }
 
-/// Keeps the links of a trip through so many levels of zones, or tells what is missing.
+/// Keeps the links of a trip through so many levels of zones, or reports what is missing.
 fn walk(
     ways: &Ways,
     paths: &mut Paths,
@@ -64,7 +64,7 @@ fn walk(
     }
 }
 
-/// Keeps the links of a whole route, or tells what is missing.
+/// Keeps the links of a whole route, or reports what is missing.
 pub(crate) fn keep_whole(
     ways: &Ways,
     paths: &mut Paths,

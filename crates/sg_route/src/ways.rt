@@ -6,7 +6,7 @@ ghost use Rattle.sg_route.specs.kept.Kept.{keep_all};
 ghost use Rattle.sg_route.specs.Route.{latency_of, leg, loopback, passage_on, to_itself};
 ghost use Rattle.sg_zones.specs.Tree.{home, routing_in};
 
-use crate::kept::keep_all;
+use crate::distinct_links::keep_all;
 use crate::leg::{Leg, lowest_leg};
 use crate::locals::{Locals, Pair};
 use crate::spokes::Spokes;
@@ -64,7 +64,7 @@ pub struct Found<'a> {
 }
 
 impl Ways {
-    /// The lowest zone that holds both points, and its children that hold them.
+    /// Returns the lowest zone that holds both points, and its children that hold them.
     pub(crate) fn leg(&self, a: PointId, b: PointId) -> Leg
         ensures { result ≡ leg self.now a b }
     {
@@ -72,7 +72,7 @@ impl Ways {
         lowest_leg(from, a, b, self.zones.path(from), self.zones.path(to))
     }
 
-    /// The local route of a leg in a zone that isn't Dijkstra.
+    /// Returns the local route of a leg in a zone that isn't Dijkstra.
     pub(crate) fn passage_on(&self, leg: Leg) -> Option<Found<'_>>
         requires { routing_in self.now.tree leg.zone ≢ Dijkstra }
         ensures { option_map found_passage result ≡ passage_on self.now leg }
@@ -150,7 +150,7 @@ impl Ways {
         }
     }
 
-    /// The sum of the latencies of these links.
+    /// Returns the sum of the latencies of these links.
     pub(crate) fn latency(&self, links: &[LinkId]) -> u128
         requires { length links.now ≤ 64 }
         ensures { result ≡ sum_by (latency_of self.now) links.now }

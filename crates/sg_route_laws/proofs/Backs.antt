@@ -1,4 +1,4 @@
--- The way back of a way back.
+-- The reverse of a reverse route.
 use Rattle.std.proofs.Common.{◌≡◌, ◌+◌, ◌-◌, ◌<◌, ◌≤◌, ◌⊎◌, inl, inr, ℕ, zero, suc, List, [], ◌∷◌, ◌++◌, length, length-append, get_or, arith, refl, sym, ◌∙◌, ap}
 use Rattle.std.proofs.lemmas.List.{get_or_append_left, get_or-append_right, map-append, reverse-append, reverse-reverse}
 use Rattle.std.specs.Prelude.{map, reverse, All}

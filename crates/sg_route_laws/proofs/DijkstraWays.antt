@@ -12,7 +12,7 @@ use Rattle.sg_paths.specs.Path.{HasNoPath, IsLeastPath}
 use Rattle.sg_paths.specs.declared.route.PathRoute.{PathRoute}
 use Rattle.sg_rows.specs.Platform.{Platform}
 use Rattle.sg_route.specs.Roads.{Roads, roads_of}
-use Rattle.sg_route.specs.Route.{Passage, Way, by_path, leg, passage, passage_on, way, whole_way}
+use Rattle.sg_route.specs.Route.{Passage, RouteLinks, by_path, leg, passage, passage_on, way, whole_way}
 use Rattle.sg_route.proofs.Passages.{by_passage}
 use Rattle.sg_route.specs.PathRoutes.{path_routes}
 use Rattle.sg_route.specs.declared.leg.Leg.{Leg}
@@ -45,9 +45,9 @@ dijkstra_takes_least_paths p good a b isa isb far same dijkstra =
     go : (steps : List PathRoute) (l : Leg) (o : Option (List LinkId)) → least_path steps a.0 b.0 ≡ o → whole_way (roads_of p) a b ≡ by_passage (way 15 (roads_of p)) a b l (made a b o)
         → MatchResult (whole_way (roads_of p) a b) (λ links. IsLeastPath steps a.0 b.0 links) (λ missing. HasNoPath steps a.0 b.0)
     go steps l None is whole =
-        let P : Way → Type 0 = λ w. MatchResult w (λ links. IsLeastPath steps a.0 b.0 links) (λ missing. HasNoPath steps a.0 b.0) in
+        let P : RouteLinks → Type 0 = λ w. MatchResult w (λ links. IsLeastPath steps a.0 b.0 links) (λ missing. HasNoPath steps a.0 b.0) in
         subst P (sym whole) (none_found steps a.0 b.0 is)
     go steps l (Some links) is whole =
-        let P : Way → Type 0 = λ w. MatchResult w (λ links. IsLeastPath steps a.0 b.0 links) (λ missing. HasNoPath steps a.0 b.0) in
+        let P : RouteLinks → Type 0 = λ w. MatchResult w (λ links. IsLeastPath steps a.0 b.0 links) (λ missing. HasNoPath steps a.0 b.0) in
         let q : Passage = record { start = a; end = b; links = links } in
         subst P (sym (whole ∙ direct (way 15 (roads_of p)) a b l q refl refl)) (least_found steps a.0 b.0 links is)

@@ -15,7 +15,7 @@ use Rattle.sg_rows.specs.declared.rows.Routing.{Routing}
 use Rattle.sg_rows.specs.declared.rows.Routing.TheVariants.{Full, Star, Dijkstra}
 use Rattle.sg_rows.specs.declared.rows.SpokeRow.{SpokeRow}
 use Rattle.sg_rows.specs.declared.rows.ZoneRow.{ZoneRow}
-use Rattle.sg_route.specs.Equal.{child_eq, pair_eq}
+use Rattle.sg_route.specs.Equal.{child_eq, child_pair_eq}
 use Rattle.sg_route.specs.Local as local
 use Rattle.sg_route.specs.Local.{row_locals, declared_route, route_local, zone_route_local}
 use Rattle.sg_route.specs.Roads.{Roads, roads_of}
@@ -42,8 +42,8 @@ use Rattle.sg_zones.proofs.GoodTree.{both_none, not_told, each_told, HasDepth, d
 use Rattle.sg_zones.proofs.Ups as ups
 use Rattle.sg_zones.proofs.TreeLemmas.{path_deep, path_length, path_front, depth_once}
 use Rattle.sg_zones.specs.Faults.{child_holds, first_along, zone_route_gateway_fault, spoke_gateway_fault, child_zone_fault, route_fault, zone_route_fault, spoke_fault, tree_fault, row_fault, zone_fault}
-use Rattle.sg_zones.specs.Paths.{parent, path}
-use Rattle.sg_zones.specs.Tree.{tree_of}
+use Rattle.sg_zones.specs.Paths.{parent_zone, path}
+use Rattle.sg_zones.specs.Tree.{zone_tree}
 
 -- ---- equal keys
 
@@ -61,7 +61,7 @@ both_true true true h = (refl, refl)
 both_true true false h = absurd (cc)
 both_true false b h = absurd (cc)
 
-pub pair_eq_true : (a b : Pair) → pair_eq a b ≡ true → a ≡ b
+pub pair_eq_true : (a b : Pair) → child_pair_eq a b ≡ true → a ≡ b
 pair_eq_true a b same =
     let both = both_true (child_eq a.from b.from) (child_eq a.to b.to) same in
     let e : a.from ≡ b.from = child_eq_true a.from b.from both.0 in
@@ -74,7 +74,7 @@ pair_eq_true a b same =
 
 -- the gateway is held by its end, and exists
 pub record Stands (p : Platform) (child : Child) (gateway : PointId) : Type 0 where
-  pub held : child_holds (tree_of p) child gateway ≡ true
+  pub held : child_holds (zone_tree p) child gateway ≡ true
   pub exists : gateway.0 < length (roads_of p).tree.homes
 
 moved : (p : Platform) (c d : Child) (g h : PointId) → c ≡ d → g ≡ h → Stands p c g → Stands p d h
@@ -105,7 +105,7 @@ points_count p =
     ∙ ap (λ n. n + length (map (λ row. row.zone) p.routers)) (length-map p.hosts (λ row. row.zone))
     ∙ ap (λ n. length p.hosts + n) (length-map p.routers (λ row. row.zone))
 
-locals_good : (p : Platform) → IsPlatform p → first_along (zone_route_gateway_fault (tree_of p)) 0 p.zone_routes ≡ None → Each (GoodLocal p) (roads_of p).locals
+locals_good : (p : Platform) → IsPlatform p → first_along (zone_route_gateway_fault (zone_tree p)) 0 p.zone_routes ≡ None → Each (GoodLocal p) (roads_of p).locals
 locals_good p kept none =
     let n = points_count p in
     let points : Each (λ r. GoodLocal p (route_local r)) p.routes = each_from (λ r. GoodLocal p (route_local r)) p.routes (λ k d few.
@@ -113,7 +113,7 @@ locals_good p kept none =
     record { start = itself p (get_or p.routes k d).src (omega (arith, n, s.src)); end = itself p (get_or p.routes k d).dst (omega (arith, n, s.dst)) }) in
     let rows : Each (λ r. GoodLocal p (zone_route_local r)) p.zone_routes = each_from (λ r. GoodLocal p (zone_route_local r)) p.zone_routes (λ k d few.
     let s = kept.zone_routes k d few in
-    let t = each_told (zone_route_gateway_fault (tree_of p)) 0 k k p.zone_routes d none few (omega arith) in
+    let t = each_told (zone_route_gateway_fault (zone_tree p)) 0 k k p.zone_routes d none few (omega arith) in
     let two = both_none _ _ t in
     record {
       start = record { held = not_false _ (not_told _ _ two.0); exists = omega (arith, n, s.gw_src) };
@@ -128,12 +128,12 @@ locals_good p kept none =
 abbrev pub GoodSpoke : Platform → SpokeRow → Type 0
 GoodSpoke p s = Stands p s.child s.gateway
 
-spokes_good : (p : Platform) → IsPlatform p → first_along (spoke_gateway_fault (tree_of p)) 0 p.spokes ≡ None → Each (GoodSpoke p) p.spokes
+spokes_good : (p : Platform) → IsPlatform p → first_along (spoke_gateway_fault (zone_tree p)) 0 p.spokes ≡ None → Each (GoodSpoke p) p.spokes
 spokes_good p kept none =
     let n = points_count p in
     each_from (GoodSpoke p) p.spokes (λ k d few.
     let s = kept.spokes k d few in
-    let t = each_told (spoke_gateway_fault (tree_of p)) 0 k k p.spokes d none few (omega arith) in
+    let t = each_told (spoke_gateway_fault (zone_tree p)) 0 k k p.spokes d none few (omega arith) in
     record { held = not_false _ (not_told _ _ t); exists = omega (arith, n, s.gateway) })
 
 pub record GoodPassage (p : Platform) (from to : Child) (way : Passage) : Type 0 where
@@ -145,7 +145,7 @@ full_good : (p : Platform) (from to : Child) (way : Passage) (o : Option Local) 
 full_good p from to way None found each is = absurd (cc)
 full_good p from to way (Some l) found each is =
     let pair : Pair = record { from = from; to = to } in
-    let r = each_found (GoodLocal p) (λ x. pair_eq pair x.pair) (roads_of p).locals l found each in
+    let r = each_found (GoodLocal p) (λ x. child_pair_eq pair x.pair) (roads_of p).locals l found each in
     let same : pair ≡ l.pair = pair_eq_true pair l.pair r.1 in
     let f : l.pair.from ≡ from = ap (λ q. q.from) (sym same) in
     let t : l.pair.to ≡ to = ap (λ q. q.to) (sym same) in
@@ -180,19 +180,19 @@ ends_there p steps from to (route ∷ path) each is far =
     end_there steps at [] each same there = let e : at ≡ to = same in omega arith
     end_there steps at (next ∷ rest) each on there = end_there steps next.to rest each on.2 (each_contained (IsWithin p) steps next each on.0).1
 
-path_good : (p : Platform) → IsPlatform p → (from to : Child) (way : Passage) → by_path (path_routes (tree_of p) (roads_of p).locals) from to ≡ Some way → GoodPassage p from to way
+path_good : (p : Platform) → IsPlatform p → (from to : Child) (way : Passage) → by_path (path_routes (zone_tree p) (roads_of p).locals) from to ≡ Some way → GoodPassage p from to way
 path_good p kept (Zone x) to way is = absurd (cc)
 path_good p kept (Point a) (Zone x) way is = absurd (cc)
-path_good p kept (Point a) (Point b) way is = go (a.0 == b.0) refl (least_path (path_routes (tree_of p) (roads_of p).locals) a.0 b.0) refl is
+path_good p kept (Point a) (Point b) way is = go (a.0 == b.0) refl (least_path (path_routes (zone_tree p) (roads_of p).locals) a.0 b.0) refl is
   where
-    go : (t : Bool) → (a.0 == b.0) ≡ t → (o : Option (List LinkId)) → least_path (path_routes (tree_of p) (roads_of p).locals) a.0 b.0 ≡ o
+    go : (t : Bool) → (a.0 == b.0) ≡ t → (o : Option (List LinkId)) → least_path (path_routes (zone_tree p) (roads_of p).locals) a.0 b.0 ≡ o
         → cond t None (option_map (λ links. record { start = a; end = b; links = links }) o) ≡ Some way → GoodPassage p (Point a) (Point b) way
     go true e o f h = absurd (cc)
     go false e None f h = absurd (cc)
     go false e (Some links) f h =
         let far : a.0 ≢ b.0 = grind (arith, nat_tests) in
         let n = points_count p in
-        let steps = path_routes (tree_of p) (roads_of p).locals in
+        let steps = path_routes (zone_tree p) (roads_of p).locals in
         let r = (least_found steps a.0 b.0 links f).reached in
         let ends = ends_there p steps a.0 b.0 r.0 (steps_join p kept) r.1 far in
         let start : a ≡ way.start = cc in
@@ -212,12 +212,12 @@ pub record IsGood (p : Platform) : Type 0 where
 
 pub good_from : (p : Platform) → IsPlatform p → zone_fault p ≡ None → IsGood p
 good_from p kept none =
-    let two = both_none (tree_fault p.zones) (row_fault (tree_of p) p) none in
-    let a = both_none (first_along (zone_route_gateway_fault (tree_of p)) 0 p.zone_routes)
-    (option_or (first_along (spoke_gateway_fault (tree_of p)) 0 p.spokes) (option_or (first_along (child_zone_fault (tree_of p)) 0 p.zones) (option_or (first_along (route_fault (tree_of p)) 0 p.routes)
-    (option_or (first_along (zone_route_fault (tree_of p)) 0 p.zone_routes) (first_along (spoke_fault (tree_of p)) 0 p.spokes))))) two.1 in
-    let b = both_none (first_along (spoke_gateway_fault (tree_of p)) 0 p.spokes) (option_or (first_along (child_zone_fault (tree_of p)) 0 p.zones) (option_or (first_along (route_fault (tree_of p)) 0 p.routes)
-    (option_or (first_along (zone_route_fault (tree_of p)) 0 p.zone_routes) (first_along (spoke_fault (tree_of p)) 0 p.spokes)))) a.1 in
+    let two = both_none (tree_fault p.zones) (row_fault (zone_tree p) p) none in
+    let a = both_none (first_along (zone_route_gateway_fault (zone_tree p)) 0 p.zone_routes)
+    (option_or (first_along (spoke_gateway_fault (zone_tree p)) 0 p.spokes) (option_or (first_along (child_zone_fault (zone_tree p)) 0 p.zones) (option_or (first_along (route_fault (zone_tree p)) 0 p.routes)
+    (option_or (first_along (zone_route_fault (zone_tree p)) 0 p.zone_routes) (first_along (spoke_fault (zone_tree p)) 0 p.spokes))))) two.1 in
+    let b = both_none (first_along (spoke_gateway_fault (zone_tree p)) 0 p.spokes) (option_or (first_along (child_zone_fault (zone_tree p)) 0 p.zones) (option_or (first_along (route_fault (zone_tree p)) 0 p.routes)
+    (option_or (first_along (zone_route_fault (zone_tree p)) 0 p.zone_routes) (first_along (spoke_fault (zone_tree p)) 0 p.spokes)))) a.1 in
     record { kept = kept; tree = two.0; locals = locals_good p kept a.0; spokes = spokes_good p kept b.0 }
 
 pub passage_good : (p : Platform) → IsGood p → (r : Routing) (from to : Child) (way : Passage) → passage (roads_of p) r from to ≡ Some way → GoodPassage p from to way
@@ -324,7 +324,7 @@ pub record Top (p : Platform) (a : PointId) : Type 0 where
   pub root : ZoneId
   pub first : get_or (path_to (roads_of p) a) 0 root ≡ root
   pub exists : root.0 < length p.zones
-  pub alone : parent p.zones root ≡ None
+  pub alone : parent_zone p.zones root ≡ None
 
 top_of : (p : Platform) → IsGood p → (a : PointId) → IsPoint (roads_of p) a → Top p a
 top_of p good a there =

@@ -5,7 +5,7 @@ use Rattle.std.proofs.lemmas.Bool.Decides.{nat_tests}
 use Rattle.sg_base.specs.declared.ids.PointId.{PointId}
 use Rattle.sg_route.specs.declared.leg.Leg.{Leg}
 use Rattle.sg_route.specs.Roads.{Roads}
-use Rattle.sg_route.specs.Route.{Way, Passage, leg, way_over, unless_there, through_lowest, to_itself, way, whole_way}
+use Rattle.sg_route.specs.Route.{RouteLinks, Passage, leg, route_over, unless_there, through_lowest, to_itself, way, whole_way}
 use Rattle.sg_route.proofs.Passages.{by_passage}
 use Rattle.sg_route_laws.specs.Laws.{IsPoint, FollowsLowestZone}
 use Rattle.sg_route_laws.proofs.Nested.{IsNested, depth_of_both, home, passage_between, routing}
@@ -13,22 +13,22 @@ use Rattle.sg_route_laws.proofs.Nested.{IsNested, depth_of_both, home, passage_b
 apart : (m n : ℕ) → (m == n) ≡ false → m ≢ n
 apart m n f e = grind (arith, nat_tests)
 
-unless_same : (w v : PointId → PointId → Way) (a b : PointId) → (a.0 ≢ b.0 → w a b ≡ v a b) → unless_there w a b ≡ unless_there v a b
+unless_same : (w v : PointId → PointId → RouteLinks) (a b : PointId) → (a.0 ≢ b.0 → w a b ≡ v a b) → unless_there w a b ≡ unless_there v a b
 unless_same w v a b h = go (a.0 == b.0) (λ f. h (apart a.0 b.0 f))
   where
     go : (t : Bool) → (t ≡ false → w a b ≡ v a b) → cond t (Ok []) (w a b) ≡ cond t (Ok []) (v a b)
     go true h = refl
     go false h = h refl
 
-passage_same : (w v : PointId → PointId → Way) (a b : PointId) (l : Leg) (o : Option Passage)
+passage_same : (w v : PointId → PointId → RouteLinks) (a b : PointId) (l : Leg) (o : Option Passage)
     → ((p : Passage) → o ≡ Some p → (unless_there w a p.start ≡ unless_there v a p.start) × (unless_there w p.end b ≡ unless_there v p.end b))
     → by_passage w a b l o ≡ by_passage v a b l o
 passage_same w v a b l None h = refl
 passage_same w v a b l (Some p) h =
     let same = h p refl in
-    ap (λ x. way_over x p.links (unless_there w p.end b)) same.0 ∙ ap (λ y. way_over (unless_there v a p.start) p.links y) same.1
+    ap (λ x. route_over x p.links (unless_there w p.end b)) same.0 ∙ ap (λ y. route_over (unless_there v a p.start) p.links y) same.1
 
--- one level more gives the same way, where the levels reach down to the deepest zones
+-- one level more gives the same way, if the levels reach down to the deepest zones
 pub same_deeper : (n : ℕ) (m : Roads) → IsNested m → (a b : PointId) → IsPoint m a → IsPoint m b → 17 ≤ n + depth_of_both m a b → way n m a b ≡ way (suc n) m a b
 unfolding way
 same_deeper zero m nested a b there here deep = absurd (omega (arith, nested.shallow a b there here))

@@ -1,4 +1,4 @@
--- The paths part at the lowest zone that holds both points, and go on at its children.
+-- The paths part at the lowest zone that holds both points, and continue at its children.
 use Rattle.std.proofs.Common.{◌≡◌, ◌<◌, ◌≤◌, ℕ, zero, suc, Bool, true, false, cond, List, [], ◌∷◌, ◌++◌, length, map, take, get_or, Option, None, Some, arith, refl, sym, ◌∙◌, ap}
 use Rattle.std.specs.Prelude.{◌==◌, ◌||◌, option_and_then, slice_get}
 use Rattle.std.specs.Option.{option_map_or}
@@ -12,8 +12,8 @@ use Rattle.sg_base.specs.declared.ids.Child.TheVariants.{Point, Zone}
 use Rattle.sg_rows.specs.Platform.{Platform}
 use Rattle.sg_rows.specs.declared.rows.ZoneRow.{ZoneRow}
 use Rattle.sg_zones.specs.Faults.{child_holds, zone_above}
-use Rattle.sg_zones.specs.Paths.{parent, path}
-use Rattle.sg_zones.specs.Tree.{Tree, tree_of, depth}
+use Rattle.sg_zones.specs.Paths.{parent_zone, path}
+use Rattle.sg_zones.specs.Tree.{Tree, zone_tree, depth}
 use Rattle.sg_zones.proofs.Cycles.{parents_exist}
 use Rattle.sg_zones.proofs.TreeLemmas.{AboveIs, IsDepth, inner_of, path_deep, path_front, path_last, path_length}
 use Rattle.sg_zones.proofs.GoodTree.{depth_here, exists_on, any_at, path_at}
@@ -74,7 +74,7 @@ among_at (x ∷ xs) (suc k) z few at = go (x.0 == z.0) (among_at xs k z (omega a
 
 -- a zone on a point's path has its place there as its depth
 depth_at : (p : Platform) → IsGood p → (a : PointId) → IsPoint (roads_of p) a → (z : ZoneId) (k : ℕ) → k < length (path_to (roads_of p) a) → get_or (path_to (roads_of p) a) k z ≡ z
-    → depth (tree_of p) z ≡ suc k
+    → depth (zone_tree p) z ≡ suc k
 depth_at p good a there z k inside at =
     let za : ZoneId = home (roads_of p) a in
     let d = depth_here p.zones za good.tree (home_exists p good a there) in
@@ -95,9 +95,9 @@ parents_same (z ∷ zones) (suc i) = parents_same zones i
 
 -- on a path the zone above is the one before
 above_on : (zones : List ZoneRow) (x z : ZoneId) (k : ℕ) (whole : List ZoneId) → IsDepth (suc (suc k)) zones x → path (suc (suc k)) zones x ≡ take (suc (suc k)) whole
-    → get_or whole k z ≡ z → parent zones x ≡ Some z
+    → get_or whole k z ≡ z → parent_zone zones x ≡ Some z
 unfolding path
-above_on zones x z k whole deep front at = go (parent zones x) deep front (λ above h. path_length (suc k) zones above h) (λ above h. path_last k zones above z h)
+above_on zones x z k whole deep front at = go (parent_zone zones x) deep front (λ above h. path_length (suc k) zones above h) (λ above h. path_last k zones above z h)
   where
     go : (o : Option ZoneId) → AboveIs (IsDepth (suc k) zones) (suc k) o → option_map_or (path (suc k) zones) o [] ++ x ∷ [] ≡ take (suc (suc k)) whole
         → ((above : ZoneId) → IsDepth (suc k) zones above → length (path (suc k) zones above) ≡ suc k)
@@ -109,9 +109,9 @@ above_on zones x z k whole deep front at = go (parent zones x) deep front (λ ab
         sym (last above h) ∙ sym (inner_of (path (suc k) zones above) x z k (omega arith)) ∙ ap (λ q. get_or q k z) e ∙ get_or-take (suc (suc k)) whole k z (omega arith) ∙ at in
         ap (λ q. Some q) same
 
--- the zone behind another on a point's path is its child
+-- the zone after another on a point's path is its child
 child_above : (p : Platform) → IsGood p → (c : PointId) → IsPoint (roads_of p) c → (x z : ZoneId) (k : ℕ) → suc k < length (path_to (roads_of p) c)
-    → get_or (path_to (roads_of p) c) (suc k) x ≡ x → get_or (path_to (roads_of p) c) k z ≡ z → zone_above (tree_of p) (Zone x) ≡ Some z
+    → get_or (path_to (roads_of p) c) (suc k) x ≡ x → get_or (path_to (roads_of p) c) k z ≡ z → zone_above (zone_tree p) (Zone x) ≡ Some z
 child_above p good c there x z k inside at before =
     let zc : ZoneId = home (roads_of p) c in
     let d = depth_here p.zones zc good.tree (home_exists p good c there) in
@@ -135,12 +135,12 @@ last_is_home p good c there last =
 
 from_child : (p : Platform) → IsGood p → (a b : PointId) → IsPoint (roads_of p) a → (k : ℕ) → depth_of_both (roads_of p) a b ≡ suc k
     → get_or (path_to (roads_of p) a) k (leg (roads_of p) a b).zone ≡ (leg (roads_of p) a b).zone → (c : Child) → (leg (roads_of p) a b).from ≡ c
-    → IsChildOver (tree_of p) (leg (roads_of p) a b).zone a c
+    → IsChildOver (zone_tree p) (leg (roads_of p) a b).zone a c
 from_child p good a b there k common at (Point q) is =
     let m = roads_of p in
     let same : a ≡ q = from_point (home m a) a b (path_to m a) (path_to m b) q is in
     let own : (leg m a b).zone ≡ home m a = zone_from (home m a) a b (path_to m a) (path_to m b) q is ∙ last_is_home p good a there (home m a) in
-    record { above = ap (λ z. Some z) (ap (home m) (sym same) ∙ sym own); held = point_itself (tree_of p) q a same }
+    record { above = ap (λ z. Some z) (ap (home m) (sym same) ∙ sym own); held = point_itself (zone_tree p) q a same }
 from_child p good a b there k common at (Zone x) is =
     let m = roads_of p in
     let parts = from_parts (home m a) a b (path_to m a) (path_to m b) x is in
@@ -153,12 +153,12 @@ from_child p good a b there k common at (Zone x) is =
 
 to_child : (p : Platform) → IsGood p → (a b : PointId) → IsPoint (roads_of p) b → (k : ℕ) → depth_of_both (roads_of p) a b ≡ suc k
     → get_or (path_to (roads_of p) b) k (leg (roads_of p) a b).zone ≡ (leg (roads_of p) a b).zone → (c : Child) → (leg (roads_of p) a b).to ≡ c
-    → IsChildOver (tree_of p) (leg (roads_of p) a b).zone b c
+    → IsChildOver (zone_tree p) (leg (roads_of p) a b).zone b c
 to_child p good a b there k common at (Point q) is =
     let m = roads_of p in
     let same : b ≡ q = to_point (home m a) a b (path_to m a) (path_to m b) q is in
     let own : (leg m a b).zone ≡ home m b = zone_to (home m a) a b (path_to m a) (path_to m b) q is ∙ last_is_home p good b there (home m a) in
-    record { above = ap (λ z. Some z) (ap (home m) (sym same) ∙ sym own); held = point_itself (tree_of p) q b same }
+    record { above = ap (λ z. Some z) (ap (home m) (sym same) ∙ sym own); held = point_itself (zone_tree p) q b same }
 to_child p good a b there k common at (Zone x) is =
     let m = roads_of p in
     let parts = to_parts (home m a) a b (path_to m a) (path_to m b) x is in

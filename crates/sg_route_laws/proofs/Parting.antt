@@ -14,7 +14,7 @@ got [] k d e few = absurd (omega arith)
 got (x ∷ xs) zero d e few = refl
 got (x ∷ xs) (suc k) d e few = got xs k d e (omega arith)
 
--- the zone x stands right behind the part of the path that is shared
+-- the zone x stands right after the part of the path that is shared
 pub record Parts (x : ZoneId) (own : List ZoneId) (common : ℕ) : Type 0 where
   pub inside : common < length own
   pub at : get_or own common x ≡ x
@@ -43,7 +43,7 @@ to_parts last a b (u ∷ us) (v ∷ vs) x h = go (u.0 == v.0) h (λ k. to_parts 
     go true h more = let r = more h in let i = r.inside in record { inside = omega arith; at = r.at }
     go false h more = record { inside = omega arith; at = zone_is v x h }
 
--- paths with the same front share it
+-- paths with the same prefix share it
 pub shared_front : (n : ℕ) (xs ys : List ZoneId) → take n xs ≡ take n ys → n ≤ length xs → n ≤ length ys → n ≤ shared xs ys
 shared_front zero xs ys e few more = omega arith
 shared_front (suc n) [] ys e few more = absurd (omega arith)
@@ -58,7 +58,7 @@ shared_front (suc n) (x ∷ xs) (y ∷ ys) e few more =
     go true e h = omega arith
     go false e h = absurd (cc)
 
--- where the one path ends, the last of its zones is the lowest
+-- if the one path ends, the last of its zones is the lowest
 pub zone_from : (last : ZoneId) (a b : PointId) (xs ys : List ZoneId) (q : PointId) → (lowest_leg last a b xs ys).from ≡ Point q → (lowest_leg last a b xs ys).zone ≡ get_or (last ∷ xs) (length xs) last
 zone_from last a b [] ys q h = refl
 zone_from last a b (u ∷ us) [] q h = absurd (cc)

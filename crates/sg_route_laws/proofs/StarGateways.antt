@@ -29,10 +29,10 @@ use Rattle.sg_route.proofs.WalkLemmas.{direct}
 use Rattle.sg_zones.proofs.GoodTree.{any_at, depth_here}
 use Rattle.sg_zones.proofs.TreeLemmas.{AboveIs, IsDepth, depth_once, path_front, path_last, path_length}
 use Rattle.sg_zones.specs.Faults.{zone_above}
-use Rattle.sg_zones.specs.Paths.{parent, path}
-use Rattle.sg_zones.specs.Tree.{tree_of}
+use Rattle.sg_zones.specs.Paths.{parent_zone, path}
+use Rattle.sg_zones.specs.Tree.{zone_tree}
 
--- ---- where two paths part behind what they share
+-- ---- where two paths part after what they share
 
 parted_behind : (last : ZoneId) (a b : PointId) (front xs ys : List ZoneId) → lowest_leg last a b (front ++ xs) (front ++ ys) ≡ lowest_leg (get_or (last ∷ front) (length front) last) a b xs ys
 parted_behind last a b [] xs ys = refl
@@ -54,7 +54,7 @@ parted_now last a b (x ∷ xs) (y ∷ ys) far = go (x.0 == y.0) far
 
 -- ---- the path of a gateway goes through the zone to the child
 
--- behind the path of the zone the path goes on at this child
+-- after the path of the zone the path continues at this child
 pub record GoesOn (zones : List ZoneRow) (zone : ZoneId) (child : Child) (point : PointId) (whole_way : List ZoneId) : Type 0 where
   pub depth : ℕ
   pub is : IsDepth (suc depth) zones zone
@@ -62,16 +62,16 @@ pub record GoesOn (zones : List ZoneRow) (zone : ZoneId) (child : Child) (point 
   pub same : whole_way ≡ path (suc depth) zones zone ++ rest
   pub on : child_towards point rest ≡ child
 
-above_depth : (zones : List ZoneRow) (x zone : ZoneId) (k : ℕ) → parent zones x ≡ Some zone → IsDepth (suc k) zones x → IsDepth k zones zone
+above_depth : (zones : List ZoneRow) (x zone : ZoneId) (k : ℕ) → parent_zone zones x ≡ Some zone → IsDepth (suc k) zones x → IsDepth k zones zone
 above_depth zones x zone k up is =
     let P : Option ZoneId → Type 0 = λ o. AboveIs (IsDepth k zones) k o in
     subst P up is
 
-above_path : (zones : List ZoneRow) (x zone : ZoneId) (k : ℕ) → parent zones x ≡ Some zone → path (suc k) zones x ≡ path k zones zone ++ x ∷ []
+above_path : (zones : List ZoneRow) (x zone : ZoneId) (k : ℕ) → parent_zone zones x ≡ Some zone → path (suc k) zones x ≡ path k zones zone ++ x ∷ []
 unfolding path
 above_path zones x zone k up = ap (λ o. option_map_or (path k zones) o [] ++ x ∷ []) up
 
-through_zone : (zones : List ZoneRow) (x zone : ZoneId) (point : PointId) (d k : ℕ) (whole_way : List ZoneId) → parent zones x ≡ Some zone → IsDepth (suc k) zones x
+through_zone : (zones : List ZoneRow) (x zone : ZoneId) (point : PointId) (d k : ℕ) (whole_way : List ZoneId) → parent_zone zones x ≡ Some zone → IsDepth (suc k) zones x
     → path (suc k) zones x ≡ take (suc k) whole_way → GoesOn zones zone (Zone x) point whole_way
 through_zone zones x zone point d zero whole_way up is front = absurd (above_depth zones x zone zero up is)
 through_zone zones x zone point d (suc k) whole_way up is front =
@@ -84,7 +84,7 @@ through_zone zones x zone point d (suc k) whole_way up is front =
       on = refl;
     }
 
-pub goes_on : (p : Platform) → IsGood p → (child : Child) (gateway : PointId) (zone : ZoneId) → Stands p child gateway → zone_above (tree_of p) child ≡ Some zone
+pub goes_on : (p : Platform) → IsGood p → (child : Child) (gateway : PointId) (zone : ZoneId) → Stands p child gateway → zone_above (zone_tree p) child ≡ Some zone
     → GoesOn p.zones zone child gateway (path_to (roads_of p) gateway)
 goes_on p good (Point q) gateway zone stands above =
     let held : (q.0 == gateway.0) ≡ true = stands.held in

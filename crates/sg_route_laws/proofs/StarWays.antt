@@ -26,12 +26,12 @@ use Rattle.sg_zones.proofs.GoodTree.{depth_here}
 use Rattle.sg_zones.proofs.TreeLemmas.{path_last, path_length}
 use Rattle.sg_zones.specs.Faults.{child_holds}
 use Rattle.sg_zones.specs.Tree as tree
-use Rattle.sg_zones.specs.Tree.{tree_of}
+use Rattle.sg_zones.specs.Tree.{zone_tree}
 
 same_nat : (n : ℕ) → (n == n) ≡ true
 same_nat n = grind (arith, nat_tests)
 
--- where both paths are one, it ends at the lowest zone, and both points are its children
+-- if both paths are one, it ends at the lowest zone, and both points are its children
 parted_same : (last : ZoneId) (a b : PointId) (xs : List ZoneId) → lowest_leg last a b xs xs ≡ record { zone = get_or (last ∷ xs) (length xs) last; from = Point a; to = Point b }
 parted_same last a b [] = refl
 parted_same last a b (x ∷ xs) = go (x.0 == x.0) (same_nat x.0) (parted_same x a b xs)
@@ -62,7 +62,7 @@ own_gateway : (p : Platform) → IsGood p → (a : PointId) (s : SpokeRow) → s
 own_gateway p good a s found =
     let r = each_found (GoodSpoke p) (λ x. child_eq (Point a) x.child) p.spokes s found good.spokes in
     let same : Point a ≡ s.child = child_eq_true (Point a) s.child r.1 in
-    let P : Child → Type 0 = λ c. child_holds (tree_of p) c s.gateway ≡ true in
+    let P : Child → Type 0 = λ c. child_holds (zone_tree p) c s.gateway ≡ true in
     let held : (a.0 == s.gateway.0) ≡ true = subst P (sym same) r.0.held in
     grind (arith, nat_tests)
 

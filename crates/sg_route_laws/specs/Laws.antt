@@ -18,7 +18,7 @@ use Rattle.sg_paths.specs.Path.{HasNoPath, IsLeastPath}
 use Rattle.sg_route.specs.Route.{leg, passage_on, through_lowest, whole_way}
 use Rattle.sg_route.specs.PathRoutes.{path_routes}
 use Rattle.sg_zones.specs.Faults.{child_holds, zone_above}
-use Rattle.sg_zones.specs.Tree.{Tree, depth, holds, home, routing_in, tree_of}
+use Rattle.sg_zones.specs.Tree.{Tree, depth, holds, home, routing_in, zone_tree}
 
 -- a host or a router of the platform
 abbrev pub IsPoint : Roads → PointId → Type 0
@@ -42,36 +42,37 @@ pub record IsLowest (t : Tree) (a b : PointId) (l : Leg) : Type 0 where
   pub to : IsChildOver t l.zone b l.to
 
 abbrev pub LegsAreLowest : Platform → Type 0
-LegsAreLowest p = (a b : PointId) → IsPoint (roads_of p) a → IsPoint (roads_of p) b → IsLowest (tree_of p) a b (leg (roads_of p) a b)
+LegsAreLowest p = (a b : PointId) → IsPoint (roads_of p) a → IsPoint (roads_of p) b → IsLowest (zone_tree p) a b (leg (roads_of p) a b)
 
 -- the links between two points that stand in one Star zone and have these spokes
 abbrev pub StarGoesUpAndDown : Platform → Type 0
 StarGoesUpAndDown p = (a b : PointId) (from to : SpokeRow) → IsPoint (roads_of p) a → IsPoint (roads_of p) b → a.0 ≢ b.0
-    → home (tree_of p) a ≡ home (tree_of p) b → routing_in (tree_of p) (home (tree_of p) a) ≡ Star
+    → home (zone_tree p) a ≡ home (zone_tree p) b → routing_in (zone_tree p) (home (zone_tree p) a) ≡ Star
     → spoke_at p.spokes (Point a) ≡ Some from → spoke_at p.spokes (Point b) ≡ Some to
     → whole_way (roads_of p) a b ≡ Ok (from.up ++ to.down)
 
 -- the links between the gateways of two children of one Star zone
 abbrev pub StarJoinsGateways : Platform → Type 0
 StarJoinsGateways p = (from to : SpokeRow) (zone : ZoneId) → spoke_at p.spokes from.child ≡ Some from → spoke_at p.spokes to.child ≡ Some to
-    → child_eq from.child to.child ≡ false → zone_above (tree_of p) from.child ≡ Some zone → zone_above (tree_of p) to.child ≡ Some zone
-    → routing_in (tree_of p) zone ≡ Star → whole_way (roads_of p) from.gateway to.gateway ≡ Ok (from.up ++ to.down)
+    → child_eq from.child to.child ≡ false → zone_above (zone_tree p) from.child ≡ Some zone → zone_above (zone_tree p) to.child ≡ Some zone
+    → routing_in (zone_tree p) zone ≡ Star → whole_way (roads_of p) from.gateway to.gateway ≡ Ok (from.up ++ to.down)
 
--- the links between two points that stand in one Full zone, where it declares a local route
+-- the links between two points that stand in one Full zone, if it declares a local route
 abbrev pub FullGoesAsDeclared : Platform → Type 0
 FullGoesAsDeclared p = (a b : PointId) (l : Local) → IsPoint (roads_of p) a → IsPoint (roads_of p) b → a.0 ≢ b.0
-    → home (tree_of p) a ≡ home (tree_of p) b → routing_in (tree_of p) (home (tree_of p) a) ≡ Full
+    → home (zone_tree p) a ≡ home (zone_tree p) b → routing_in (zone_tree p) (home (zone_tree p) a) ≡ Full
     → declared_route (roads_of p).locals (record { from = Point a; to = Point b }) ≡ Some l
     → whole_way (roads_of p) a b ≡ Ok l.links
 
--- the links between the gateways of two children of one Full zone, where it declares a local route
+-- the links between the gateways of two children of one Full zone, if it declares a local route
 abbrev pub FullJoinsGateways : Platform → Type 0
 FullJoinsGateways p = (from to : Child) (l : Local) (zone : ZoneId)
     → declared_route (roads_of p).locals (record { from = from; to = to }) ≡ Some l → child_eq from to ≡ false
-    → zone_above (tree_of p) from ≡ Some zone → zone_above (tree_of p) to ≡ Some zone
-    → routing_in (tree_of p) zone ≡ Full → whole_way (roads_of p) l.start l.end ≡ Ok l.links
+    → zone_above (zone_tree p) from ≡ Some zone → zone_above (zone_tree p) to ≡ Some zone
+    → routing_in (zone_tree p) zone ≡ Full → whole_way (roads_of p) l.start l.end ≡ Ok l.links
 
--- the links between two points are those of a least path, or no path leads from the one to the other
+-- the links between two points are those of a shortest path, or no path leads from the one to the
+-- other
 abbrev pub TakesLeastPath : Roads → PointId → PointId → Type 0
 TakesLeastPath m a b = MatchResult (whole_way m a b)
     (λ links. IsLeastPath (path_routes m.tree m.locals) a.0 b.0 links)
@@ -80,7 +81,7 @@ TakesLeastPath m a b = MatchResult (whole_way m a b)
 -- so between any two that stand in one Dijkstra zone
 abbrev pub DijkstraTakesLeastPaths : Platform → Type 0
 DijkstraTakesLeastPaths p = (a b : PointId) → IsPoint (roads_of p) a → IsPoint (roads_of p) b → a.0 ≢ b.0
-    → home (tree_of p) a ≡ home (tree_of p) b → routing_in (tree_of p) (home (tree_of p) a) ≡ Dijkstra
+    → home (zone_tree p) a ≡ home (zone_tree p) b → routing_in (zone_tree p) (home (zone_tree p) a) ≡ Dijkstra
     → TakesLeastPath (roads_of p) a b
 
 abbrev pub WayBackReturns : Platform → Type 0

@@ -1,4 +1,4 @@
-//! What holds of routes on a platform, and where said, on one without zone faults.
+//! What holds of routes on a platform and, if it is said, on one without zone faults.
 ghost use Rattle.std.specs.Prelude.{◌≡◌, None};
 ghost use Rattle.sg_route.specs.Roads.{roads_of};
 ghost use Rattle.sg_route_laws.specs.Laws.{DijkstraTakesLeastPaths, FollowsLowestZone, FullGoesAsDeclared, FullJoinsGateways, HasRoutes, LegsAreLowest, StarGoesUpAndDown, StarJoinsGateways, WayBackReturns};
@@ -6,8 +6,8 @@ ghost use Rattle.sg_zones.specs.Faults.{zone_fault};
 
 use sg_rows::PlatformText;
 
-/// A route is the local route of the lowest zone that holds both points, with the way to its first gateway in front
-/// and that from its second gateway behind. No count of levels is in this.
+/// A route is the local route of the lowest zone that holds both points, with the route to its first gateway before it
+/// and that from its second gateway after it. No count of levels is in this.
 pub fn follows_lowest_zone(platform: &PlatformText)
     requires { zone_fault platform.now ≡ None }
     ensures { FollowsLowestZone (roads_of platform.now) }
@@ -15,8 +15,8 @@ pub fn follows_lowest_zone(platform: &PlatformText)
     let _zones = platform.zones();
 }
 
-/// Where the paths of two points part is the lowest zone that holds both, and the next steps down are its children, of
-/// which each holds one of the points.
+/// The paths of two points part at the lowest zone that holds both, and the next steps down are its children, of which
+/// each holds one of the points.
 pub fn legs_are_lowest(platform: &PlatformText)
     requires { zone_fault platform.now ≡ None }
     ensures { LegsAreLowest platform.now }
@@ -57,8 +57,8 @@ pub fn full_joins_gateways(platform: &PlatformText)
     let _zones = platform.zones();
 }
 
-/// Between two points of one Dijkstra zone a route is the path with the fewest links, and of these the one with the least
-/// list; none is told exactly where there is no path.
+/// Between two points of one Dijkstra zone a route is the path with the fewest links, and of these the one with the
+/// least list; it is missing exactly if there is no path.
 pub fn dijkstra_takes_least_paths(platform: &PlatformText)
     requires { zone_fault platform.now ≡ None }
     ensures { DijkstraTakesLeastPaths platform.now }
@@ -66,14 +66,14 @@ pub fn dijkstra_takes_least_paths(platform: &PlatformText)
     let _zones = platform.zones();
 }
 
-/// The way back of a way back is the way itself.
+/// The reverse of a reverse route is the route itself.
 pub fn way_back_returns(platform: &PlatformText)
     ensures { WayBackReturns platform.now }
 {
     let _zones = platform.zones();
 }
 
-/// Where no local route is missing, no route is.
+/// If no local route is missing, no route is.
 pub fn complete_has_routes(platform: &PlatformText)
     requires { zone_fault platform.now ≡ None }
     ensures { HasRoutes platform.now }

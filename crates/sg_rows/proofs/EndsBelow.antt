@@ -1,4 +1,4 @@
--- The link that takes the place of another on the way back exists.
+-- The link that replaces another on the reverse route exists.
 use Rattle.std.proofs.Common.{◌≡◌, ℕ, zero, suc, ◌+◌, ◌<◌, ◌≤◌, List, [], ◌∷◌, ◌++◌, length, length-append, get_or, reverse, arith}
 use Rattle.std.proofs.lemmas.List.{length-map, length-reverse}
 use Rattle.std.proofs.lemmas.List.Elements.{All-map}
@@ -62,7 +62,7 @@ back_below rows link =
     let n = link_ends_count rows in
     each_at (BackBelow (length (link_ends rows))) (link_ends rows) (link_end 0 0) (backs rows) (omega arith) link.0
 
--- the way back over 1 to 64 links is one
+-- the reverse of 1 to 64 links is one
 pub way_back_kept : (counts : Counts) (rows : List LinkRow) (links : List LinkId) → counts.links ≡ length (link_ends rows) → IsLinkList counts links → IsLinkList counts (way_back (link_ends rows) links)
 way_back_kept counts rows links same kept =
     let ends = link_ends rows in

@@ -12,12 +12,13 @@ use Rattle.sg_rows.specs.declared.rows.MutexRow.{MutexRow}
 use Rattle.sg_rows.specs.declared.rows.SemaphoreRow.{SemaphoreRow}
 use Rattle.sg_tree.specs.Along.{along}
 
+-- the rows of a deployment: its actors, mutexes and semaphores, in their order
 pub record Deployed : Type 0 where
   pub actors : List ActorRow
   pub mutexes : List MutexRow
   pub semaphores : List SemaphoreRow
 
--- that of these rows
+-- the deployment of these rows
 abbrev pub deployment_of_rows : List ActorRow → List MutexRow → List SemaphoreRow → Deployed
 deployment_of_rows actors mutexes semaphores = record { actors = actors; mutexes = mutexes; semaphores = semaphores }
 
@@ -69,10 +70,11 @@ abbrev pub replay_actor_named : Deployed → List ℕ → Option ActorId
 replay_actor_named deployed name =
     option_map (λ row. record { 0 = row + 1 }) (number_by (λ actor. names_if_replay actor.function actor.name) deployed.actors name)
 
--- the number of the mutex of a name, and of the semaphore of a name, from 0 on
+-- the number of the mutex of a name, from 0 on
 abbrev pub mutex_named : Deployed → List ℕ → Option ℕ
 mutex_named deployed name = number_by (λ mutex. mutex.id ∷ []) deployed.mutexes name
 
+-- the number of the semaphore of a name, from 0 on
 abbrev pub semaphore_named : Deployed → List ℕ → Option ℕ
 semaphore_named deployed name = number_by (λ semaphore. semaphore.id ∷ []) deployed.semaphores name
 
@@ -81,6 +83,7 @@ abbrev pub id_if_replay : Function → ℕ → List ActorId
 id_if_replay Replay place = record { 0 = place + 1 } ∷ []
 id_if_replay other place = []
 
+-- the identifier of the actor of this row as a list, empty if it does not replay
 abbrev pub member_ids : ℕ → ActorRow → List ActorId
 member_ids place actor = id_if_replay actor.function place
 
@@ -88,5 +91,6 @@ member_ids place actor = id_if_replay actor.function place
 unfoldable pub members_among : List ActorRow → List ActorId
 members_among actors = along member_ids 0 actors
 
+-- the actors of a deployment that take part in collectives, by rising identifier
 abbrev pub members_of : Deployed → List ActorId
 members_of deployed = members_among deployed.actors

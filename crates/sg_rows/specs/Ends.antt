@@ -1,4 +1,4 @@
--- The links that rows give, and their way back.
+-- The links that rows give, and their reverse.
 use Rattle.std.specs.Prelude.{ℕ, ◌+◌, List, [], ◌∷◌, ◌++◌, length, map, reverse, slice_index_or}
 use Rattle.sg_base.specs.declared.ids.LinkId.{LinkId}
 use Rattle.sg_rows.specs.declared.ends.LinkEnd.{LinkEnd}
@@ -6,11 +6,12 @@ use Rattle.sg_rows.specs.declared.rows.LinkRow.{LinkRow}
 use Rattle.sg_rows.specs.declared.rows.Policy.{Policy}
 use Rattle.sg_rows.specs.declared.rows.Policy.TheVariants.{SplitDuplex}
 
--- a link, by the link that takes its place on the way back, and its latency
+-- a link, by the link that replaces it on the reverse route, and its latency
 abbrev pub link_end : ℕ → ℕ → LinkEnd
 link_end back latency = record { back = record { 0 = back }; latency = latency }
 
--- the links of one row, the first of them with this number: SPLITDUPLEX gives `_UP` and then `_DOWN`, each the other's way back
+-- the links of one row, the first of them with this number: SPLITDUPLEX gives `_UP` and then `_DOWN`, each the other's
+-- reverse
 abbrev pub ends_of : ℕ → ℕ → Policy → List LinkEnd
 ends_of first latency SplitDuplex = link_end (first + 1) latency ∷ (link_end first latency ∷ [])
 ends_of first latency other = link_end first latency ∷ []
@@ -24,10 +25,10 @@ ends_from first (row ∷ rows) = ends_of first row.latency row.policy ++ ends_fr
 abbrev pub link_ends : List LinkRow → List LinkEnd
 link_ends rows = ends_from 0 rows ++ link_end (length (ends_from 0 rows)) 15000 ∷ []
 
--- the link that takes the place of this one on the way back
+-- the link that replaces this one on the reverse route
 abbrev pub back_of : List LinkEnd → LinkId → LinkId
 back_of ends link = (slice_index_or ends link.0 (link_end 0 0)).back
 
--- the way back over links: in reverse order, each replaced by that of its other direction
+-- the reverse of links: in reverse order, each replaced by that of its other direction
 abbrev pub way_back : List LinkEnd → List LinkId → List LinkId
 way_back ends links = map (back_of ends) (reverse links)

@@ -12,6 +12,7 @@ use Rattle.sg_tree.specs.Names.{Finds, with_number}
 abbrev pub number_by : {X : Type 0} → (X → List (List ℕ)) → List X → Finds
 number_by names_of rows name = lookup (bytes_eq name) (along (λ i row. with_number i (names_of row)) 0 rows)
 
+-- the number of the first host that has a name, from 0 on
 abbrev pub host_number : List HostRow → Finds
 host_number hosts = number_by (λ host. host.id ∷ []) hosts
 

@@ -3,7 +3,7 @@ use Rattle.std.specs.Prelude.{ℕ, ◌*◌, ◌/◌, ◌==◌, ◌||◌, ◌≤�
 use Rattle.sg_base.specs.Limits.{IsAmount}
 use Rattle.sg_rows.specs.declared.network.Network.{Network}
 
--- where nothing is said: both factors are 1, and there is no window
+-- the network if nothing is said: both factors are 1, and there is no window
 abbrev pub plain_network : Network
 plain_network = record { latency_factor = 1000000; bandwidth_factor = 1000000; window = 0 }
 

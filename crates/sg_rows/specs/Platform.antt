@@ -22,6 +22,7 @@ use Rattle.sg_rows.specs.declared.rows.StateProfileRow.{StateProfileRow}
 use Rattle.sg_rows.specs.declared.rows.ZoneRouteRow.{ZoneRouteRow}
 use Rattle.sg_rows.specs.declared.rows.ZoneRow.{ZoneRow}
 
+-- the rows of a platform: zones, hosts, routers, links, routes, spokes, the network model and the profiles
 pub record Platform : Type 0 where
   pub zones : List ZoneRow
   pub hosts : List HostRow

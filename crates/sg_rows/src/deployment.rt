@@ -53,7 +53,7 @@ impl Model for Deployment {
         (deployment_of_rows d.actors.items d.mutexes.items d.semaphores.items) };
 }
 
-// The actors that replay, by rising identifier.
+// Returns the actors that replay, by rising identifier.
 #[tactic(auto, unfolding(crate::specs::Deployment::members_among), using(crate::proofs::MemberIds::row_more, crate::proofs::MemberIds::no_row))]
 fn members_among(alloc: Global, actors: &[ActorRow]) -> Result<Members, Memory>
     requires { length actors.now ≤ 65536 }
@@ -79,7 +79,7 @@ struct ActorIndex {
 }
 
 impl ActorIndex {
-    /// The index of these actors.
+    /// Makes the index of these actors.
     fn new(alloc: Global, actors: &[ActorRow]) -> Result<ActorIndex, Memory>
         requires { length actors.now ≤ 65536 }
         ensures named { IfOk result
@@ -107,7 +107,7 @@ struct LockIndex {
 }
 
 impl LockIndex {
-    /// The index of these mutexes and semaphores.
+    /// Makes the index of these mutexes and semaphores.
     fn new(
         alloc: Global,
         mutexes: &[MutexRow],
@@ -129,11 +129,11 @@ impl LockIndex {
 }
 
 impl Deployment {
-    /// The deployment with these rows.
+    /// Makes the deployment with these rows.
     ///
     /// # Errors
     ///
-    /// Want of memory: then the rows are gone.
+    /// Out of memory: then the rows are gone.
     pub fn with_rows(
         alloc: Global,
         actors: Vec<ActorRow>,
@@ -159,7 +159,7 @@ impl Deployment {
         })
     }
 
-    /// The actors, in declared order. The first has the identifier 1.
+    /// Returns the actors, in declared order. The first has the identifier 1.
     pub fn actors(&self) -> &[ActorRow]
         ensures rows { result.now ≡ self.now.actors }
         ensures kept { IsDeployment self.now }
@@ -167,7 +167,7 @@ impl Deployment {
         self.actors.as_slice()
     }
 
-    /// The mutexes, in declared order from 0 on.
+    /// Returns the mutexes, in declared order from 0 on.
     pub fn mutexes(&self) -> &[MutexRow]
         ensures rows { result.now ≡ self.now.mutexes }
         ensures kept { IsDeployment self.now }
@@ -175,7 +175,7 @@ impl Deployment {
         self.mutexes.as_slice()
     }
 
-    /// The semaphores, in declared order from 0 on.
+    /// Returns the semaphores, in declared order from 0 on.
     pub fn semaphores(&self) -> &[SemaphoreRow]
         ensures rows { result.now ≡ self.now.semaphores }
         ensures kept { IsDeployment self.now }
@@ -183,21 +183,21 @@ impl Deployment {
         self.semaphores.as_slice()
     }
 
-    /// The number of the mutex of this name, from 0 on.
+    /// Returns the number of the mutex of this name, from 0 on.
     pub fn mutex_named(&self, name: &[u8]) -> Option<u32>
         ensures { result ≡ mutex_named self.now name.now }
     {
         self.named_mutexes.get(name).copied()
     }
 
-    /// The number of the semaphore of this name, from 0 on.
+    /// Returns the number of the semaphore of this name, from 0 on.
     pub fn semaphore_named(&self, name: &[u8]) -> Option<u32>
         ensures { result ≡ semaphore_named self.now name.now }
     {
         self.named_semaphores.get(name).copied()
     }
 
-    /// The actor of this name, whatever it does.
+    /// Returns the actor of this name, whatever it does.
     pub fn actor(&self, name: &[u8]) -> Option<ActorId>
         ensures { result ≡ actor_named self.now name.now }
     {
@@ -207,7 +207,7 @@ impl Deployment {
         }
     }
 
-    /// The actor of this name, if it replays.
+    /// Returns the actor of this name, if it replays.
     pub fn replay_actor(&self, name: &[u8]) -> Option<ActorId>
         ensures { result ≡ replay_actor_named self.now name.now }
     {
@@ -217,7 +217,7 @@ impl Deployment {
         }
     }
 
-    /// Who takes part in collectives: all actors that replay, by rising identifier.
+    /// Returns who takes part in collectives: all actors that replay, by rising identifier.
     pub fn members(&self) -> &Members
         ensures members { result.now ≡ members_of self.now }
         ensures exist { All (IsActorIn (extent_of self.now)) result.now }

@@ -1,4 +1,4 @@
-//! The links that rows give, and their way back.
+//! The links that rows give, and their reverse.
 ghost use Rattle.std.specs.Prelude.{◌≡◌, ◌≤◌, length, IfOk};
 ghost use Rattle.sg_rows.specs.Ends.{back_of, link_ends, way_back};
 
@@ -6,7 +6,7 @@ use crate::rows::{LinkRow, Policy};
 use sg_base::{LinkId, Links, Memory};
 use std::alloc::Global;
 
-/// A link: its latency in nanoseconds, and the link that takes its place on the way back.
+/// A link: its latency in nanoseconds, and the link that replaces it on the reverse route.
 #[derive(Clone, Copy)]
 pub struct LinkEnd {
     pub back: LinkId,
@@ -25,7 +25,7 @@ fn link_end(back: u32, latency: u64) -> LinkEnd
     }
 }
 
-/// The links of these rows in declared order, and last the loopback.
+/// Returns the links of these rows in declared order, and last the loopback.
 pub fn link_ends(alloc: Global, rows: &[LinkRow]) -> Result<Vec<LinkEnd>, Memory>
     requires { length rows.now ≤ 65536 }
     ensures { IfOk result (λ ends. ends.items ≡ link_ends rows.now) }
@@ -49,7 +49,7 @@ pub fn link_ends(alloc: Global, rows: &[LinkRow]) -> Result<Vec<LinkEnd>, Memory
     Ok(ends)
 }
 
-/// The link that takes the place of this one on the way back.
+/// Returns the link that replaces this one on the reverse route.
 fn back_of(ends: &[LinkEnd], link: LinkId) -> LinkId
     ensures { result ≡ back_of ends.now link }
 {
@@ -59,7 +59,7 @@ fn back_of(ends: &[LinkEnd], link: LinkId) -> LinkId
     }
 }
 
-/// The way back over links: in reverse order, each replaced by that of its other direction.
+/// Returns the reverse of links: in reverse order, each replaced by that of its other direction.
 #[tactic(auto, using(crate::proofs::WayBack::back_last))]
 pub fn way_back(alloc: Global, ends: &[LinkEnd], links: &[LinkId]) -> Result<Links, Memory>
     ensures { IfOk result (λ back. back ≡ way_back ends.now links.now) }

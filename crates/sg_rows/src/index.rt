@@ -33,7 +33,7 @@ fn add_hosts(
     Ok(())
 }
 
-/// The hosts by their names.
+/// Returns the hosts by their names.
 pub fn hosts_by_name(alloc: Global, hosts: &[HostRow]) -> Result<IndexMap<String, u32>, Memory>
     ensures { IfOk result (λ made. (q : List ℕ) → get_by_text made q ≡ host_number hosts.now q) }
 {
@@ -64,7 +64,7 @@ pub trait Named {
     /// The names by which it is found.
     ghost names: { Self → List (List ℕ) };
 
-    /// Gives the name of the row a number, where it is found by it and has none yet.
+    /// Gives the name of the row a number, if it is found by it and has none yet.
     fn add(
         &self,
         alloc: Global,
@@ -129,7 +129,7 @@ fn add_rows<R: Named>(
     Ok(())
 }
 
-/// The rows that are found by their names, with their numbers from 0 on.
+/// Returns the rows that are found by their names, with their numbers from 0 on.
 pub fn rows_by_name<R: Named>(alloc: Global, rows: &[R]) -> Result<IndexMap<Vec<u8>, u32>, Memory>
     ensures { IfOk result (λ made. FindsAs made (number_by R.names rows.now)) }
 {
@@ -138,7 +138,7 @@ pub fn rows_by_name<R: Named>(alloc: Global, rows: &[R]) -> Result<IndexMap<Vec<
     Ok(made)
 }
 
-/// Gives the name of an actor the number of its row, where it replays and the name has none yet.
+/// Gives the name of an actor the number of its row, if it replays and the name has none yet.
 fn add_if_replay(
     alloc: Global,
     space: &mut IndexMap<Vec<u8>, u32>,
@@ -170,7 +170,7 @@ fn add_replay(
     Ok(())
 }
 
-/// The actors that replay by their names, with the numbers of their rows.
+/// Returns the actors that replay by their names, with the numbers of their rows.
 pub fn replay_by_name(alloc: Global, actors: &[ActorRow]) -> Result<IndexMap<Vec<u8>, u32>, Memory>
     ensures { IfOk result (λ made. FindsAs made (number_by replay_names actors.now)) }
 {

@@ -1,5 +1,5 @@
 //! Platforms and deployments as rows with resolved names: what they promise, their links' ends, and rows by name. All
-//! that comes behind the readers works with these.
+//! that comes after the readers works with these.
 //! One enters by `PlatformText` and `Deployment`, which `of_rows` makes of given rows.
 //! It stands on `sg_base`, on `sg_tree` for spaces of names, and on `sg_collectives` for the members of a deployment.
 #![tactic(auto)]
@@ -8,7 +8,7 @@ mod deployment;
 mod ends;
 mod index;
 mod network;
-mod numbers;
+mod number_list;
 mod of_rows;
 mod platform;
 mod rows;
@@ -18,7 +18,7 @@ pub use deployment::Deployment;
 pub use ends::{LinkEnd, link_ends, way_back};
 pub use index::hosts_by_name;
 pub use network::Network;
-pub use numbers::Numbers;
+pub use number_list::Numbers;
 pub use platform::PlatformText;
 pub use rows::{
     ActorRow, Function, HostRow, LinkRow, MutexRow, PlatformRows, Policy, Power, ProfileRow,

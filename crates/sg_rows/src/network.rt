@@ -9,7 +9,7 @@ pub struct Network {
     pub latency_factor: u64,
     /// What bandwidths are multiplied by, in millionths.
     pub bandwidth_factor: u64,
-    /// How many bytes a flow sends at most before the first of them is acknowledged, where that isn't 0.
+    /// How many bytes a flow sends at most before the first of them is acknowledged, if that isn't 0.
     pub window: u64,
 }
 
@@ -30,7 +30,7 @@ fn if_bound(bound: u128) -> Option<u64>
 }
 
 impl Network {
-    /// That of a platform that says nothing of it: both factors are 1, and there is no window.
+    /// Returns the network of a platform that says nothing of it: both factors are 1, and there is no window.
     pub fn plain() -> Network
         ensures { result ≡ plain_network }
     {
@@ -41,7 +41,7 @@ impl Network {
         }
     }
 
-    /// The latency of a communication over a route of this latency, both in nanoseconds.
+    /// Returns the latency of a communication over a route of this latency, both in nanoseconds.
     pub fn latency_over(self, latency: u128) -> u128
         requires kept { IsNetwork self }
         requires short { latency ≤ 10 ^ 20 }
@@ -51,7 +51,7 @@ impl Network {
         latency * u128::from(self.latency_factor) / u128::from(ONE)
     }
 
-    /// What a declared link of this bandwidth carries, both in bytes per second.
+    /// Returns what a declared link of this bandwidth carries, both in bytes per second.
     pub fn bandwidth_over(self, bandwidth: u64) -> u64
         requires kept { IsNetwork self }
         requires bandwidth { bandwidth ≤ 10 ^ 15 }
@@ -61,7 +61,7 @@ impl Network {
         (u128::from(bandwidth) * u128::from(self.bandwidth_factor) / u128::from(ONE)) as u64
     }
 
-    /// The bound that the window gives a flow over a route of this latency, which is that before the factor.
+    /// Returns the bound that the window gives a flow over a route of this latency, which is that before the factor.
     pub fn window_bound(self, latency: u128) -> Option<u64>
         requires kept { IsNetwork self }
         requires short { latency ≤ 10 ^ 20 }

@@ -11,11 +11,11 @@ use sg_base::Memory;
 use std::alloc::Global;
 
 impl PlatformText {
-    /// The platform with these rows and no others, which break no rule of platform texts.
+    /// Makes the platform with these rows and no others, which break no rule of platform texts.
     ///
     /// # Errors
     ///
-    /// Want of memory: then the rows are gone.
+    /// Out of memory: then the rows are gone.
     pub fn of_rows(
         alloc: Global,
         zones: Vec<ZoneRow>,
@@ -44,12 +44,12 @@ impl PlatformText {
 }
 
 impl Deployment {
-    /// The deployment with these actors and nothing else, which break no rule of deployment texts on the platform, but
-    /// may churn.
+    /// Makes the deployment with these actors and nothing else, which break no rule of deployment texts on the
+    /// platform, except that they may churn.
     ///
     /// # Errors
     ///
-    /// Want of memory: then the rows are gone.
+    /// Out of memory: then the rows are gone.
     pub fn of_rows(
         alloc: Global,
         actors: Vec<ActorRow>,

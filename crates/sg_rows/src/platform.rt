@@ -32,7 +32,7 @@ impl Model for PlatformText {
 }
 
 impl PlatformText {
-    /// The platform with these rows.
+    /// Returns the platform with these rows.
     pub fn with_rows(rows: PlatformRows) -> PlatformText
         requires { IsPlatform (rows_view rows) }
         ensures { result ≡ rows_view rows }
@@ -40,7 +40,7 @@ impl PlatformText {
         PlatformText { rows }
     }
 
-    /// The zones, in declared order.
+    /// Returns the zones, in declared order.
     pub fn zones(&self) -> &[ZoneRow]
         ensures rows { result.now ≡ self.now.zones }
         ensures kept { IsPlatform self.now }
@@ -48,7 +48,7 @@ impl PlatformText {
         self.rows.zones.as_slice()
     }
 
-    /// The hosts, in declared order.
+    /// Returns the hosts, in declared order.
     pub fn hosts(&self) -> &[HostRow]
         ensures rows { result.now ≡ self.now.hosts }
         ensures kept { IsPlatform self.now }
@@ -56,7 +56,7 @@ impl PlatformText {
         self.rows.hosts.as_slice()
     }
 
-    /// The routers, in declared order. They are points after the hosts.
+    /// Returns the routers, in declared order. They are points after the hosts.
     pub fn routers(&self) -> &[RouterRow]
         ensures rows { result.now ≡ self.now.routers }
         ensures kept { IsPlatform self.now }
@@ -64,7 +64,7 @@ impl PlatformText {
         self.rows.routers.as_slice()
     }
 
-    /// The links, in declared order.
+    /// Returns the links, in declared order.
     pub fn links(&self) -> &[LinkRow]
         ensures rows { result.now ≡ self.now.links }
         ensures kept { IsPlatform self.now }
@@ -72,7 +72,7 @@ impl PlatformText {
         self.rows.links.as_slice()
     }
 
-    /// The routes between points.
+    /// Returns the routes between points.
     pub fn routes(&self) -> &[RouteRow]
         ensures rows { result.now ≡ self.now.routes }
         ensures kept { IsPlatform self.now }
@@ -80,7 +80,7 @@ impl PlatformText {
         self.rows.routes.as_slice()
     }
 
-    /// The routes between children of a zone, of which at least one is a zone.
+    /// Returns the routes between children of a zone, of which at least one is a zone.
     pub fn zone_routes(&self) -> &[ZoneRouteRow]
         ensures rows { result.now ≡ self.now.zone_routes }
         ensures kept { IsPlatform self.now }
@@ -88,7 +88,7 @@ impl PlatformText {
         self.rows.zone_routes.as_slice()
     }
 
-    /// The spokes of Star zones.
+    /// Returns the spokes of Star zones.
     pub fn spokes(&self) -> &[SpokeRow]
         ensures rows { result.now ≡ self.now.spokes }
         ensures kept { IsPlatform self.now }
@@ -96,7 +96,7 @@ impl PlatformText {
         self.rows.spokes.as_slice()
     }
 
-    /// What it makes of latencies and bandwidths.
+    /// Returns what it makes of latencies and bandwidths.
     pub fn network(&self) -> Network
         ensures value { result ≡ self.now.network }
         ensures kept { IsPlatform self.now }
@@ -104,7 +104,7 @@ impl PlatformText {
         self.rows.network
     }
 
-    /// The profiles of speeds and bandwidths, in declared order.
+    /// Returns the profiles of speeds and bandwidths, in declared order.
     pub fn profiles(&self) -> &[ProfileRow]
         ensures rows { result.now ≡ self.now.profiles }
         ensures kept { IsPlatform self.now }
@@ -112,7 +112,7 @@ impl PlatformText {
         self.rows.profiles.as_slice()
     }
 
-    /// The profiles of states, in declared order.
+    /// Returns the profiles of states, in declared order.
     pub fn state_profiles(&self) -> &[StateProfileRow]
         ensures rows { result.now ≡ self.now.state_profiles }
         ensures kept { IsPlatform self.now }

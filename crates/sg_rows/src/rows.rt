@@ -1,6 +1,6 @@
 //! The rows of platforms and deployments, with resolved names.
 use crate::network::Network;
-use crate::numbers::Numbers;
+use crate::number_list::Numbers;
 use crate::states::States;
 use sg_base::{ActorId, Child, Ids, LinkId, Links, PointId, Text, ZoneId};
 
@@ -11,7 +11,7 @@ pub enum Routing {
     Full,
     /// Each child has a route to and from the centre.
     Star,
-    /// Each pair has the least path over the routes between points that stand in the zone.
+    /// Each pair has the shortest path over the routes between points that stand in the zone.
     Dijkstra,
 }
 
@@ -45,7 +45,7 @@ pub struct HostRow {
     /// What one execution gets at most, in flops per second.
     pub speed: u64,
     pub cores: u32,
-    /// `None` where nothing is said of it.
+    /// `None` if nothing is said of it.
     pub power: Option<Power>,
 }
 
@@ -84,7 +84,7 @@ pub struct RouteRow {
     pub src: PointId,
     pub dst: PointId,
     pub links: Links,
-    /// Whether it also serves the way back.
+    /// Whether it also serves the reverse direction.
     pub symmetrical: bool,
 }
 
@@ -98,7 +98,7 @@ pub struct ZoneRouteRow {
     /// Where it ends: a point of `dst`, or `dst` itself.
     pub gw_dst: PointId,
     pub links: Links,
-    /// Whether it also serves the way back.
+    /// Whether it also serves the reverse direction.
     pub symmetrical: bool,
 }
 
@@ -120,7 +120,7 @@ pub enum Profiled {
     Link(LinkId),
 }
 
-/// How the speed of a host or the bandwidth of a link changes while a run goes on.
+/// How the speed of a host or the bandwidth of a link changes during a run.
 #[derive(Drop)]
 pub struct ProfileRow {
     pub of: Profiled,
@@ -128,19 +128,19 @@ pub struct ProfileRow {
     pub dates: Numbers,
     /// What it is from each date on, in flops or bytes per second.
     pub values: Numbers,
-    /// How long after the last date the next turn begins, in nanoseconds, where all comes again.
+    /// How long after the last date the next turn begins, in nanoseconds, if all comes again.
     pub gap: Option<u64>,
 }
 
-/// When a host or a link goes on or off while a run goes on.
+/// When a host or a link is turned on or off during a run.
 #[derive(Drop)]
 pub struct StateProfileRow {
     pub of: Profiled,
-    /// When it goes on or off, in nanoseconds, each later than the one before.
+    /// When it is turned on or off, in nanoseconds, each later than the one before.
     pub dates: Numbers,
     /// Whether it is on from each date on.
     pub states: States,
-    /// How long after the last date the next turn begins, in nanoseconds, where all comes again.
+    /// How long after the last date the next turn begins, in nanoseconds, if all comes again.
     pub gap: Option<u64>,
 }
 
@@ -192,7 +192,7 @@ pub enum Function {
         bytes: u64,
         workers: Ids,
     },
-    /// It computes and passes messages on round a ring, by numbers that it draws: no text can name it.
+    /// It computes and sends messages around a ring, by numbers that it draws: no text can name it.
     Churn {
         /// The state with which its generator begins.
         seed: u64,

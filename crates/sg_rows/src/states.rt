@@ -18,14 +18,14 @@ impl Model for States {
 }
 
 impl States {
-    /// These states. It takes no memory.
+    /// Returns these states. It takes no memory.
     pub fn from_vec(states: Vec<bool>) -> States
         ensures { result ≡ states.items }
     {
         States { states }
     }
 
-    /// The states.
+    /// Returns the states.
     pub fn as_slice(&self) -> &[bool]
         ensures { result.now ≡ self.now }
     {

@@ -6,7 +6,7 @@ use Rattle.sg_tables.specs.declared.units.Quantity.TheVariants.{Time}
 use Rattle.toml.specs.View.{view}
 use Rattle.toml.specs.declared.value.Value.{Value}
 
--- those behind the last one, where there is one, rise with it
+-- those after the last one, if there is one, rise with it
 abbrev pub rise_from : Option ℕ → List (Option ℕ) → Bool
 rise_from None dates = are_rising dates
 rise_from (Some last) dates = are_rising (Some last ∷ dates)

@@ -90,7 +90,7 @@ unfolding value_kinds
 optional_at names number row word rule None empty text there = cc
 optional_at names number row word rule (Some d) empty text there = rw there at empty
 
--- an optional text, where it is there, keeps its rule
+-- an optional text, if it is there, keeps its rule
 pub optional_text : (names : Known) (number : ℕ) (row : Data) (word : Word) (rule : TextRule) → key_kinds names number row (key word Optional (Text rule)) ≡ []
     → (text : List ℕ) → text_at (word_text word) row ≡ Some text → text_kinds names number row rule text ≡ []
 unfolding key_kinds

@@ -38,7 +38,7 @@ unfolding value_kinds
 arguments_at names number row None empty = empty
 arguments_at names number row (Some d) empty = typed_arguments names row (as_array d) empty
 
--- the arguments of a row fit, also where they are left out
+-- the arguments of a row fit, even if they are left out
 pub arguments_fit : (names : Known) (number : ℕ) (row : Data) → key_kinds names number row (key Argument Optional (Texts ArgumentList)) ≡ []
     → argument_kinds names.workers row (items_or_none (option_and_then as_array (get (codes "argument") row))) ≡ []
 unfolding key_kinds
@@ -66,7 +66,7 @@ both_right : (a b : Bool) → (a && b) ≡ true → b ≡ true
 both_right true b both = both
 both_right false b both = cc
 
--- where each name is found, so is one of them
+-- if each name is found, so is one of them
 found_among : (found : Finds) (names : List (List ℕ)) → list_all (λ name. is_some (found name)) names ≡ true → (q : List ℕ) → list_any (bytes_eq q) names ≡ true → is_some (found q) ≡ true
 found_among found [] all q among = cc
 found_among found (name ∷ names) all q among =

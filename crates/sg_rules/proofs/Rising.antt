@@ -143,7 +143,7 @@ place_rise t r k (kind ∷ kinds) h = (behind kinds h.0, place_rise t r k kinds 
     behind [] h = tt
     behind (j ∷ js) h = (inr (refl, inr (refl, inr (refl, inl h.0))), behind js h.1)
 
--- what is made along a list rises, where each part does and stays at its level
+-- what is made along a list rises, if each part does and stays at its level
 rising_along : {A : Type 0} (level : Fault → ℕ) (Same : Fault → Type 0) (f : ℕ → A → List Fault)
     → ((i : ℕ) (x : A) → IsRising (f i x)) → ((i : ℕ) (x : A) → Each (λ g. (level g ≡ i + 1) × Same g) (f i x))
     → ((a b : Fault) → Same a → Same b → level a < level b → IsBefore a b)

@@ -35,7 +35,7 @@ are_for_master workers items = false
 abbrev pub takes_none : Data → Bool
 takes_none row = has_function (codes "replay") row || has_function (codes "worker") row
 
--- the arguments of an actor, where its function is known
+-- the arguments of an actor, if its function is known
 unfoldable pub argument_kinds : Finds → Data → List Data → List Kind
 argument_kinds workers row items =
     kind_if ((takes_none row && not (length items == 0)) || (has_function (codes "master") row && not (are_for_master workers (map text_of items)))) Arguments

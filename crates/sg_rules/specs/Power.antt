@@ -4,10 +4,11 @@ use Rattle.sg_rules.specs.declared.power.Powers.{Powers}
 use Rattle.sg_tables.specs.Units.{whole_value}
 use Rattle.toml.specs.Data.{Data, as_integer}
 
+-- the power in milliwatts that a value of the tree gives: a whole number up to 10^9
 abbrev pub milliwatts_in : Data → Option ℕ
 milliwatts_in item = option_and_then (whole_value 0 1000000000) (as_integer item)
 
--- with all of its capacity a host draws no less than with nearly none
+-- the powers of a host: with all of its capacity it draws no less than with nearly none
 abbrev pub powers_of : Option ℕ → Option ℕ → Option ℕ → Option Powers
 powers_of (Some idle) (Some epsilon) (Some all) =
     if nat_le epsilon all then Some (record { idle = idle; epsilon = epsilon; all = all }) else None

@@ -13,7 +13,7 @@ use Rattle.sg_tree.specs.declared.fault.Kind.{Kind}
 use Rattle.sg_tree.specs.declared.fault.Kind.TheVariants.{BadValue, Limit}
 use Rattle.toml.specs.Data.{Data, get, as_array}
 
--- what the values of a row are: speeds where it names a host
+-- what the values of a row are: speeds if it names a host
 abbrev pub quantity_of : Data → Quantity
 quantity_of row = if is_some (get (codes "host") row) then Speed else Bandwidth
 
@@ -26,13 +26,13 @@ abbrev pub amount_in : Quantity → Data → Option ℕ
 amount_in quantity item = quantity_value quantity (text_of item)
 
 -- the state that a text gives: whether it is on
-abbrev pub state_of : List ℕ → Option Bool
-state_of text =
+abbrev pub state_of_text : List ℕ → Option Bool
+state_of_text text =
     if bytes_eq text (codes "on") then Some true else if bytes_eq text (codes "off") then Some false else None
 
 -- the state that an item gives
 abbrev pub state_in : Data → Option Bool
-state_in item = state_of (text_of item)
+state_in item = state_of_text (text_of item)
 
 -- one date or more, and each is later than the one before
 abbrev pub are_rising : List (Option ℕ) → Bool

@@ -21,7 +21,7 @@ numbers_of f = f.place.table ∷ f.place.row ∷ f.place.key ∷ kind_number f.k
 abbrev pub IsBefore : Fault → Fault → Type 0
 IsBefore f g = IsBelow (numbers_of f) (numbers_of g)
 
--- each is before all those behind it
+-- each is before all those after it
 abbrev pub IsRising : List Fault → Type 0
 IsRising [] = ⊤
 IsRising (f ∷ fs) = AllByRecursion (IsBefore f) fs × IsRising fs

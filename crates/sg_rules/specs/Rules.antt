@@ -36,7 +36,7 @@ is_taken found number = option_map_or (λ first. nat_lt first number) found fals
 unfoldable pub id_kinds : Finds → ℕ → List ℕ → List Kind
 id_kinds numbers number name = kind_if (not (is_name name)) BadName ++ kind_if (is_taken (numbers name) number) Duplicate
 
--- the name of a link, which takes three names where it is SPLITDUPLEX, and then has at most 59 bytes
+-- the name of a link, which takes three names if it is SPLITDUPLEX, and then has at most 59 bytes
 unfoldable pub link_id_kinds : Finds → ℕ → Bool → List ℕ → List Kind
 link_id_kinds taken number split id =
     kind_if (not (is_name id) || (split && nat_lt 59 (length id))) BadName
@@ -134,7 +134,7 @@ is_required names row Optional = false
 is_required names row (IfZone word) = is_zone names (option_and_then names.points (text_at (word_text word) row))
 is_required names row (Unless word) = is_none (get (word_text word) row)
 
--- what is wrong where an optional key is left out: its default must fit the row too
+-- what is wrong if an optional key is left out: its default must fit the row too
 abbrev pub default_kinds : Known → Data → Rule → List Kind
 default_kinds names row (Texts ArgumentList) = argument_kinds names.workers row []
 default_kinds names row _ = []
@@ -144,8 +144,10 @@ abbrev pub kinds_at : Known → ℕ → Data → Key → Option Data → List Ki
 kinds_at names number row key None = if is_required names row key.need then MissingKey ∷ [] else default_kinds names row key.rule
 kinds_at names number row key (Some d) = value_kinds names number row key.rule d
 
+-- the text of a key, as a row writes it
 abbrev pub key_text : Key → List ℕ
 key_text key = word_text key.word
 
+-- what is wrong at a key of a row, by the value that the row has there
 unfoldable pub key_kinds : Known → ℕ → Data → Key → List Kind
 key_kinds names number row key = kinds_at names number row key (get (key_text key) row)

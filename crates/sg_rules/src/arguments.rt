@@ -17,7 +17,7 @@ use sg_tree::{Kind, add_name};
 use std::alloc::Global;
 use toml::Value;
 
-/// The text of an item, and the empty text where it is none.
+/// Returns the text of an item, and the empty text if it isn't one.
 pub fn text_of(item: &Value) -> &str
     ensures { result.now ≡ text_of (view item.now) }
 {
@@ -27,7 +27,7 @@ pub fn text_of(item: &Value) -> &str
     }
 }
 
-/// Whether a text stands twice in a list.
+/// Returns whether a text stands twice in a list.
 fn has_repeat(alloc: Global, items: &[Value]) -> Result<bool, Memory>
     ensures { IfOk result (λ twice. twice ≡ has_repeat (map text_of (map view items.now))) }
 {
@@ -55,7 +55,7 @@ fn are_known(workers: &IndexMap<String, u32>, items: &[Value]) -> bool
     true
 }
 
-/// Whether the items are names of workers: some, and none twice.
+/// Returns whether the items are names of workers: some, and none twice.
 #[tactic(auto, unfolding(crate::specs::Arguments::are_workers))]
 fn are_workers(
     alloc: Global,
@@ -93,7 +93,7 @@ fn is_amount(item: &Value) -> bool
     Quantity::Amount.value(text_of(item).as_bytes()).is_some()
 }
 
-/// Whether the items are what a master is given.
+/// Returns whether the items are what a master is given.
 fn are_for_master(
     alloc: Global,
     workers: &IndexMap<String, u32>,
@@ -116,14 +116,14 @@ fn are_for_master(
     }
 }
 
-/// Whether an actor of the row's function is given nothing.
+/// Returns whether an actor of the row's function is given nothing.
 fn takes_none(row: &Value) -> bool
     ensures { result ≡ takes_none (view row.now) }
 {
     has_function(row, "replay") || has_function(row, "worker")
 }
 
-/// What is wrong with the arguments of an actor whose function is known.
+/// Returns what is wrong with the arguments of an actor whose function is known.
 #[tactic(auto, unfolding(crate::specs::Arguments::argument_kinds))]
 pub fn argument_fault(
     alloc: Global,

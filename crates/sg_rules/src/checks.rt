@@ -43,7 +43,7 @@ fn are_name_bytes(text: &[u8]) -> bool
     text.iter().all(|byte| is_name_byte(*byte))
 }
 
-/// Whether a text is a name: 1 to 64 letters, digits, underscores, points and hyphens.
+/// Returns whether a text is a name: 1 to 64 letters, digits, underscores, points and hyphens.
 #[tactic(auto, unfolding(sg_tree::specs::Spelling::is_name))]
 fn is_name(text: &[u8]) -> bool
     ensures { result ≡ is_name text.now }
@@ -52,7 +52,7 @@ fn is_name(text: &[u8]) -> bool
     text.len() != 0 && text.len() <= 64 && fits
 }
 
-/// Whether an earlier row than this has the name.
+/// Returns whether an earlier row than this has the name.
 fn is_given(space: &IndexMap<String, u32>, number: usize, name: &str) -> bool
     ensures { result ≡ is_taken (get_by_text space.now name.now) number }
 {
@@ -75,7 +75,7 @@ fn id_fault(space: &IndexMap<String, u32>, number: usize, name: &str) -> Option<
     }
 }
 
-/// Whether an earlier row than this has the name with an end.
+/// Returns whether an earlier row than this has the name with an end.
 fn is_end_given(space: &IndexMap<String, u32>, number: usize, name: &str, end: &str) -> bool
     requires { length name.now + length end.now ≤ 64 }
     ensures { result ≡ is_taken (get_by_text space.now (name.now ++ end.now)) number }
@@ -86,7 +86,7 @@ fn is_end_given(space: &IndexMap<String, u32>, number: usize, name: &str, end: &
     is_given(space, number, text.as_str())
 }
 
-/// Whether an earlier row than this has a name of a direction of the link.
+/// Returns whether an earlier row than this has a name of a direction of the link.
 fn is_split_given(space: &IndexMap<String, u32>, number: usize, id: &str) -> bool
     requires { length id.now ≤ 59 }
     ensures { result
@@ -164,7 +164,7 @@ fn is_given_pair(pairs: &IndexMap<(u32, u32), u32>, number: usize, pair: (u32, u
     }
 }
 
-/// Whether an earlier row than this gave a pair that the row gives.
+/// Returns whether an earlier row than this gave a pair that the row gives.
 #[tactic(auto, unfolding(sg_names::specs::Pairs::pairs_of, crate::specs::Rules::is_pair_taken))]
 fn is_pair_taken(
     pairs: &IndexMap<(u32, u32), u32>,
@@ -234,7 +234,7 @@ fn host_fault(names: &Names, name: &str) -> Option<Kind>
     }
 }
 
-/// Of a host that no earlier row of a table of profiles has.
+/// Returns what is wrong with the name of a host that no earlier row of a table of profiles may have.
 fn profiled_host_fault(
     names: &Names,
     earlier: &IndexMap<String, u32>,
@@ -535,7 +535,7 @@ fn value_fault(
     }
 }
 
-/// Whether a key of the row is there and names a zone.
+/// Returns whether a key of the row is there and names a zone.
 fn names_zone(names: &Names, row: &Value, key: &str) -> bool
     ensures { result
         ≡ is_zone (names_view names.now)
@@ -558,7 +558,7 @@ fn is_required(names: &Names, row: &Value, need: Need) -> bool
     }
 }
 
-/// What is wrong where an optional key is left out.
+/// Returns what is wrong if an optional key is left out.
 fn default_fault(
     alloc: Global,
     names: &Names,
@@ -574,7 +574,8 @@ fn default_fault(
     }
 }
 
-/// The first rule that a key of a row breaks. The row has this number among the rows that share its space of names.
+/// Returns the first rule that a key of a row breaks. The row has this number among the rows that share its space of
+/// names.
 #[tactic(auto, unfolding(crate::specs::Rules::key_kinds))]
 pub fn key_fault(
     alloc: Global,

@@ -22,7 +22,7 @@ use sg_tree::{Fault, Kind, Place, rows_at, small_number, value_at};
 use std::alloc::Global;
 use toml::Value;
 
-/// The first fault of the keys of the row at a place.
+/// Returns the first fault of the keys of the row at a place.
 fn keys_fault(
     alloc: Global,
     names: &Names,
@@ -76,7 +76,7 @@ fn has_only(keys: &[Key], members: &toml::Table) -> bool
     are_keys(keys, members)
 }
 
-/// The first rule that a row breaks as a whole.
+/// Returns the first rule that a row breaks as a whole.
 fn whole_fault(keys: &[Key], row: &Value) -> Option<Kind>
     ensures { result
         ≡ first (of_type
@@ -95,7 +95,7 @@ fn whole_fault(keys: &[Key], row: &Value) -> Option<Kind>
     }
 }
 
-/// The first fault of the row at a place, which has this number in its space.
+/// Returns the first fault of the row at a place, which has this number in its space.
 #[tactic(auto, unfolding(crate::specs::Faults::row_faults))]
 fn row_fault(
     alloc: Global,
@@ -120,7 +120,7 @@ fn row_fault(
     }
 }
 
-/// The first fault of the rows of a table, before which stand this many rows of its space.
+/// Returns the first fault of the rows of a table, before which stand this many rows of its space.
 fn rows_fault(
     alloc: Global,
     names: &Names,
@@ -152,7 +152,7 @@ fn rows_fault(
     Ok(None)
 }
 
-/// The first rule that a table breaks as a whole.
+/// Returns the first rule that a table breaks as a whole.
 #[tactic(auto, using(sg_tree::proofs::TreeLemmas::length_of_items))]
 fn head_fault(tree: &toml::Table, table: Table) -> Option<Kind>
     ensures { result
@@ -184,7 +184,7 @@ fn before(names: &Names, table: Table) -> usize
     }
 }
 
-/// The first fault of the table of a number.
+/// Returns the first fault of the table of a number.
 #[tactic(auto, using(crate::proofs::TableLemmas::table_rest, crate::proofs::TableLemmas::table_head, crate::proofs::TableLemmas::few_at))]
 fn table_fault(
     alloc: Global,
@@ -245,7 +245,7 @@ fn has_only_tables(tables: &[Table], members: &toml::Table) -> bool
     are_tables(tables, members)
 }
 
-/// The first fault of these tables, which are numbered in their order.
+/// Returns the first fault of these tables, which are numbered in their order.
 fn tables_fault(
     alloc: Global,
     names: &Names,
@@ -268,7 +268,7 @@ fn tables_fault(
     Ok(None)
 }
 
-/// The first fault of a tree.
+/// Returns the first fault of a tree.
 #[tactic(auto, unfolding(crate::specs::Faults::faults_of))]
 pub fn first_fault(
     alloc: Global,

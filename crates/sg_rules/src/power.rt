@@ -41,7 +41,7 @@ fn powers_of(idle: Option<u64>, epsilon: Option<u64>, all: Option<u64>) -> Optio
     }
 }
 
-/// What three items give, of which the third is not less than the second.
+/// Returns what three items give, of which the third is not less than the second.
 pub fn powers_in(items: &[Value]) -> Option<Powers>
     ensures { result ≡ powers_in (map view items.now) }
 {

@@ -13,14 +13,14 @@ use sg_tables::Quantity;
 use sg_tree::Kind;
 use toml::Value;
 
-/// Whether the row of a profile names a host.
+/// Returns whether the row of a profile names a host.
 pub fn is_of_host(row: &Value) -> bool
     ensures { result ≡ is_some (get (codes "host") (view row.now)) }
 {
     row.get("host").is_some()
 }
 
-/// What the values of a profile are.
+/// Returns what the values of a profile are.
 pub fn quantity_of(row: &Value) -> Quantity
     ensures { result ≡ quantity_of (view row.now) }
 {
@@ -31,7 +31,7 @@ pub fn quantity_of(row: &Value) -> Quantity
     }
 }
 
-/// The items of the array at a key of a row: none where it is absent or no array.
+/// Returns the items of the array at a key of a row: none if it is absent or no array.
 #[tactic(auto, using(sg_tree::proofs::TreeLemmas::list_of_items))]
 pub fn items_at<'a>(row: &'a Value, key: &str) -> &'a [Value]
     ensures { map view result.now ≡ items_at key.now (view row.now) }
@@ -45,14 +45,14 @@ pub fn items_at<'a>(row: &'a Value, key: &str) -> &'a [Value]
     }
 }
 
-/// The amount that an item gives.
+/// Returns the amount that an item gives.
 pub fn amount_in(quantity: Quantity, item: &Value) -> Option<u64>
     ensures { result ≡ amount_in quantity (view item.now) }
 {
     quantity.value(text_of(item).as_bytes())
 }
 
-/// The state that an item gives: whether it is on.
+/// Returns the state that an item gives: whether it is on.
 pub fn state_in(item: &Value) -> Option<bool>
     ensures { result ≡ state_in (view item.now) }
 {
@@ -63,7 +63,7 @@ pub fn state_in(item: &Value) -> Option<bool>
     }
 }
 
-/// Whether the items are one date or more, each later than the one before.
+/// Returns whether the items are one date or more, each later than the one before.
 fn are_rising(items: &[Value]) -> bool
     ensures { result ≡ are_rising (map (amount_in Time) (map view items.now)) }
 {
@@ -78,7 +78,7 @@ fn are_rising(items: &[Value]) -> bool
     last.is_some()
 }
 
-/// What is wrong with the dates of a profile.
+/// Returns what is wrong with the dates of a profile.
 #[tactic(auto, unfolding(crate::specs::Profiles::dates_kinds))]
 pub fn dates_fault(items: &[Value]) -> Option<Kind>
     ensures { result ≡ first (dates_kinds (map view items.now)) }
@@ -115,7 +115,7 @@ fn are_states(items: &[Value]) -> bool
     true
 }
 
-/// What is wrong with the items of a row of which there is one for each date, where they fit their key.
+/// Returns what is wrong with the items of a row of which there is one for each date, if they fit their key.
 #[tactic(auto, unfolding(crate::specs::Profiles::each_date_kinds))]
 fn each_date_fault(row: &Value, items: &[Value], fit: bool) -> Option<Kind>
     ensures { result ≡ first (each_date_kinds (view row.now) (map view items.now) fit) }
@@ -129,7 +129,7 @@ fn each_date_fault(row: &Value, items: &[Value], fit: bool) -> Option<Kind>
     }
 }
 
-/// What is wrong with the values of a profile.
+/// Returns what is wrong with the values of a profile.
 pub fn values_fault(row: &Value, items: &[Value]) -> Option<Kind>
     ensures { result
         ≡ first (each_date_kinds (view row.now) (map view items.now)
@@ -139,7 +139,7 @@ pub fn values_fault(row: &Value, items: &[Value]) -> Option<Kind>
     each_date_fault(row, items, are_amounts(quantity_of(row), items))
 }
 
-/// What is wrong with the states of a profile.
+/// Returns what is wrong with the states of a profile.
 pub fn states_fault(row: &Value, items: &[Value]) -> Option<Kind>
     ensures { result
         ≡ first (each_date_kinds (view row.now) (map view items.now)

@@ -34,9 +34,9 @@ use Rattle.sg_owners.specs.declared.owners.How.TheVariants as how
 use Rattle.sg_calls.specs.declared.stop.Stop.{Stop}
 use Rattle.sg_calls.specs.declared.stop.Stop.TheVariants as stop
 use Rattle.sg_calls.specs.Answers.{answers_side, for_receiver, side_of, with_over}
-use Rattle.sg_calls.specs.Calls.{actor_of, answered_call, computes, executes, with_execution}
+use Rattle.sg_calls.specs.Calls.{answered_call, computes, executes, with_execution}
 use Rattle.sg_calls.specs.Kills.{awaited, gives_up, kill_done, kills, kills_alive, withdrawn}
-use Rattle.sg_calls.specs.Lives.{joins_by, leaves}
+use Rattle.sg_calls.specs.Lives.{joins_by, with_actor_ended}
 use Rattle.sg_calls.specs.Locks.{all_wake, caller_first, caller_gets, caller_last, joiners_wake, with_objects}
 use Rattle.sg_calls.specs.Meetings.{answer_of_over, both_fail, comer_fails, comer_of, comes, comes_by, fails_with, joined, joins_over, joins_with, other_fails, point_of, posted, posts_at, receiver_of, receives_by, route_between, sender_of, sends_by, stop_of, takes_part, takes_part_failed, waits_by, waits_until, way_with}
 use Rattle.sg_kernel.specs.Passes.{pass_of}
@@ -50,6 +50,7 @@ use Rattle.sg_calls.proofs.Finishes.{answers_side_goes}
 use Rattle.sg_engine.specs.Run.{created_by}
 use Rattle.sg_actor_laws.proofs.Kept.{Kept, Closed, Replying, still, one_made, either, both, each_kept, none_kept, more_kept, all_kept, joiners_kept, side_kept, gives_up_kept, finishes_kept, pass_kept}
 use Rattle.sg_actor_laws.proofs.Others.{set_there}
+use Rattle.sg_base.specs.Turn.{actor_of}
 use Rattle.sg_run_laws.specs.Creating.{created_in, is_done}
 
 -- ---- what actors keep
@@ -66,7 +67,7 @@ creating (Ready given) = None
 creating (Blocked what since on) = created_by what
 creating Ended = None
 
--- as many actors have begun as before, and nobody is blocked by a create
+-- as many actors have begun as before, and no actor is blocked by a create
 pub record Keeps (old new : List Actor) : Type 0 where
   pub long : length new ≡ length old
   pub begun : (i : ℕ) → is_unstarted (place_state new i) ≡ is_unstarted (place_state old i)
@@ -94,7 +95,7 @@ alive_up (Ready given) e = refl
 alive_up (Blocked what since on) e = refl
 alive_up Ended e = refl
 
--- a record that tells of no create
+-- a record of no create
 abbrev pub TellsNone : Record → Type 0
 TellsNone r = created_in r ≡ None
 
@@ -288,7 +289,7 @@ module _ (before : Core) where
         (both (Leaves before) TellsNone own (other_fails comer serial other) (failed comer.waits serial (sender_of comer other).bytes core l) (others serial other own.core))
         (both (Leaves before) TellsNone theirs (comer_fails comer serial other) (others serial other core l) (failed comer.waits serial (sender_of comer other).bytes theirs.core))
 
--- ---- whether it goes on
+-- ---- whether it continues
 part_goes : (waits : Bool) (comer : Comer) (serial : ℕ) (core : Core) → (takes_part waits comer serial core).stop ≡ None
 part_goes true comer serial core = refl
 part_goes false comer serial core = refl
@@ -386,9 +387,9 @@ module _ (roads : Roads) (setup : Setup) (core : Core) (actor : ℕ) (up : is_un
   call_happens (call.Resume n) = alone (call.Resume n) refl (now (counted core) actor up (call.Resume n) 0 answer.Done (suspended_to false n (counted core)) refl (suspended_leaves (counted core) false n (counted core) one))
   call_happens call.Yield = alone call.Yield refl (now (counted core) actor up call.Yield 0 answer.Done (counted core) refl one)
   call_happens call.Exit =
-      alone call.Exit refl (joiners_kept (Leaves (counted core)) TellsNone (replying (counted core)) actor (leaves actor (counted core)) (puts (counted core) actor Ended (counted core) up refl refl one))
+      alone call.Exit refl (joiners_kept (Leaves (counted core)) TellsNone (replying (counted core)) actor (with_actor_ended actor (counted core)) (puts (counted core) actor Ended (counted core) up refl refl one))
 
--- ---- a pass
+-- ---- a time advance
 pass_replying : (old : List Actor) → Replying (λ core. Keeps old core.actors) TellsNone
 pass_replying old = record {
   replies = λ actor blocking bytes given core is k.

@@ -1,4 +1,4 @@
--- Each round and each pass ends the run or adds an event, so that the run ends.
+-- Each scheduling round and each time advance ends the run or adds an event, so that the run ends.
 use Rattle.std.proofs.Common.{◌≡◌, ◌≢◌, ℕ, zero, suc, ◌+◌, ◌<◌, ◌≤◌, Bool, true, false, true≢false, cond, Option, None, Some, is_some, refl, sym, ap, subst, ◌∙◌, arith}
 use Rattle.std.specs.Prelude.{IsSome}
 use Rattle.sg_activity.specs.Underway.{work_of}
@@ -14,7 +14,7 @@ use Rattle.sg_engine.specs.declared.ended.Ended.{Ended}
 use Rattle.sg_engine.specs.declared.ended.Ended.TheVariants as ended
 use Rattle.sg_engine.specs.Fuel.{parts_from}
 use Rattle.sg_engine.proofs.Fuel.{more_same}
-use Rattle.sg_engine.specs.Run.{Scene, Answering, Progress, and_then, and_then_by, anyone_ready, are_completed, at_world, in_world, round, round_or_pass, run_from, with_front}
+use Rattle.sg_engine.specs.Run.{Scene, Answering, Progress, then_unless_ended, and_then_by, anyone_ready, are_completed, at_world, in_world, round, round_or_pass, run_from, with_front}
 use Rattle.sg_await_laws.specs.Runs.{IsCoreOf, Run, behind, first_in, last, parts_in, round_to, run_to, scene_in, whole, within}
 use Rattle.sg_run_laws.specs.Ending.{BudgetsAreKept, GoesTo, HasEnd, KeepsBudget, MoreIsTheSame, PartsCount, RunsEnd, completes, ends, goes_on}
 use Rattle.sg_run_laws.proofs.Parts.{first_minded, part_follows}
@@ -22,20 +22,21 @@ use Rattle.sg_run_laws.proofs.Passed.{pass_so}
 use Rattle.sg_run_laws.proofs.Rounds.{round_advances, round_stretch, round_to_stretch, turned}
 use Rattle.sg_run_laws.proofs.Stretches.{Minds, Stretch, ends_so, goes_so, minds_waits}
 
--- ---- what stands between rounds and passes
--- no more events than the budget, no entry that is overdue, and a mind of each actor that has begun
+-- ---- what holds between scheduling rounds and time advances
+-- no more events than the budget, no entry that is overdue, and a mind of each actor that has
+-- begun
 pub record Stands (at : Scene) (world : World) : Type 0 where
   pub within : world.core.events ≤ at.setup.budget
   pub ahead : IsAhead world.core.under.date at.setup.profiles world.core.turns
   pub minds : Minds at world
 
--- the count doesn't fall, and is the budget where that ends the run
+-- the count doesn't fall, and is the budget if that ends the run
 pub record Counts (at : Scene) (before : World) (p : Progress) : Type 0 where
   pub stands : Stands at p.world
   pub more : before.core.events ≤ p.world.core.events
   pub used : p.ended ≡ Some ended.Budget → p.world.core.events ≡ at.setup.budget
 
--- and it rises, where the run goes on
+-- and it rises, if the run continues
 pub record Rises (at : Scene) (before : World) (p : Progress) : Type 0 where
   pub counts : Counts at before p
   pub advances : p.ended ≡ None → before.core.events < p.world.core.events
@@ -86,7 +87,7 @@ module _ (at : Scene) (answers : Answering) (hosts links : ℕ) (are : AreProfil
       by true ready minds = round_rises world s ready
       by false idle minds = pass_rises world s minds
 
-  -- the round or pass of a world
+  -- the scheduling round or time advance of a world
   abbrev part : World → Progress
   part world = round_or_pass at answers world
 
@@ -108,7 +109,7 @@ module _ (at : Scene) (answers : Answering) (hosts links : ℕ) (are : AreProfil
   parts_count (suc n) world s =
       let first = part world in
       let r = part_rises world s in
-      counts_by world (are_completed world.core) (at_world (Some ended.Completed) world) (and_then first (parts_from n at answers)) (completed world s)
+      counts_by world (are_completed world.core) (at_world (Some ended.Completed) world) (then_unless_ended first (parts_from n at answers)) (completed world s)
       (counts_then world first.ended first (parts_from n at answers) r.counts (parts_count n first.world r.counts.stands) refl)
 
   pub round_to_counts : (n : ℕ) (world : World) → Stands at world → Counts at world (round_to n at answers world)
@@ -129,7 +130,7 @@ module _ (at : Scene) (answers : Answering) (hosts links : ℕ) (are : AreProfil
       over true more = refl
       over false more = by (part world).ended refl more
 
-  -- ---- it goes on until it ends
+  -- ---- it continues until it ends
   pub goes_there : (n : ℕ) (world : World) → IsSome (parts_from n at answers world).ended → GoesTo at answers world (parts_from n at answers world)
   unfolding parts_from
   goes_there zero world some = absurd (cc some)
@@ -189,7 +190,7 @@ goes_alone at answers world one other (goes_on {rest = first} going on rest) (go
 
 -- ---- runs
 module _ (run : Run) (is : IsPlatform run.platform) where
-  are : AreProfiles (counts_of run.platform).hosts (counts_of run.platform).links (profiles_in run.platform)
+  pub are : AreProfiles (counts_of run.platform).hosts (counts_of run.platform).links (profiles_in run.platform)
   are = platforms_promise run.platform is
 
   first_stands : Stands (scene_in run) (first_in run)
@@ -205,7 +206,7 @@ module _ (run : Run) (is : IsPlatform run.platform) where
   more_so : (more : ℕ) → run_from (run.budget + 1 + more) (scene_in run) run.answers (first_in run) ≡ parts_in (run.budget + 1) run
   more_so more = more_same (run.budget + 1) more (scene_in run) run.answers (first_in run) ended_so
 
-  whole_so : whole run ≡ parts_in (run.budget + 1) run
+  pub whole_so : whole run ≡ parts_in (run.budget + 1) run
   whole_so = (let z : run.budget + 1 ≡ run.budget + 1 + 0 = omega arith in ap (λ (n : ℕ). run_from n (scene_in run) run.answers (first_in run)) z) ∙ more_so 0
 
   parts_in_count : (parts : ℕ) → Counts (scene_in run) (first_in run) (parts_in parts run)

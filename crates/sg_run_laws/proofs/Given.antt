@@ -21,7 +21,7 @@ use Rattle.sg_run_laws.specs.Creating.{ContextsAreTaken, CreatesAreGiven, Create
 use Rattle.sg_run_laws.proofs.Parts.{Follows, first_begun, run_to_follows, whole_follows}
 use Rattle.sg_run_laws.proofs.Rounds.{turned}
 
--- ---- the next call of a round
+-- ---- the next call of a scheduling round
 -- a call of this actor is answered between the one and the other
 record IsNext (at : Scene) (answers : Answering) (actor : ℕ) (what : Call) (before after : Progress) : Type 0 where
   told : after.made ≡ before.made ++ (one_call at answers actor what before.world).made
@@ -90,7 +90,7 @@ next_in run parts actors target c = by (parts_in parts run).ended refl c.caller 
         IsNext (scene_in run) run.answers (actors + 1) (call.Create target) (and_then_by how first (round_to actors (scene_in run) run.answers)) (and_then_by how first (round_to (actors + 1) (scene_in run) run.answers))
     by how e lives goes = then_call (scene_in run) run.answers (actors + 1) (call.Create target) how first (round_to actors (scene_in run) run.answers) (round_to (actors + 1) (scene_in run) run.answers) e lives goes round_next
 
--- ---- what is left of the crew, and who has begun
+-- ---- what remains of the context pool, and who has begun
 not_or : (a b : Bool) → (not a && not b) ≡ not (a || b)
 not_or true b = refl
 not_or false b = refl

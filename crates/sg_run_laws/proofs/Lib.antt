@@ -6,3 +6,4 @@ pub mod Parts
 pub mod Ends
 pub mod Used
 pub mod Given
+pub mod Left

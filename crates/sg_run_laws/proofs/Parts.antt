@@ -1,4 +1,4 @@
--- Runs: who has begun and what their records tell, part by part.
+-- Runs: who has begun and what their records say, part by part.
 use Rattle.std.proofs.Common.{◌≡◌, ℕ, zero, suc, ◌+◌, ◌<◌, ◌&&◌, not, Bool, true, false, true≢false, cond, Option, None, Some, is_some, List, [], ◌∷◌, length, map, get_or, refl, sym, ap, ◌∙◌, arith}
 use Rattle.std.specs.Prelude.{IsSome}
 use Rattle.std.specs.List.{list_any}
@@ -15,7 +15,7 @@ use Rattle.sg_engine.specs.declared.ended.Ended.{Ended}
 use Rattle.sg_engine.specs.declared.ended.Ended.TheVariants as ended
 use Rattle.sg_engine.specs.Fuel.{parts_from}
 use Rattle.sg_engine.specs.Roles.{firsts_from, mind_at, minds_from}
-use Rattle.sg_engine.specs.Run.{Scene, Answering, Progress, and_then, and_then_by, anyone_ready, are_completed, at_world, in_world, round, round_or_pass, run_from}
+use Rattle.sg_engine.specs.Run.{Scene, Answering, Progress, then_unless_ended, and_then_by, anyone_ready, are_completed, at_world, in_world, round, round_or_pass, run_from}
 use Rattle.sg_await_laws.specs.Runs.{Run, first_in, parts_in, run_to, scene_in, whole}
 use Rattle.sg_await_laws.specs.Runs as runs
 use Rattle.sg_run_laws.specs.Creating.{creates_at}
@@ -24,7 +24,7 @@ use Rattle.sg_run_laws.proofs.Rounds.{round_stretch, round_to_stretch, turned}
 use Rattle.sg_run_laws.proofs.Stretches.{Minds, Traced, minds_kept, minds_waits, traced_both, traced_none}
 
 -- ---- what each part leaves
--- minds, and what records tell
+-- minds, and what records say
 pub record Follows (at : Scene) (before : World) (p : Progress) : Type 0 where
   pub minds : Minds at p.world
   pub traced : Traced before p.world p.made
@@ -63,7 +63,7 @@ module _ (at : Scene) (answers : Answering) where
   parts_follow (suc n) world m =
       let first = round_or_pass at answers world in
       let f = part_follows world m in
-      follows_by at world (are_completed world.core) (at_world (Some ended.Completed) world) (and_then first (parts_from n at answers)) (follows_here at world (Some ended.Completed) m)
+      follows_by at world (are_completed world.core) (at_world (Some ended.Completed) world) (then_unless_ended first (parts_from n at answers)) (follows_here at world (Some ended.Completed) m)
       (follows_then at world first.ended first (parts_from n at answers) f (parts_follow n first.world f.minds))
 
   pub run_follows : (n : ℕ) (world : World) → Minds at world → Follows at world (run_from n at answers world)
@@ -72,7 +72,7 @@ module _ (at : Scene) (answers : Answering) where
   run_follows (suc n) world m =
       let first = round_or_pass at answers world in
       let f = part_follows world m in
-      follows_by at world (are_completed world.core) (at_world (Some ended.Completed) world) (and_then first (run_from n at answers)) (follows_here at world (Some ended.Completed) m)
+      follows_by at world (are_completed world.core) (at_world (Some ended.Completed) world) (then_unless_ended first (run_from n at answers)) (follows_here at world (Some ended.Completed) m)
       (follows_then at world first.ended first (run_from n at answers) f (run_follows n first.world f.minds))
 
   pub round_to_follows : (n : ℕ) (world : World) → Minds at world → Follows at world (runs.round_to n at answers world)
@@ -81,7 +81,7 @@ module _ (at : Scene) (answers : Answering) where
       record { minds = s.minds; traced = same_traced world (turned world) (runs.round_to n at answers world).world (runs.round_to n at answers world).made refl refl s.traced }
 
 -- ---- at first
--- who starts has a mind
+-- an actor that starts has a mind
 first_long : (me : ℕ) (rows : List ActorRow) → (length (minds_from me rows) ≡ length rows) × (length (firsts_from me rows) ≡ length rows)
 first_long me [] = (refl, refl)
 first_long me (row ∷ rows) = (let r = first_long (me + 1) rows in (ap suc r.0, ap suc r.1))

@@ -1,10 +1,10 @@
--- What a pass leaves: who has begun, and no entry that is overdue; and it has an event, or stops the run.
+-- What a time advance leaves: who has begun, and no entry that is overdue; and it has an event, or stops the run.
 use Rattle.std.proofs.Common.{◌≡◌, ◌≢◌, ◌⊎◌, ℕ, zero, suc, ◌+◌, ◌-◌, ◌==◌, ◌<◌, ◌≤◌, min, Bool, true, false, cond, inl, inr, Option, None, Some, option_map, List, [], ◌∷◌, map, get_or, refl, sym, ap, subst, ◌∙◌, arith}
 use Rattle.std.specs.Prelude.{IsSome, is_some}
 use Rattle.std.specs.List.{All}
 use Rattle.std.specs.Option.{IfSome}
 use Rattle.std.proofs.lemmas.List.Elements.{All-nil, All-append}
-use Rattle.sg_lives.specs.Slots.{sooner, soonest, serials, is_at}
+use Rattle.sg_lives.specs.Slots.{sooner, soonest, serials, is_over_after}
 use Rattle.sg_activity.specs.Task.{Task, phase_after, task_at}
 use Rattle.sg_activity.specs.Underway.{Underway, due_in, hits, is_running, next_in, passed, wait_in, with_task}
 use Rattle.sg_activity.proofs.Times.{sooner_cases}
@@ -45,7 +45,7 @@ pub keeps_then : (old now new : List Actor) → Keeps old now → Keeps now new 
 keeps_then old now new k l = record { long = l.long ∙ k.long; begun = λ i. l.begun i ∙ k.begun i; waits = l.waits }
 
 -- ---- one step, and another
--- this holds after it; it tells of no create; and where the budget stops it the count is the budget
+-- this holds after it; it records no create; and if the budget stops it the count is the budget
 pub record Goes (P : Core → Type 0) (budget : ℕ) (step : Step) : Type 0 where
   pub holds : P step.core
   pub silent : All TellsNone step.made
@@ -85,7 +85,7 @@ goes_two : (M P : Core → Type 0) (budget : ℕ) (first second : Core → Step)
 unfolding all_of
 goes_two M P budget first second core so g more = goes_then M P budget (first core) (all_of (second ∷ [])) so g (λ m. goes_last P budget second (first core).core (more (first core).core m))
 
--- ---- amid a pass
+-- ---- amid a time advance
 -- so many events at least, and no more than the budget; it is this date, and the profiles are so far
 pub record Amid (old : List Actor) (budget low day : ℕ) (far : List Turn) (core : Core) : Type 0 where
   pub more : low ≤ core.events
@@ -157,7 +157,7 @@ module _ (setup : Setup) (old : List Actor) (date : ℕ) where
   ends_go : (low : ℕ) (turns : List Turn) (due : List ℕ) (core : Core) → In low turns core → Goes (In low turns) setup.budget (each (ends setup) due core)
   ends_go low turns due core a = goes_each (In low turns) setup.budget (ends setup) (end_goes low turns) due core a
 
-  -- where one is under way it is an event
+  -- if one is running it is an event
   ends_count : (low high : ℕ) (turns : List Turn) (serial : ℕ) (due : List ℕ) (core : Core) → high ≤ core.events + 1 → core.events ≢ setup.budget → IsSome (task_at core.under.tasks serial) → In low turns core → Goes (In high turns) setup.budget (each (ends setup) (serial ∷ due) core)
   unfolding each
   ends_count low high turns serial due core le go some a =
@@ -246,15 +246,15 @@ back : (b : Bool) (k : ℕ) (l : List ℕ) → cond b (k ∷ l) l ≡ [] → l �
 back true k l z = absurd (cc z)
 back false k l z = z
 
-some_due : {X : Type 0} (waits : X → Option ℕ) (n serial : ℕ) (xs : List (Option X)) → soonest waits xs ≡ Some n → serials (λ x. is_at (waits x) n) serial xs ≡ [] → ⊥
+some_due : {X : Type 0} (waits : X → Option ℕ) (n serial : ℕ) (xs : List (Option X)) → soonest waits xs ≡ Some n → serials (λ x. is_over_after (waits x) n) serial xs ≡ [] → ⊥
 unfolding soonest serials
 some_due waits n serial [] e none = cc e
 some_due waits n serial (None ∷ xs) e none = some_due waits n (serial + 1) xs e none
 some_due waits n serial (Some x ∷ xs) e none =
-    let rest = serials (λ y. is_at (waits y) n) (serial + 1) xs in
+    let rest = serials (λ y. is_over_after (waits y) n) (serial + 1) xs in
     elim (sooner_cases (waits x) (soonest waits xs) n e) [
-      | inl a ↦ cc (sym (ap (λ b. cond b (serial ∷ rest) rest) (ap (λ w. is_at w n) a ∙ same n)) ∙ none)
-      | inr b ↦ some_due waits n (serial + 1) xs b (back (is_at (waits x) n) serial rest none)
+      | inl a ↦ cc (sym (ap (λ b. cond b (serial ∷ rest) rest) (ap (λ w. is_over_after w n) a ∙ same n)) ∙ none)
+      | inr b ↦ some_due waits n (serial + 1) xs b (back (is_over_after (waits x) n) serial rest none)
     ]
 
 earlier_cases : (x : ℕ) (other : Option ℕ) (date : ℕ) → earlier_of x other ≡ date → (x ≡ date) ⊎ (other ≡ Some date)
@@ -276,7 +276,7 @@ some_row row date (Some x ∷ dates) e none =
       | inr b ↦ some_row (row + 1) date dates b (back (x == date) row rest none)
     ]
 
--- the phase of the first serial that passes is there
+-- the phase of the first activity id that meets the condition is there
 found_there : {X : Type 0} (test : X → Bool) (n serial : ℕ) (xs : List (Option X)) (rest : List ℕ) → serials test n xs ≡ serial ∷ rest → (n ≤ serial) × IsSome (get_or xs (serial - n) None)
 unfolding serials
 found_there test n serial [] rest e = absurd (cc e)
@@ -303,7 +303,7 @@ later_some change (None ∷ tasks) zero e = e
 later_some change (Some task ∷ tasks) zero e = refl
 later_some change (task ∷ tasks) (suc place) e = later_some change tasks place e
 
--- ---- a pass
+-- ---- a time advance
 -- what it leaves
 pub record Passes (setup : Setup) (before : Core) (step : Step) : Type 0 where
   pub more : before.events ≤ step.core.events
@@ -407,7 +407,7 @@ module _ (setup : Setup) (hosts links : ℕ) (are : AreProfiles hosts links setu
 
     waiting : (serial : ℕ) (serials : List ℕ) → due ≡ serial ∷ serials → IsSome (task_at mid.under.tasks serial)
     waiting serial others so =
-        let there = found_there (λ task. is_at (wait_in (settled core).under task) span) 1 serial core.under.tasks others so in
+        let there = found_there (λ task. is_over_after (wait_in (settled core).under task) span) 1 serial core.under.tasks others so in
         later_some (passed (settled core).under span) core.under.tasks (serial - 1) there.1
 
     alone_so : (serial : ℕ) (serials : List ℕ) → due ≡ serial ∷ serials → rows ≡ [] → Goes (Ahead setup core.actors date (core.events + 1)) setup.budget (all_of (each (changes setup) [] ∷ each (ends setup) (serial ∷ serials) ∷ []) mid)

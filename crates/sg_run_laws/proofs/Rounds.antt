@@ -1,4 +1,4 @@
--- Rounds: each has a call, and so an event, or ends the run.
+-- Scheduling rounds: each has a call, and so an event, or ends the run.
 use Rattle.std.proofs.Common.{◌≡◌, ℕ, zero, suc, ◌+◌, ◌-◌, ◌<◌, ◌≤◌, ◌&&◌, ◌||◌, not, Bool, true, false, true≢false, cond, Option, None, Some, is_some, List, [], ◌∷◌, length, map, get_or, take, refl, sym, ap, ◌∙◌, arith}
 use Rattle.std.specs.Prelude.{IsSome}
 use Rattle.std.specs.List.{list_any}
@@ -19,7 +19,7 @@ use Rattle.sg_run_laws.proofs.Called.{place_state}
 use Rattle.sg_run_laws.proofs.Stretches.{Minds, Stretch, begun_still, call_advances, call_stretch, nothing, stretch_then}
 
 -- ---- who calls
--- all that call have begun, where the first of these calls is this actor's
+-- all that call have begun, if the first of these calls is this actor's
 abbrev pub AllUp : ℕ → List (Option Call) → Core → Type 0
 AllUp actor calls core = (j place : ℕ) → place ≡ actor - 1 + j → IsSome (get_or calls j None) → is_unstarted (place_state core.actors place) ≡ false
 
@@ -49,7 +49,7 @@ pub taken_up : (n actor : ℕ) (calls : List (Option Call)) (core : Core) → Al
 taken_up n actor calls core all j place is some = all j place is (some_taken n calls j some)
 
 -- ---- the turns
--- minds stay as many, and who has one keeps one
+-- minds stay as many, and an actor that has one keeps it
 pub minds_long : (minds : List (Option Mind)) (actors : List Actor) → length actors ≡ length minds → length (zip_with mind_after minds (map inbox_of actors)) ≡ length minds
 minds_long [] actors same = refl
 minds_long (mind ∷ minds) [] same = absurd (omega (arith, same))
@@ -80,7 +80,7 @@ turned_minds at world m =
       waits = m.waits;
     }
 
--- ---- somebody calls
+-- ---- an actor calls
 calls_so : (suspended : Bool) (state : State) (mind : Option Mind) → (is_answered state && not suspended) ≡ true → (is_unstarted state ≡ false → IsSome mind) → IsSome (call_after mind (cond suspended None (answer_in state)))
 calls_so true state.Unstarted mind ready some = absurd (true≢false (sym ready))
 calls_so true (state.Ready answer) mind ready some = absurd (true≢false (sym ready))
@@ -112,9 +112,9 @@ pub ready_calls : (at : Scene) (world : World) → Minds at world → anyone_rea
 ready_calls at world m ready =
     some_calls world.minds world.core.actors (m.actors_long ∙ sym m.minds_long) (λ i within up. m.minded i (omega (arith, within, m.minds_long)) up) ready
 
--- ---- the calls of a round
+-- ---- the calls of a scheduling round
 module _ (at : Scene) (answers : Answering) where
-  rest_up : (actor : ℕ) (what : Option Call) (rest : List (Option Call)) (before : World) (p : Progress) → 0 < actor → Stretch at before p → AllUp actor (what ∷ rest) before.core → AllUp (actor + 1) rest p.world.core
+  pub rest_up : (actor : ℕ) (what : Option Call) (rest : List (Option Call)) (before : World) (p : Progress) → 0 < actor → Stretch at before p → AllUp actor (what ∷ rest) before.core → AllUp (actor + 1) rest p.world.core
   rest_up actor what rest before p from s all j place is some =
       begun_still before p.world p.made place s.traced (all (suc j) place (omega (arith, is, from)) some)
 
@@ -149,7 +149,7 @@ module _ (at : Scene) (answers : Answering) where
       more_by world.core.events first.ended first (calls_from at answers (actor + 1) rest) refl
       (call_advances at answers actor what world m (first_up actor (Some what) rest world.core all refl) (live 0 (actor - 1) (omega arith) refl)) more.more on
 
-  -- ---- a round
+  -- ---- a scheduling round
   pub round_stretch : (world : World) → Minds at world → Stretch at (turned world) (round at answers world)
   round_stretch world m = calls_stretch 1 (calls_in world) (turned world) (omega arith) (turned_minds at world m) (all_up world)
 

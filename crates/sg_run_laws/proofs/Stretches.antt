@@ -1,4 +1,5 @@
--- What the calls of a round leave: who has begun has a mind, the records tell of each create, and the events don't fall.
+-- What the calls of a scheduling round leave: each actor that has begun has a mind, the records have each create, and
+-- the events don't fall.
 use Rattle.std.proofs.Common.{◌≡◌, ◌≢◌, ℕ, zero, suc, ◌+◌, ◌-◌, ◌==◌, ◌<◌, ◌≤◌, ◌&&◌, ◌||◌, not, nat_lt, Bool, true, false, true≢false, cond, inl, inr, Option, None, Some, option_map, is_some, Result, Ok, Err, List, [], ◌∷◌, ◌++◌, count_by, length, set, get_or, refl, sym, ap, subst, ◌∙◌, arith}
 use Rattle.std.specs.Prelude.{IsSome, slice_get}
 use Rattle.std.specs.List.{All, list_any}
@@ -27,13 +28,13 @@ use Rattle.sg_script.specs.declared.fault.ScriptFault.TheVariants as fault
 use Rattle.sg_engine.specs.World.{World}
 use Rattle.sg_engine.specs.declared.ended.Ended.{Ended}
 use Rattle.sg_engine.specs.declared.ended.Ended.TheVariants as ended
-use Rattle.sg_engine.specs.Run.{Scene, Answering, Progress, and_then, and_then_by, answer_step, ask_step, at_world, created_by, creates, ended_at, ended_by, if_call, if_given, in_world, is_ask, is_given, one_call, other_call}
+use Rattle.sg_engine.specs.Run.{Scene, Answering, Progress, then_unless_ended, and_then_by, answer_step, ask_step, at_world, created_by, creates, ended_at, ended_by, if_call, if_given, in_world, is_ask, is_given, one_call, other_call}
 use Rattle.sg_actor_laws.proofs.Others.{set_there}
 use Rattle.sg_run_laws.specs.Creating.{creates_at, is_create, is_placed, is_some_actor}
 use Rattle.sg_run_laws.proofs.Called.{Happens, Keeps, Keeping, TellsNone, call_happens, counts, creating, faults, is_budget, nobody, place_state, put_keeps}
 use Rattle.sg_run_laws.proofs.Passed.{same_or}
 
--- ---- a step of the kernel in a round
+-- ---- a step of the kernel in a scheduling round
 pub record Steps (budget : ℕ) (core : Core) (step : Step) : Type 0 where
   pub keeps : Keeps core.actors step.core.actors
   pub silent : All TellsNone step.made
@@ -88,7 +89,7 @@ unless_steps budget core step k more = by (core.events == budget) refl
     by false e = more ((same_or core.events budget).1 e)
 
 -- ---- what a stretch of a run leaves
--- As many minds as actors; who has begun has one, and nobody waits for a create.
+-- As many minds as actors; an actor that has begun has one, and no actor waits for a create.
 pub record Minded (firsts : List Mind) (minds : List (Option Mind)) (actors : List Actor) : Type 0 where
   pub actors_long : length actors ≡ length firsts
   pub minds_long : length minds ≡ length firsts
@@ -101,7 +102,7 @@ Minds at world = Minded at.firsts world.minds world.core.actors
 pub minds_waits : (at : Scene) (world : World) → Minds at world → Keeps world.core.actors world.core.actors
 minds_waits at world m = record { long = refl; begun = λ i. refl; waits = m.waits }
 
--- the records tell who began, and how many contexts that took
+-- the records say who began, and how many contexts that took
 pub record Traced (before after : World) (made : List Record) : Type 0 where
   pub contexts : after.contexts + count_by is_create made ≡ before.contexts
   pub begun : (i : ℕ) → is_unstarted (place_state after.core.actors i) ≡ (is_unstarted (place_state before.core.actors i) && not (list_any (creates_at i) made))
@@ -168,7 +169,7 @@ traced_both a b c xs ys s t = record {
       ∙ ap (λ (u : Bool). is_unstarted (place_state a.core.actors i) && not u) (sym (any_both i xs ys));
 }
 
--- who has begun before has begun
+-- an actor that has begun stays so
 pub begun_still : (before after : World) (made : List Record) (i : ℕ) → Traced before after made → is_unstarted (place_state before.core.actors i) ≡ false → is_unstarted (place_state after.core.actors i) ≡ false
 begun_still before after made i t up = t.begun i ∙ ap (λ (u : Bool). u && not (list_any (creates_at i) made)) up
 
@@ -203,7 +204,7 @@ spent at world is m = record {
   used = λ e. is;
 }
 
-pub stretch_then : (at : Scene) (before : World) (first : Progress) (next : World → Progress) → Stretch at before first → Stretch at first.world (next first.world) → Stretch at before (and_then first next)
+pub stretch_then : (at : Scene) (before : World) (first : Progress) (next : World → Progress) → Stretch at before first → Stretch at first.world (next first.world) → Stretch at before (then_unless_ended first next)
 stretch_then at before first next s t = by first.ended refl
   where
     by : (how : Option Ended) → first.ended ≡ how → Stretch at before (and_then_by how first next)

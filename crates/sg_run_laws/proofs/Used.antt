@@ -1,4 +1,4 @@
--- Where the budget is used up the next event isn't begun.
+-- If the budget is used up the next event isn't begun.
 use Rattle.std.proofs.Common.{◌≡◌, ℕ, zero, suc, ◌+◌, ◌-◌, ◌<◌, ◌==◌, ◌&&◌, ◌||◌, Bool, true, false, cond, IsTrue, Option, None, Some, option_map, is_some, List, [], ◌∷◌, get_or, refl, sym, ap, ◌∙◌, arith}
 use Rattle.std.specs.Prelude.{IsSome}
 use Rattle.std.specs.Option.{option_map_or}
@@ -19,7 +19,7 @@ use Rattle.sg_engine.specs.World.{World}
 use Rattle.sg_engine.specs.declared.ended.Ended.{Ended}
 use Rattle.sg_engine.specs.declared.ended.Ended.TheVariants as ended
 use Rattle.sg_engine.specs.Fuel.{parts_from}
-use Rattle.sg_engine.specs.Run.{Scene, Answering, Progress, and_then, and_then_by, answer_step, anyone_ready, are_completed, ask_step, at_world, calls_from, created_by, creates, ended_by, if_call, if_given, in_world, is_ask, is_given, one_call, other_call, round, round_or_pass}
+use Rattle.sg_engine.specs.Run.{Scene, Answering, Progress, then_unless_ended, and_then_by, answer_step, anyone_ready, are_completed, ask_step, at_world, calls_from, created_by, creates, ended_by, if_call, if_given, in_world, is_ask, is_given, one_call, other_call, round, round_or_pass}
 use Rattle.sg_await_laws.specs.Runs.{calls_in, first_in, parts_in, scene_in}
 use Rattle.sg_run_laws.specs.Ending.{UsedBudgetsEnd, has_next}
 use Rattle.sg_run_laws.proofs.Parts.{parts_in_follow}
@@ -71,11 +71,11 @@ module _ (at : Scene) (answers : Answering) where
       by true ready is = (let called = ready_calls at world m ready in calls_spent called.place 1 (calls_in world) (turned world) (omega arith) used (all_live world) called.some)
       by false idle is = pass_spent world (next_span at.setup (settled world.core)) refl is used
 
-  -- the part behind so many ends the run, if it goes on until there
+  -- the part after so many ends the run, if it continues until there
   last_spent : (n : ℕ) (world : World) → (parts_from n at answers world).ended ≡ None → are_completed (parts_from n at answers world).world.core ≡ false → Spent (round_or_pass at answers (parts_from n at answers world).world) → Spent (parts_from (suc n) at answers world)
   unfolding parts_from
   last_spent zero world on going spent =
-      ap (λ (b : Bool). (cond b (at_world (Some ended.Completed) world) (and_then (round_or_pass at answers world) (at_world None))).ended) going
+      ap (λ (b : Bool). (cond b (at_world (Some ended.Completed) world) (then_unless_ended (round_or_pass at answers world) (at_world None))).ended) going
       ∙ then_spent (round_or_pass at answers world).ended (round_or_pass at answers world) (at_world None) refl spent
   last_spent (suc n) world on going spent = over (are_completed world.core) (last_spent n (round_or_pass at answers world).world) on going spent
     where

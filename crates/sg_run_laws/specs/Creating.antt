@@ -14,7 +14,7 @@ use Rattle.sg_engine.specs.Run.{Progress, created_by}
 use Rattle.sg_actor_laws.specs.Creates.{answer_of_create}
 use Rattle.sg_await_laws.specs.Runs.{Run, calls_in, parts_in, run_to, whole}
 
--- ---- what records tell of creates
+-- ---- what records say of creates
 abbrev pub is_done : End → Bool
 is_done (end.Done ns) = true
 is_done end.Refused = false
@@ -39,7 +39,7 @@ creates_at place r = is_placed place (created_in r)
 abbrev pub is_create : Record → Bool
 is_create r = is_some_actor (created_in r)
 
--- ---- what stands behind these records
+-- ---- what stands after these records
 -- An actor began: it starts with the run, or was created. One that doesn't exist counts as begun.
 abbrev pub has_begun : Deployed → List Record → ActorId → Bool
 has_begun deployed made target = slice_index_or (map starts deployed.actors) (target.0 - 1) true || list_any (creates_at (target.0 - 1)) made
@@ -53,7 +53,8 @@ abbrev pub may_begin : Run → List Record → ActorId → Bool
 may_begin run made target = not (has_begun run.deployed made target) && nat_lt (begun_number run.deployed made) run.crew
 
 -- ---- creates in runs
--- The actor that is next there calls for the create of this one, and is answered: it wasn't killed in this round, and the run doesn't end.
+-- The actor that is next there calls for the create of this one, and is answered: it wasn't killed in this
+-- scheduling round, and the run doesn't end.
 pub record CreatesAt (run : Run) (parts actors : ℕ) (target : ActorId) : Type 0 where
   pub calls : slice_index_or (calls_in (parts_in parts run).world) actors None ≡ Some (call.Create target)
   pub caller : is_ended (state_of (run_to parts actors run).world.core (actors + 1)) ≡ false
@@ -64,7 +65,7 @@ abbrev pub IsTold : Bool → ℕ → ActorId → Progress → Progress → Type 
 IsTold given actor target before after =
     after.made ≡ before.made ++ record_of actor (call.Create target) before.world.core.under.date 0 (answer_of_create given) before.world.core.under.date ∷ []
 
--- Each create in a run is refused exactly where the named actor began before, or no context is left.
+-- Each create in a run is refused exactly if the named actor began before, or no context is left.
 abbrev pub CreatesAreGiven : Type 0
 CreatesAreGiven = (run : Run) (parts actors : ℕ) (target : ActorId) → CreatesAt run parts actors target → IsTold (may_begin run (run_to parts actors run).made target) (actors + 1) target (run_to parts actors run) (run_to parts (actors + 1) run)
 
@@ -73,7 +74,7 @@ pub record TellsWhoBegan (run : Run) (progress : Progress) : Type 0 where
   pub left : started_number run.deployed ≤ run.crew → progress.world.contexts + begun_number run.deployed progress.made ≡ run.crew
   pub begun : (target : ActorId) → is_unstarted (state_of progress.world.core target.0) ≡ not (has_begun run.deployed progress.made target)
 
--- behind so many parts of a run and so many actors of the round behind them, and at its end
+-- after so many parts of a run and so many actors of the scheduling round after them, and at its end
 pub record ContextsAreTaken : Type 0 where
   pub within : (run : Run) (parts actors : ℕ) → TellsWhoBegan run (run_to parts actors run)
   pub whole : (run : Run) → TellsWhoBegan run (whole run)

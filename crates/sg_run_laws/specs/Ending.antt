@@ -9,14 +9,15 @@ use Rattle.sg_calls.specs.World.{Core}
 use Rattle.sg_setup.specs.Setup.{Setup}
 use Rattle.sg_await_laws.specs.Runs.{IsCoreOf, Run, first_in, parts_in, scene_in, whole}
 
--- A run goes on with rounds and passes until it ends: here all have ended that began, or the next round or pass ends it, or it goes on behind that.
+-- A run continues with scheduling rounds and time advances until it ends: here all have ended that began, or the next
+-- of them ends it, or it continues after that.
 pub data GoesTo (at : Scene) (answers : Answering) : World → Progress → Type 0 where
   completes : {world : World} → IsTrue (are_completed world.core) → GoesTo at answers world (at_world (Some ended.Completed) world)
   ends : {world : World} → are_completed world.core ≡ false → IsSome (round_or_pass at answers world).ended → GoesTo at answers world (round_or_pass at answers world)
   goes_on : {world : World} {rest : Progress} → are_completed world.core ≡ false → (round_or_pass at answers world).ended ≡ None → GoesTo at answers (round_or_pass at answers world).world rest →
       GoesTo at answers world (with_front (round_or_pass at answers world).made rest)
 
--- The run as it is defined is the one to which its rounds and passes go, and they go to no other.
+-- The run as it is defined is the one to which its scheduling rounds and time advances lead, and they lead to no other.
 pub record HasEnd (run : Run) : Type 0 where
   pub goes : GoesTo (scene_in run) run.answers (first_in run) (whole run)
   pub alone : (other : Progress) → GoesTo (scene_in run) run.answers (first_in run) other → other ≡ whole run
@@ -25,11 +26,11 @@ pub record HasEnd (run : Run) : Type 0 where
 abbrev pub RunsEnd : Type 0
 RunsEnd = (run : Run) → IsPlatform run.platform → HasEnd run
 
--- where there may be more rounds and passes it is the same
+-- it is the same if there may be more scheduling rounds and time advances
 abbrev pub MoreIsTheSame : Type 0
 MoreIsTheSame = (run : Run) (more : ℕ) → IsPlatform run.platform → run_from (run.budget + 1 + more) (scene_in run) run.answers (first_in run) ≡ whole run
 
--- each round and each pass that doesn't end the run adds an event
+-- each scheduling round and each time advance that doesn't end the run adds an event
 abbrev pub PartsCount : Type 0
 PartsCount = (run : Run) (parts : ℕ) → IsPlatform run.platform → (parts_in (parts + 1) run).ended ≡ None → (parts_in parts run).world.core.events < (parts_in (parts + 1) run).world.core.events
 
@@ -41,11 +42,11 @@ pub record KeepsBudget (run : Run) : Type 0 where
 abbrev pub BudgetsAreKept : Type 0
 BudgetsAreKept = (run : Run) → IsPlatform run.platform → KeepsBudget run
 
--- an event is next: somebody is ready, or in some time a phase is due or an entry comes
+-- an event is next: an actor is ready, or in some time a phase completes or an entry comes
 abbrev pub has_next : Setup → Core → Bool
 has_next setup core = anyone_ready core || is_some (next_span setup (settled core))
 
--- Behind a round or a pass a run that has used up its budget ends by it, where an event is next.
+-- A run that has used up its budget after a scheduling round or a time advance ends by it, if an event is next.
 abbrev pub UsedBudgetsEnd : Type 0
 UsedBudgetsEnd = (run : Run) (parts : ℕ) → (parts_in parts run).ended ≡ None → (parts_in parts run).world.core.events ≡ run.budget → are_completed (parts_in parts run).world.core ≡ false →
     IsTrue (has_next (scene_in run).setup (parts_in parts run).world.core) → (parts_in (parts + 1) run).ended ≡ Some ended.Budget

@@ -1,19 +1,20 @@
 //! Laws of whole runs.
 ghost use Rattle.sg_run_laws.specs.Creating.{ContextsAreTaken, CreatesAreGiven};
 ghost use Rattle.sg_run_laws.specs.Ending.{BudgetsAreKept, MoreIsTheSame, PartsCount, RunsEnd, UsedBudgetsEnd};
+ghost use Rattle.sg_run_laws.specs.Left.{BudgetsEndBeforeEvents};
 
-/// Each run goes on with rounds and passes until it ends, and it ends. So the number of them that its definition has
-/// is a way of writing it.
+/// Each run continues with scheduling rounds and time advances until it ends, and it ends. So the number of them that
+/// its definition has is a way of writing it.
 pub fn runs_end()
     ensures { RunsEnd }
 {}
 
-/// Where there may be more rounds and passes a run is the same.
+/// A run is the same if there may be more scheduling rounds and time advances.
 pub fn more_is_the_same()
     ensures { MoreIsTheSame }
 {}
 
-/// Each round and each pass that doesn't end a run adds an event to its count.
+/// Each scheduling round and each time advance that doesn't end a run adds an event to its count.
 pub fn parts_count()
     ensures { PartsCount }
 {}
@@ -23,13 +24,13 @@ pub fn budgets_are_kept()
     ensures { BudgetsAreKept }
 {}
 
-/// Behind a round or a pass a run that has used up its budget ends by it, where an event is next.
+/// A run that has used up its budget after a scheduling round or a time advance ends by it, if an event is next.
 pub fn used_budgets_end()
     ensures { UsedBudgetsEnd }
 {}
 
-/// A create is refused exactly where the named actor began before, or no context of the crew is left, by what the run
-/// has told until then.
+/// A create is refused exactly if the named actor began before, or no context of the pool remains, by what the run has
+/// recorded until then.
 pub fn creates_are_given()
     ensures { CreatesAreGiven }
 {}
@@ -38,4 +39,10 @@ pub fn creates_are_given()
 /// unstarted.
 pub fn contexts_are_taken()
     ensures { ContextsAreTaken }
+{}
+
+/// A run that ends by its budget does so where an event is next: the call of an actor in a scheduling round, or in a
+/// time advance a profile entry of its date, a failure, or the end of a phase.
+pub fn budgets_end_before_events()
+    ensures { BudgetsEndBeforeEvents }
 {}

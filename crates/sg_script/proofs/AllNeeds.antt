@@ -1,10 +1,10 @@
--- What the Asks of a run need in all.
+-- What the fetches of a run need in all.
 use Rattle.std.proofs.Common.{◌≡◌, ◌<◌, ◌≤◌, ◌+◌, ◌∙◌, zero, suc, ap, subst, refl, ℕ, true, eqb, [], ◌++◌, length, inl, inr, arith, append_assoc, length-append}
 use Rattle.std.proofs.lemmas.Bool.{cases_Bool, cases_lt}
 use Rattle.std.proofs.lemmas.Bool.Decides.{nat_tests}
 use Rattle.sg_edge.specs.Sources.{Source}
 use Rattle.sg_edge.specs.declared.files.Stage.{Stage}
-use Rattle.sg_script.specs.Known.{Known}
+use Rattle.sg_script.specs.Known.{ScriptNames}
 use Rattle.sg_script.specs.Laws.{NeedIsMost, NeedsAddUp}
 use Rattle.sg_script.specs.Needed.{greatest, need_of}
 use Rattle.sg_script.specs.Rest.{GoesOn}
@@ -36,8 +36,8 @@ most known source actors asks count none (inr needs) =
       greatest_at (actors + 1) (λ a. greatest (asks a) (λ i. need_of known source a i)) needs.actor (some_asked actors needs.actor needs.earlier asks none needs.made),
     )
 
--- more Asks need no less
-pub within_more : (known : Known) (source : Source) (asks more : ℕ → ℕ) (count : ℕ) → ((x : ℕ) → asks x ≤ more x) → IsWithinNeed known source asks count → IsWithinNeed known source more count
+-- more fetches need no less
+pub within_more : (known : ScriptNames) (source : Source) (asks more : ℕ → ℕ) (count : ℕ) → ((x : ℕ) → asks x ≤ more x) → IsWithinNeed known source asks count → IsWithinNeed known source more count
 within_more known source asks more count each (inl nothing) = inl nothing
 within_more known source asks more count each (inr needs) = inr (record {
   actor = needs.actor;
@@ -71,5 +71,5 @@ add_up known taken piece asks actor old new reads needed near source goes = elim
 ]
 
 -- nothing was taken
-pub needed_none : (known : Known) (stage : Stage) (asks : ℕ → ℕ) → AreNeeded known [] stage asks
+pub needed_none : (known : ScriptNames) (stage : Stage) (asks : ℕ → ℕ) → AreNeeded known [] stage asks
 needed_none known stage asks source goes = inl refl

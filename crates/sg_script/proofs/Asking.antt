@@ -8,7 +8,7 @@ use Rattle.sg_edge.specs.Sources.{Source}
 use Rattle.sg_edge.specs.declared.files.Part.{Part}
 use Rattle.sg_edge.specs.declared.files.Stage.{Stage}
 use Rattle.sg_base.specs.declared.call.Action.{Action}
-use Rattle.sg_script.specs.Known.{Known}
+use Rattle.sg_script.specs.Known.{ScriptNames}
 use Rattle.sg_script.specs.declared.fault.ScriptFault.{ScriptFault}
 use Rattle.sg_script.specs.declared.fault.ScriptFault.TheVariants.{Line, Read, Memory}
 use Rattle.sg_script.specs.Answer.{answer_of}
@@ -22,8 +22,8 @@ use Rattle.sg_script.proofs.Chains.{may_back}
 use Rattle.sg_script.proofs.QueueLemmas.{none_wait}
 use Rattle.sg_script.proofs.Spending.{no_length}
 
--- the answer to an Ask of a source that has a piece more
-joined : (known : Known) (taken piece rest : List ℕ) (broken : Bool) (actor k : ℕ) → answer_of known (record { bytes = (taken ++ piece) ++ rest; broken = broken }) actor k ≡ answer_of known (record { bytes = taken ++ (piece ++ rest); broken = broken }) actor k
+-- the answer to a fetch from a source that has a piece more
+joined : (known : ScriptNames) (taken piece rest : List ℕ) (broken : Bool) (actor k : ℕ) → answer_of known (record { bytes = (taken ++ piece) ++ rest; broken = broken }) actor k ≡ answer_of known (record { bytes = taken ++ (piece ++ rest); broken = broken }) actor k
 joined known taken piece rest broken actor k = ap (λ (bytes : List ℕ). answer_of known (record { bytes = bytes; broken = broken }) actor k) (append_assoc taken piece rest)
 
 -- ---- what is needed
@@ -40,8 +40,8 @@ one_more_is actor asks x = elim (cases_Bool (eqb x actor)) [
 none_more : (asks : ℕ → ℕ) (x : ℕ) → asks x ≡ asks x + no_ask x
 none_more asks x = omega arith
 
--- what the next Ask of an actor needs, where no action waits for it
-need_next : (known : Known) (taken piece rest : List ℕ) (broken : Bool) (source : Source) (asks : ℕ → ℕ) (actor : ℕ) (stage : Stage) (old : Kept) → Stands known taken stage asks old → May stage (piece ++ rest) broken → source.bytes ≡ (taken ++ piece) ++ rest → source.broken ≡ broken → waits known.members old.queues actor ≡ []
+-- what an actor's next fetch needs, if no action waits for it
+need_next : (known : ScriptNames) (taken piece rest : List ℕ) (broken : Bool) (source : Source) (asks : ℕ → ℕ) (actor : ℕ) (stage : Stage) (old : Kept) → Stands known taken stage asks old → May stage (piece ++ rest) broken → source.bytes ≡ (taken ++ piece) ++ rest → source.broken ≡ broken → waits known.members old.queues actor ≡ []
     → need_of known source actor (asks actor) + length old.pending ≡ length taken + need_from known broken actor old.lines (old.pending ++ (piece ++ rest)) 0
 need_next known taken piece rest broken source asks actor stage old stands may bytes same empty =
     let number : asks actor ≡ asks actor + length (waits known.members old.queues actor) + 0 = omega (arith, ap length empty) in
@@ -52,7 +52,7 @@ need_next known taken piece rest broken source asks actor stage old stands may b
     source_is : (source : Source) (bytes : List ℕ) (broken : Bool) → source.bytes ≡ bytes → source.broken ≡ broken → source ≡ record { bytes = bytes; broken = broken }
     source_is source bytes broken is same = ap₂ (λ (b : List ℕ) (m : Bool). record { bytes = b; broken = m }) is same
 
-near_need : (known : Known) (taken piece : List ℕ) (asks : ℕ → ℕ) (actor : ℕ) (v w : PartView) (old : Kept) → Stands known taken v.stage asks old → Reads piece v w → IsThrifty known actor v.stage w.stage piece old → IsNearNeed known taken piece w.stage actor (asks actor)
+near_need : (known : ScriptNames) (taken piece : List ℕ) (asks : ℕ → ℕ) (actor : ℕ) (v w : PartView) (old : Kept) → Stands known taken v.stage asks old → Reads piece v w → IsThrifty known actor v.stage w.stage piece old → IsNearNeed known taken piece w.stage actor (asks actor)
 near_need known taken piece asks actor v w old stands reads thrifty source goes = elim (some_wait (waits known.members old.queues actor)) [
   | inr waits ↦ inl (thrifty.idle waits)
   | inl empty ↦ elim (thrifty.near goes.rest source.broken goes.may) [
@@ -66,8 +66,8 @@ near_need known taken piece asks actor v w old stands reads thrifty source goes 
   ]
 ]
 
--- what later Asks need, behind what was read and answered
-needs_on : (known : Known) (taken piece : List ℕ) (asks asks' asked : ℕ → ℕ) (v w : PartView) (old new : Kept) → Stands known taken v.stage asks old → Reads piece v w → Spends known w.stage piece asked old new → ((x : ℕ) → asks' x ≡ asks x + asked x)
+-- what later fetches need, after what was read and answered
+needs_on : (known : ScriptNames) (taken piece : List ℕ) (asks asks' asked : ℕ → ℕ) (v w : PartView) (old new : Kept) → Stands known taken v.stage asks old → Reads piece v w → Spends known w.stage piece asked old new → ((x : ℕ) → asks' x ≡ asks x + asked x)
     → (rest : List ℕ) (broken : Bool) → May w.stage rest broken → (x later : ℕ) → need_of known (record { bytes = (taken ++ piece) ++ rest; broken = broken }) x (asks' x + length (waits known.members new.queues x) + later) + length new.pending ≡ length (taken ++ piece) + need_from known broken x new.lines (new.pending ++ rest) later
 needs_on known taken piece asks asks' asked v w old new stands reads spends more rest broken may x later =
     let may' : May v.stage (piece ++ rest) broken = may_back v.stage w.stage piece rest broken reads.stayed may in
@@ -77,7 +77,7 @@ needs_on known taken piece asks asks' asked v w old new stands reads spends more
     omega (arith, same, stands.needs (piece ++ rest) broken may' x (spends.own x + later), spends.cost rest broken may x later, length-append taken piece)
 
 -- ---- one call
-asked_is : (known : Known) (taken : List ℕ) (asks : ℕ → ℕ) (actor : ℕ) (answer : Result (Option Action) ScriptFault) (v w : PartView) (old new : Kept) → Stands known taken v.stage asks old → Answers known actor answer v w old new → IsAsked known taken asks actor answer v w new
+asked_is : (known : ScriptNames) (taken : List ℕ) (asks : ℕ → ℕ) (actor : ℕ) (answer : Result (Option Action) ScriptFault) (v w : PartView) (old new : Kept) → Stands known taken v.stage asks old → Answers known actor answer v w old new → IsAsked known taken asks actor answer v w new
 asked_is known taken asks actor answer v w old new stands is = record {
   piece = is.piece;
   reads = is.reads;
@@ -107,7 +107,7 @@ asked_is known taken asks actor answer v w old new stands is = record {
   };
 }
 
-cut_is : (known : Known) (taken : List ℕ) (asks : ℕ → ℕ) (actor : ℕ) (v w : PartView) (old new : Kept) → Stands known taken v.stage asks old → Goes known actor v w old new → IsCut known taken asks actor v w new
+cut_is : (known : ScriptNames) (taken : List ℕ) (asks : ℕ → ℕ) (actor : ℕ) (v w : PartView) (old new : Kept) → Stands known taken v.stage asks old → Goes known actor v w old new → IsCut known taken asks actor v w new
 cut_is known taken asks actor v w old new stands is = record {
   piece = is.piece;
   reads = is.reads;
@@ -121,7 +121,7 @@ cut_is known taken asks actor v w old new stands is = record {
   };
 }
 
-pub ask_is : (known : Known) (taken : List ℕ) (asks : ℕ → ℕ) (actor : ℕ) (answer : Result (Option Action) ScriptFault) (v w : PartView) (old new : Kept) → Stands known taken v.stage asks old → Ends known actor answer v w old new → AskIs known taken asks actor answer v w new
+pub ask_is : (known : ScriptNames) (taken : List ℕ) (asks : ℕ → ℕ) (actor : ℕ) (answer : Result (Option Action) ScriptFault) (v w : PartView) (old new : Kept) → Stands known taken v.stage asks old → Ends known actor answer v w old new → AskIs known taken asks actor answer v w new
 ask_is known taken asks actor (Ok found) v w old new stands is = asked_is known taken asks actor (Ok found) v w old new stands is
 ask_is known taken asks actor (Err (Line n kind)) v w old new stands is = asked_is known taken asks actor (Err (Line n kind)) v w old new stands is
 ask_is known taken asks actor (Err Read) v w old new stands is = asked_is known taken asks actor (Err Read) v w old new stands is
@@ -130,14 +130,14 @@ ask_is known taken asks actor (Err Memory) v w old new stands is = cut_is known 
 breaks : (piece : List ℕ) (part : Part) (v w : Part → PartView) → Reads piece (v part) (w part) → BreaksOnFailure part v w
 breaks piece part v w r = record { name = r.name; broke = r.broke; sound = r.sound; begun = r.begun }
 
-pub breaking : (known : Known) (actor : ℕ) (answer : Result (Option Action) ScriptFault) (part : Part) (v w : Part → PartView) (old new : Kept) → Ends known actor answer (v part) (w part) old new → BreaksOnFailure part v w × (length new.queues ≡ length old.queues)
+pub breaking : (known : ScriptNames) (actor : ℕ) (answer : Result (Option Action) ScriptFault) (part : Part) (v w : Part → PartView) (old new : Kept) → Ends known actor answer (v part) (w part) old new → BreaksOnFailure part v w × (length new.queues ≡ length old.queues)
 breaking known actor (Ok found) part v w old new is = (breaks is.piece part v w is.reads, is.queues)
 breaking known actor (Err (Line n kind)) part v w old new is = (breaks is.piece part v w is.reads, is.queues)
 breaking known actor (Err Read) part v w old new is = (breaks is.piece part v w is.reads, is.queues)
 breaking known actor (Err Memory) part v w old new is = (breaks is.piece part v w is.reads, is.queues)
 
--- a new script stands for no bytes and no Asks
-pub new_stands : (known : Known) (stage : Stage) (kept : Kept) (n : ℕ) → kept.queues ≡ replicate n [] → kept.lines ≡ 0 → kept.pending ≡ [] → Stands known [] stage (λ _. 0) kept
+-- a new script stands for no bytes and no fetches
+pub new_stands : (known : ScriptNames) (stage : Stage) (kept : Kept) (n : ℕ) → kept.queues ≡ replicate n [] → kept.lines ≡ 0 → kept.pending ≡ [] → Stands known [] stage (λ _. 0) kept
 new_stands known stage kept n queues lines pending = record {
   answers = λ rest broken may actor later.
       let one : 0 + later ≡ later = omega arith in

@@ -7,7 +7,7 @@ use Rattle.sg_edge.specs.declared.files.Stage.TheVariants.{Fresh, Begun, Over, B
 use Rattle.sg_script.specs.Rest.{May}
 use Rattle.sg_script.specs.Stands.{Reads}
 
--- what may still come after a piece may have come before it, with it in front
+-- what may still come after a piece may have come before it, with it first
 pub may_back : (s t : Stage) (piece rest : List ℕ) (broken : Bool) → (s ≢ Begun → (piece ≡ []) × (t ≡ s)) → May t rest broken → May s (piece ++ rest) broken
 may_back Fresh t piece rest broken stayed may = tt
 may_back Begun t piece rest broken stayed may = tt

@@ -1,4 +1,4 @@
--- What the bytes behind a line need, and the line in front of them.
+-- What the bytes after a line need, and the line before them.
 use Rattle.std.proofs.Common.{◌≡◌, ◌+◌, ◌-◌, ◌∙◌, suc, sym, ap, refl, ℕ, Bool, true, false, cond, ltb, List, [], ◌∷◌, length, min, Option, None, Some, Ok, Err, arith}
 use Rattle.std.specs.Prelude.{option_map}
 use Rattle.std.specs.List.{slice_split}
@@ -6,16 +6,16 @@ use Rattle.std.proofs.lemmas.Bool.Decides.{nat_tests}
 use Rattle.sg_script.specs.declared.fault.LineFault.{LineFault}
 use Rattle.sg_script.specs.declared.fault.LineFault.TheVariants.{TooLong, NotAscii, UnknownActor, UnknownAction, ArgumentCount, BadAmount, TooManyLines, UnknownObject}
 use Rattle.sg_script.specs.declared.line.Entry.{Entry}
-use Rattle.sg_script.specs.Known.{Known}
+use Rattle.sg_script.specs.Known.{ScriptNames}
 use Rattle.sg_script.specs.Answer.{is_newline, judgements}
 use Rattle.sg_script.specs.Line.{Judgement}
 use Rattle.sg_script.specs.Needed.{deciding_line, front_length, need_by, need_from, own_actions, through, told_at}
 
--- a line behind one more
+-- a line after one more
 abbrev behind_one : ℕ × Judgement → ℕ × Judgement
 behind_one at = (suc at.0, at.1)
 
--- a line in front moves all that is told behind it
+-- a line in front moves all places after it
 told_more : (late : Bool) (k start end : ℕ) (said : Judgement) → told_at late (k + start) (k + end) said ≡ k + told_at late start end said
 told_more true k start end said = omega arith
 told_more false k start end (Ok said) = refl
@@ -45,19 +45,19 @@ needed_more before line whole behind (Some at) cut size =
     ∙ ap (λ (end : ℕ). told_at late (k + through behind at.0) end at.1) (through_more line whole behind (suc at.0) cut size)
     ∙ told_more late k (through behind at.0) (through behind (suc at.0)) at.1
 
--- behind the actions of a line the lines behind it decide
-passed_over : (known : Known) (actor later own : ℕ) (said : Option Entry) (more : List Judgement)
+-- after the actions of a line the lines after it decide
+passed_over : (known : ScriptNames) (actor later own : ℕ) (said : Option Entry) (more : List Judgement)
     → cond (ltb (own + later) own) (Some (0, Ok said)) (option_map behind_one (deciding_line known actor (own + later - own) more)) ≡ option_map behind_one (deciding_line known actor later more)
 passed_over known actor later own said more =
     let no : ltb (own + later) own ≡ false = grind (arith, nat_tests) in
     let same : own + later - own ≡ later = omega arith in
     rw (no, same) refl
 
-pub deciding_more : (known : Known) (actor later : ℕ) (said : Option Entry) (more : List Judgement) → deciding_line known actor (own_actions known actor said + later) (Ok said ∷ more) ≡ option_map behind_one (deciding_line known actor later more)
+pub deciding_more : (known : ScriptNames) (actor later : ℕ) (said : Option Entry) (more : List Judgement) → deciding_line known actor (own_actions known actor said + later) (Ok said ∷ more) ≡ option_map behind_one (deciding_line known actor later more)
 deciding_more known actor later said more = passed_over known actor later (own_actions known actor said) said more
 
--- a line with its newline, behind its actions
-pub needs_more : (known : Known) (broken : Bool) (actor before later : ℕ) (line whole behind : List ℕ) (said : Option Entry)
+-- a line with its newline, after its actions
+pub needs_more : (known : ScriptNames) (broken : Bool) (actor before later : ℕ) (line whole behind : List ℕ) (said : Option Entry)
     → slice_split is_newline whole ≡ line ∷ slice_split is_newline behind → length whole ≡ length line + 1 + length behind
     → judgements known before whole broken ≡ Ok said ∷ judgements known (before + 1) behind broken
     → need_from known broken actor before whole (own_actions known actor said + later) ≡ length line + 1 + need_from known broken actor (before + 1) behind later
@@ -67,19 +67,19 @@ needs_more known broken actor before later line whole behind said cut size all =
     ∙ ap (need_by before whole) (deciding_more known actor later said more)
     ∙ needed_more before line whole behind (deciding_line known actor later more) cut size
 
--- the last line, behind its actions
-pub needs_last : (known : Known) (broken : Bool) (actor before later : ℕ) (whole : List ℕ) (said : Option Entry) → judgements known before whole broken ≡ Ok said ∷ [] → need_from known broken actor before whole (own_actions known actor said + later) ≡ length whole
+-- the last line, after its actions
+pub needs_last : (known : ScriptNames) (broken : Bool) (actor before later : ℕ) (whole : List ℕ) (said : Option Entry) → judgements known before whole broken ≡ Ok said ∷ [] → need_from known broken actor before whole (own_actions known actor said + later) ≡ length whole
 needs_last known broken actor before later whole said all =
     ap (λ (js : List Judgement). need_by before whole (deciding_line known actor (own_actions known actor said + later) js)) all
     ∙ ap (need_by before whole) (deciding_more known actor later said [])
 
--- a bad line in front decides each Ask, and where there is no line the end does
-pub needs_bad : (known : Known) (broken : Bool) (actor before : ℕ) (whole : List ℕ) (kind : LineFault) (others : List Judgement) → judgements known before whole broken ≡ Err kind ∷ others → (i j : ℕ) → need_from known broken actor before whole i ≡ need_from known broken actor before whole j
+-- a bad line in front decides each fetch, and if there is no line the end does
+pub needs_bad : (known : ScriptNames) (broken : Bool) (actor before : ℕ) (whole : List ℕ) (kind : LineFault) (others : List Judgement) → judgements known before whole broken ≡ Err kind ∷ others → (i j : ℕ) → need_from known broken actor before whole i ≡ need_from known broken actor before whole j
 needs_bad known broken actor before whole kind others all i j =
     ap (λ (js : List Judgement). need_by before whole (deciding_line known actor i js)) all
     ∙ sym (ap (λ (js : List Judgement). need_by before whole (deciding_line known actor j js)) all)
 
-pub needs_none : (known : Known) (broken : Bool) (actor before : ℕ) (whole : List ℕ) → judgements known before whole broken ≡ [] → (i j : ℕ) → need_from known broken actor before whole i ≡ need_from known broken actor before whole j
+pub needs_none : (known : ScriptNames) (broken : Bool) (actor before : ℕ) (whole : List ℕ) → judgements known before whole broken ≡ [] → (i j : ℕ) → need_from known broken actor before whole i ≡ need_from known broken actor before whole j
 needs_none known broken actor before whole all i j =
     ap (λ (js : List Judgement). need_by before whole (deciding_line known actor i js)) all
     ∙ sym (ap (λ (js : List Judgement). need_by before whole (deciding_line known actor j js)) all)

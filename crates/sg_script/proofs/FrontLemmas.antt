@@ -10,7 +10,7 @@ use Rattle.std.proofs.lemmas.List.Splits.{slice_split-cons_no, slice_split-cons_
 use Rattle.sg_edge.specs.declared.files.Stage.TheVariants.{Over}
 use Rattle.sg_script.specs.declared.fault.LineFault.{LineFault}
 use Rattle.sg_script.specs.declared.fault.LineFault.TheVariants.{TooLong, TooManyLines}
-use Rattle.sg_script.specs.Known.{Known}
+use Rattle.sg_script.specs.Known.{ScriptNames}
 use Rattle.sg_script.specs.Line.{Judgement}
 use Rattle.sg_script.proofs.Splits.{first_yes, first_no, some_cases, none_cases}
 use Rattle.sg_script.specs.Answer.{is_newline, is_last_line, lines_among, line_judgements, judgement_of, judgements}
@@ -56,7 +56,7 @@ uncut p (b ∷ xs) ys part parts e h = elim (cases_Bool (p b)) [
       slice_split-cons_no p b (xs ++ ys) isnt ∙ ap (onto_first b) (uncut p xs ys part parts e further)
 ]
 
--- a line with its newline, and the lines behind it
+-- a line with its newline, and the lines after it
 among_more : (broken : Bool) (before : ℕ) (line ys : List ℕ) → lines_among broken before (line ∷ slice_split is_newline ys) ≡ line ∷ lines_among broken (before + 1) (slice_split is_newline ys)
 among_more broken before line ys =
     let (part, parts, e) = some_part is_newline ys in
@@ -70,7 +70,7 @@ below bytes i e =
     let (lt, is) = some_cases (position_or_len is_newline bytes) (length bytes) i e in
     omega arith
 
-pub leads_newline : (known : Known) (before : ℕ) (bytes : List ℕ) (i : ℕ) (rest : List ℕ) (broken : Bool) → position is_newline bytes ≡ Some i → Leads known before bytes i (i + 1) rest broken
+pub leads_newline : (known : ScriptNames) (before : ℕ) (bytes : List ℕ) (i : ℕ) (rest : List ℕ) (broken : Bool) → position is_newline bytes ≡ Some i → Leads known before bytes i (i + 1) rest broken
 leads_newline known before bytes i rest broken e =
     let (lt, is) = some_cases (position_or_len is_newline bytes) (length bytes) i e in
     let cut : slice_split is_newline (bytes ++ rest) ≡ take i bytes ∷ slice_split is_newline (drop (i + 1) bytes ++ rest) = cut_at is_newline bytes rest lt ∙ ap (λ k. take k bytes ∷ slice_split is_newline (drop (k + 1) bytes ++ rest)) is in
@@ -84,8 +84,8 @@ leads_newline known before bytes i rest broken e =
           ∙ ap (λ (n : ℕ). n + 1 + need_from known broken actor (before + 1) (drop (i + 1) bytes ++ rest) later) (taken_length i bytes (below bytes i e));
     }
 
--- a line that is bad however it goes on
-pub record IsBad (known : Known) (before : ℕ) (bytes : List ℕ) : Type 0 where
+-- a line that is bad however it continues
+pub record IsBad (known : ScriptNames) (before : ℕ) (bytes : List ℕ) : Type 0 where
   pub kind : LineFault
   pub whole : judgement_of known (before + 1) bytes ≡ Err kind
   pub longer : (more : List ℕ) → judgement_of known (before + 1) (bytes ++ more) ≡ Err kind
@@ -105,13 +105,13 @@ last_late : (broken : Bool) (before : ℕ) (bytes : List ℕ) → 0 < length byt
 last_late false before bytes h e = grind (arith, nat_tests)
 last_late true before bytes h e = grind (arith, nat_tests)
 
-judged_long : (known : Known) (before : ℕ) (bytes : List ℕ) → 4096 < length bytes → before < 100000000 → judgement_of known (before + 1) bytes ≡ Err TooLong
+judged_long : (known : ScriptNames) (before : ℕ) (bytes : List ℕ) → 4096 < length bytes → before < 100000000 → judgement_of known (before + 1) bytes ≡ Err TooLong
 judged_long known before bytes h few = grind (arith, nat_tests)
 
-judged_late : (known : Known) (before : ℕ) (bytes : List ℕ) → 100000000 ≤ before → judgement_of known (before + 1) bytes ≡ Err TooManyLines
+judged_late : (known : ScriptNames) (before : ℕ) (bytes : List ℕ) → 100000000 ≤ before → judgement_of known (before + 1) bytes ≡ Err TooManyLines
 judged_late known before bytes h = grind (arith, nat_tests)
 
-is_bad : (known : Known) (before : ℕ) (bytes : List ℕ) → is_last_line true before bytes ≡ true → IsBad known before bytes
+is_bad : (known : ScriptNames) (before : ℕ) (bytes : List ℕ) → is_last_line true before bytes ≡ true → IsBad known before bytes
 is_bad known before bytes e = elim (cases_bad before (length bytes) e) [
   | inl long ↦ elim (cases_lt before 100000000) [
     | inl few ↦ record {
@@ -146,7 +146,7 @@ take_whole bytes = grind (arith, common_steps)
 err_not_ok : (j : Judgement) (kind : LineFault) → j ≡ Err kind → IsOk j → ⊥
 err_not_ok j kind e ok = let h = rw e at ok in cc
 
-pub leads_bad : (known : Known) (before : ℕ) (bytes rest : List ℕ) (broken : Bool) → position is_newline bytes ≡ None → is_last_line true before bytes ≡ true → Leads known before bytes (length bytes) (length bytes) rest broken
+pub leads_bad : (known : ScriptNames) (before : ℕ) (bytes rest : List ℕ) (broken : Bool) → position is_newline bytes ≡ None → is_last_line true before bytes ≡ true → Leads known before bytes (length bytes) (length bytes) rest broken
 leads_bad known before bytes rest broken none bad =
     let is : IsBad known before bytes = is_bad known before bytes bad in
     let (part, parts, e) = some_part is_newline rest in
@@ -163,7 +163,7 @@ leads_bad known before bytes rest broken none bad =
 drop_whole : (bytes : List ℕ) → drop (length bytes) bytes ++ [] ≡ []
 drop_whole bytes = grind (arith, common_steps)
 
-leads_end : (known : Known) (before : ℕ) (bytes : List ℕ) → position is_newline bytes ≡ None → 0 < length bytes → Leads known before bytes (length bytes) (length bytes) [] false
+leads_end : (known : ScriptNames) (before : ℕ) (bytes : List ℕ) → position is_newline bytes ≡ None → 0 < length bytes → Leads known before bytes (length bytes) (length bytes) [] false
 leads_end known before bytes none some =
     let cut : slice_split is_newline (bytes ++ []) ≡ (bytes ++ []) ∷ [] = uncut is_newline bytes [] [] [] refl (none_cases (position_or_len is_newline bytes) (length bytes) none) in
     let whole : bytes ++ [] ≡ take (length bytes) bytes = append-nil bytes ∙ sym (take_whole bytes) in
@@ -180,7 +180,7 @@ leads_end known before bytes none some =
           ∙ ap (λ (b : List ℕ). length bytes + need_from known false actor (before + 1) b later) (sym (drop_whole bytes));
     }
 
-pub leads_last : (known : Known) (before : ℕ) (bytes rest : List ℕ) (broken : Bool) → position is_newline bytes ≡ None → 0 < length bytes → May Over rest broken → Leads known before bytes (length bytes) (length bytes) rest broken
+pub leads_last : (known : ScriptNames) (before : ℕ) (bytes rest : List ℕ) (broken : Bool) → position is_newline bytes ≡ None → 0 < length bytes → May Over rest broken → Leads known before bytes (length bytes) (length bytes) rest broken
 leads_last known before bytes rest broken none some may = rw (may.0, may.1) (leads_end known before bytes none some)
 
 pub is_short : (before : ℕ) (bytes : List ℕ) → is_last_line true before bytes ≡ false → length bytes ≤ 4096

@@ -47,7 +47,7 @@ equal a b is = grind (arith, nat_tests)
 same : (n : ℕ) → eqb n n ≡ true
 same n = grind (arith, nat_tests)
 
--- the member of a rank has this number where the rank is the number's
+-- the member of a rank has this number if the rank is the number's
 named : (members : List ActorId) (actor : ℕ) (rank : Option ℕ) → Differ members → rank_of members actor ≡ rank → (peer : ℕ) → peer < length members → eqb (member members peer).0 actor ≡ is_at rank peer
 named members actor None differ is peer below =
     let test : ActorId → Bool = λ m. eqb m.0 actor in
@@ -199,7 +199,7 @@ receives_none (Compute flops ∷ steps) = receives_none steps
 receives_none (Wait ∷ steps) = receives_none steps
 
 -- ---- two actors
--- the actions of a member that pass are as many as its steps that do
+-- the actions of a member that meet a condition are as many as its steps that do
 counted : (members : List ActorId) (collective : Collective) (me : ℕ) (p : Action → Bool) (q : Step → Bool) → me < length members → ((step : Step) → NamesOther me (length members) step → p (action_of members step) ≡ q step)
     → count_by p (actions_at members collective (Some me)) ≡ count_by q (expansion collective me (length members))
 counted members collective me p q below agree =

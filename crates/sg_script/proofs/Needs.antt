@@ -1,10 +1,10 @@
--- An open front needs a byte more, where one more comes.
+-- An open front needs a byte more, if one more comes.
 use Rattle.std.proofs.Common.{◌≡◌, ◌<◌, ◌≤◌, ◌+◌, zero, suc, ap, refl, ℕ, Bool, true, false, ltb, List, ◌∷◌, ◌++◌, length, min, Option, None, Some, Ok, Err, inl, inr, arith, length-append}
 use Rattle.std.specs.List.{position_or_len, slice_split}
 use Rattle.std.proofs.lemmas.Bool.{cases_lt}
 use Rattle.std.proofs.lemmas.Bool.Decides.{nat_tests}
 use Rattle.sg_script.specs.declared.fault.LineFault.TheVariants.{TooLong, NotAscii, UnknownActor, UnknownAction, ArgumentCount, BadAmount, TooManyLines, UnknownObject}
-use Rattle.sg_script.specs.Known.{Known}
+use Rattle.sg_script.specs.Known.{ScriptNames}
 use Rattle.sg_script.proofs.Splits.{none_cases}
 use Rattle.sg_script.specs.Answer.{is_newline, is_last_line, judgements}
 use Rattle.sg_script.specs.kept.Front.{IsOpen}
@@ -30,7 +30,7 @@ told_least false m start end (Err BadAmount) first long whole = whole
 told_least false m start end (Err TooManyLines) first long whole = whole
 told_least false m start end (Err UnknownObject) first long whole = whole
 
--- the first line ends behind an open front
+-- the first line ends after an open front
 through_least : (bytes part rest : List ℕ) (parts : List (List ℕ)) (n : ℕ) → slice_split is_newline (bytes ++ rest) ≡ (bytes ++ part) ∷ parts → 0 < length rest → length bytes < through (bytes ++ rest) (suc n)
 through_least bytes part rest parts n cut some =
     let same : through (bytes ++ rest) (suc n) ≡ min (length (bytes ++ part) + 1 + front_length n parts) (length (bytes ++ rest)) = ap (λ (list : List (List ℕ)). min (front_length (suc n) list) (length (bytes ++ rest))) cut in
@@ -55,7 +55,7 @@ by_least : (before : ℕ) (bytes part rest : List ℕ) (parts : List (List ℕ))
 by_least before bytes part rest parts None cut is few some = omega (arith, some, length-append bytes rest)
 by_least before bytes part rest parts (Some at) cut is few some = at_least before bytes part rest parts at.0 at.1 cut is few some
 
-pub open_needs : (known : Known) (broken : Bool) (actor before earlier : ℕ) (bytes rest : List ℕ) → IsOpen before bytes → before ≤ 100000000 → 0 < length rest → length bytes < need_from known broken actor before (bytes ++ rest) earlier
+pub open_needs : (known : ScriptNames) (broken : Bool) (actor before earlier : ℕ) (bytes rest : List ℕ) → IsOpen before bytes → before ≤ 100000000 → 0 < length rest → length bytes < need_from known broken actor before (bytes ++ rest) earlier
 open_needs known broken actor before earlier bytes rest is few some =
     let (part, parts, e) = some_part is_newline rest in
     let cut : slice_split is_newline (bytes ++ rest) ≡ (bytes ++ part) ∷ parts = uncut is_newline bytes rest part parts e (none_cases (position_or_len is_newline bytes) (length bytes) is.unended) in

@@ -19,7 +19,7 @@ use Rattle.sg_script.specs.declared.operation.Operation.TheVariants.{Alone}
 use Rattle.sg_script.specs.declared.waiting.Waiting.{Waiting}
 use Rattle.sg_script.specs.kept.Queues.{AreOperations, left_of, queue_at, waits, with_first}
 use Rattle.sg_script.specs.kept.Steps.{HasQueue, queues_with}
-use Rattle.sg_script.specs.Known.{Known}
+use Rattle.sg_script.specs.Known.{ScriptNames}
 use Rattle.sg_script.specs.Operation.{actions_for, IsOperation, line_actions}
 
 -- ---- what is left of a line
@@ -70,7 +70,7 @@ limited_alone extent lines left action is all =
     let now : AreOperations extent (alone ∷ left) = subst (AreOperations extent) is all in
     (now 0 alone (omega arith), All-tail (λ (l : Waiting). IsOperation extent l.operation) alone left now)
 
--- nothing is left of it
+-- no action of it remains
 pub left_popped : (members : List ActorId) (actor : ℕ) (lines popped : List Waiting) (line new : Waiting) → line ≡ get_or lines 0 line → left_of members actor line ≡ [] → popped ≡ drop 1 (slice_set lines 0 new) → flat_map (left_of members actor) popped ≡ flat_map (left_of members actor) lines
 left_popped members actor [] popped line new is none popped_is = ap (flat_map (left_of members actor)) popped_is
 left_popped members actor (x ∷ lines) popped line new is none popped_is =
@@ -114,7 +114,7 @@ pub waits_first : (members : List ActorId) (actor : ℕ) (old new : List (List W
 waits_first members actor old new before after first old_is new_is taken =
     ap (flat_map (left_of members actor)) old_is ∙ taken ∙ ap (λ (q : List Waiting). with_first first (flat_map (left_of members actor) q)) (sym new_is)
 
--- the limits of one queue, and of all where one changed
+-- the limits of one queue, and of all if one changed
 pub limited_at : (extent : Extent) (queues : List (List Waiting)) (i : ℕ) → i < length queues → All (AreOperations extent) queues → AreOperations extent (queue_at queues i)
 limited_at extent queues i below all = All-get_or (AreOperations extent) queues i [] below all
 
@@ -129,7 +129,7 @@ one_more_line members actor queue operation =
     flat_map-append (left_of members actor) queue (record { operation = operation; place = 0 } ∷ [])
     ∙ ap (λ (l : List Action). flat_map (left_of members actor) queue ++ l) (append-nil (actions_for members actor operation))
 
-entry_waits : (known : Known) (queues : List (List Waiting)) (entry : Entry) (x : ℕ) → entry.actor.0 < length queues → waits known.members (queues_with (Some entry) queues) x ≡ waits known.members queues x ++ line_actions known x (Some entry)
+entry_waits : (known : ScriptNames) (queues : List (List Waiting)) (entry : Entry) (x : ℕ) → entry.actor.0 < length queues → waits known.members (queues_with (Some entry) queues) x ≡ waits known.members queues x ++ line_actions known x (Some entry)
 entry_waits known queues entry x below = elim (cases_Bool (eqb entry.actor.0 x)) [
   | inl is ↦
       let same : x ≡ entry.actor.0 = grind (arith, nat_tests) in
@@ -141,8 +141,8 @@ entry_waits known queues entry x below = elim (cases_Bool (eqb entry.actor.0 x))
       ∙ sym (append-nil (waits known.members queues x)))
 ]
 
--- what a line gives an actor waits behind what waits already
-pub said_waits : (known : Known) (queues : List (List Waiting)) (said : Option Entry) (x : ℕ) → HasQueue (length queues) said → waits known.members (queues_with said queues) x ≡ waits known.members queues x ++ line_actions known x said
+-- what a line gives an actor waits after what waits already
+pub said_waits : (known : ScriptNames) (queues : List (List Waiting)) (said : Option Entry) (x : ℕ) → HasQueue (length queues) said → waits known.members (queues_with said queues) x ≡ waits known.members queues x ++ line_actions known x said
 said_waits known queues None x within = sym (append-nil (waits known.members queues x))
 said_waits known queues (Some entry) x within = entry_waits known queues entry x within
 

@@ -1,9 +1,9 @@
--- A fault is told again to each later Ask.
+-- A fault is reported again to each later fetch.
 use Rattle.std.proofs.Common.{◌≡◌, ◌∙◌, ◌≤◌, sym, refl, ℕ, Bool, List, Option, None, Some, Err, inl, inr, arith}
 use Rattle.std.specs.Prelude.{slice_get}
 use Rattle.std.proofs.lemmas.Option.{slice_get_cases, slice_get_past}
 use Rattle.sg_base.specs.declared.call.Action.{Action}
-use Rattle.sg_script.specs.Answer.{actions_of, answer_by, first_bad, judgements}
+use Rattle.sg_script.specs.Answer.{script_actions, answer_by, first_bad, judgements}
 use Rattle.sg_script.specs.Laws.{FaultsRepeat}
 use Rattle.sg_script.specs.declared.fault.ScriptFault.{ScriptFault}
 
@@ -20,4 +20,4 @@ as_before broken bad None then fault none told = rw (none refl) told
 pub repeats : FaultsRepeat
 repeats known source actor earlier later fault far told =
     let all = judgements known 0 source.bytes source.broken in
-    as_before source.broken (first_bad 0 all) _ _ fault (none_later (actions_of known actor all) earlier later far) told
+    as_before source.broken (first_bad 0 all) _ _ fault (none_later (script_actions known actor all) earlier later far) told

@@ -9,7 +9,7 @@ use Rattle.sg_edge.specs.declared.files.Stage.TheVariants.{Fresh, Begun, Over, B
 use Rattle.sg_base.specs.declared.call.Action.{Action}
 use Rattle.sg_script.specs.declared.line.Entry.{Entry}
 use Rattle.sg_script.specs.declared.waiting.Waiting.{Waiting}
-use Rattle.sg_script.specs.Known.{Known}
+use Rattle.sg_script.specs.Known.{ScriptNames}
 use Rattle.sg_script.specs.declared.fault.ScriptFault.{ScriptFault}
 use Rattle.sg_script.specs.declared.fault.ScriptFault.TheVariants.{Line, Read, Memory}
 use Rattle.sg_script.specs.Answer.{judgement_of}
@@ -27,7 +27,7 @@ use Rattle.sg_script.proofs.Spending.{said_queued, spends_line, spends_piece, sp
 use Rattle.sg_script.proofs.StandLemmas.{moves_line, moves_piece, moves_pop, none_left, spends_none_waits, spends_pop, tells_bad, tells_broken, tells_end, tells_pop}
 
 -- a line that isn't bad is one of those allowed
-ok_few : (known : Known) (lines : ℕ) (line : List ℕ) (said : Option Entry) → judgement_of known (lines + 1) line ≡ Ok said → lines < 100000000
+ok_few : (known : ScriptNames) (lines : ℕ) (line : List ℕ) (said : Option Entry) → judgement_of known (lines + 1) line ≡ Ok said → lines < 100000000
 ok_few known lines line said is = elim (cases_lt 100000000 (lines + 1)) [
   | inl late ↦ grind (arith, nat_tests)
   | inr few ↦ omega arith
@@ -42,10 +42,10 @@ queued_length : (said : Option Entry) (queues : List (List Waiting)) → length 
 queued_length None queues = refl
 queued_length (Some entry) queues = length-set queues entry.actor.0 (queue_at queues entry.actor.0 ++ record { operation = entry.operation; place = 0 } ∷ [])
 
-pub popped_length : (known : Known) (actor : ℕ) (first : Option Action) (old new : Kept) → Pops known actor first old new → length new.queues ≡ length old.queues
+pub popped_length : (known : ScriptNames) (actor : ℕ) (first : Option Action) (old new : Kept) → Pops known actor first old new → length new.queues ≡ length old.queues
 popped_length known actor first old new pops = ap length pops.others ∙ length-set old.queues actor (queue_at new.queues actor)
 
-line_queued : (known : Known) (old new : Kept) (end : ℕ) (said : Option Entry) (x : ℕ) → HasQueue (length old.queues) said → Passes (queues_with said old.queues) end old new
+line_queued : (known : ScriptNames) (old new : Kept) (end : ℕ) (said : Option Entry) (x : ℕ) → HasQueue (length old.queues) said → Passes (queues_with said old.queues) end old new
     → no_ask x + length (waits known.members new.queues x) ≡ length (waits known.members old.queues x) + own_actions known x said
 line_queued known old new end said x within passes =
     ap (λ (qs : List (List Waiting)). no_ask x + length (waits known.members qs x)) passes.queued ∙ said_queued known old.queues said x within
@@ -53,8 +53,8 @@ line_queued known old new end said x within passes =
 none_read : (s : Stage) (piece : List ℕ) → piece ≡ [] → s ≢ Begun → (piece ≡ []) × (s ≡ s)
 none_read s piece none isnt = (none, refl)
 
--- a line that isn't bad, behind which no action waits for the actor
-line_goes : (known : Known) (v : PartView) (old new : Kept) (len end actor : ℕ) → v.stage ≢ Fresh → end ≤ length old.pending
+-- a line that isn't bad, after which no action waits for the actor
+line_goes : (known : ScriptNames) (v : PartView) (old new : Kept) (len end actor : ℕ) → v.stage ≢ Fresh → end ≤ length old.pending
     → ((rest : List ℕ) (broken : Bool) → May v.stage rest broken → Leads known old.lines old.pending len end rest broken)
     → LineTells known (judgement_of known (old.lines + 1) (take len old.pending)) end actor None old new → StepIs known actor None v v old new
 line_goes known v old new len end actor begun fits leads is =
@@ -74,8 +74,8 @@ line_goes known v old new len end actor begun fits leads is =
       less v.stage end (queues_with said old.queues) old mid new (ok_few known old.lines (take len old.pending) said judged_is) passes pops.lines,
     )
 
--- a line behind which an action waits for the actor
-line_answers : (known : Known) (v : PartView) (old new : Kept) (len end actor : ℕ) (action : Action) → v.stage ≢ Fresh → end ≤ length old.pending
+-- a line after which an action waits for the actor
+line_answers : (known : ScriptNames) (v : PartView) (old new : Kept) (len end actor : ℕ) (action : Action) → v.stage ≢ Fresh → end ≤ length old.pending
     → ((rest : List ℕ) (broken : Bool) → May v.stage rest broken → Leads known old.lines old.pending len end rest broken)
     → LineTells known (judgement_of known (old.lines + 1) (take len old.pending)) end actor (Some (Ok (Some action))) old new → Answers known actor (Ok (Some action)) v v old new
 line_answers known v old new len end actor action begun fits leads is =
@@ -92,7 +92,7 @@ line_answers known v old new len end actor action begun fits leads is =
       queues = popped_length known actor (Some action) mid new pops ∙ ap length passes.queued ∙ queued_length said old.queues;
     }
 
-pub line_steps : (known : Known) (v : PartView) (old new : Kept) (len end actor : ℕ) (r : Option (Result (Option Action) ScriptFault)) → v.stage ≢ Fresh → end ≤ length old.pending
+pub line_steps : (known : ScriptNames) (v : PartView) (old new : Kept) (len end actor : ℕ) (r : Option (Result (Option Action) ScriptFault)) → v.stage ≢ Fresh → end ≤ length old.pending
     → ((rest : List ℕ) (broken : Bool) → May v.stage rest broken → Leads known old.lines old.pending len end rest broken)
     → waits known.members old.queues actor ≡ []
     → LineTells known (judgement_of known (old.lines + 1) (take len old.pending)) end actor r old new → StepIs known actor r v v old new
@@ -115,7 +115,7 @@ line_steps known v old new len end actor (Some (Err (Line n kind))) begun fits l
 line_steps known v old new len end actor (Some (Err Read)) begun fits leads empty is = absurd is
 line_steps known v old new len end actor (Some (Err Memory)) begun fits leads empty is = rw is (goes_not known actor v old begun, tt)
 
-pub broken_steps : (known : Known) (v : PartView) (kept : Kept) (actor : ℕ) → v.stage ≡ Broken → IsOpen kept.lines kept.pending → waits known.members kept.queues actor ≡ [] → v.stage ≢ Fresh → StepIs known actor (Some (Err Read)) v v kept kept
+pub broken_steps : (known : ScriptNames) (v : PartView) (kept : Kept) (actor : ℕ) → v.stage ≡ Broken → IsOpen kept.lines kept.pending → waits known.members kept.queues actor ≡ [] → v.stage ≢ Fresh → StepIs known actor (Some (Err Read)) v v kept kept
 broken_steps known v kept actor broken_is unended empty begun = (
   record {
     piece = [];
@@ -130,7 +130,7 @@ broken_steps known v kept actor broken_is unended empty begun = (
   broken_is,
 )
 
-pub end_steps : (known : Known) (v : PartView) (kept : Kept) (actor : ℕ) → v.stage ≡ Over → kept.pending ≡ [] → waits known.members kept.queues actor ≡ [] → v.stage ≢ Fresh → StepIs known actor (Some (Ok None)) v v kept kept
+pub end_steps : (known : ScriptNames) (v : PartView) (kept : Kept) (actor : ℕ) → v.stage ≡ Over → kept.pending ≡ [] → waits known.members kept.queues actor ≡ [] → v.stage ≢ Fresh → StepIs known actor (Some (Ok None)) v v kept kept
 end_steps known v kept actor over none empty begun = (
   record {
     piece = [];
@@ -145,7 +145,7 @@ end_steps known v kept actor over none empty begun = (
   tt,
 )
 
-pub piece_steps : (known : Known) (v w : PartView) (old new : Kept) (actor : ℕ) → IsOpen old.lines old.pending → old.lines ≤ 100000000 → waits known.members old.queues actor ≡ [] → ReadIs v w old new → StepIs known actor None v w old new
+pub piece_steps : (known : ScriptNames) (v w : PartView) (old new : Kept) (actor : ℕ) → IsOpen old.lines old.pending → old.lines ≤ 100000000 → waits known.members old.queues actor ≡ [] → ReadIs v w old new → StepIs known actor None v w old new
 piece_steps known v w old new actor unended few empty read = (
   record {
     piece = read.piece;
@@ -161,7 +161,7 @@ piece_steps known v w old new actor unended few empty read = (
 
 -- ---- without a step
 -- no action waits for the actor
-pub pop_goes : (known : Known) (v : PartView) (old new : Kept) (actor : ℕ) → v.stage ≢ Fresh → Pops known actor None old new → Goes known actor v v old new
+pub pop_goes : (known : ScriptNames) (v : PartView) (old new : Kept) (actor : ℕ) → v.stage ≢ Fresh → Pops known actor None old new → Goes known actor v v old new
 pop_goes known v old new actor begun pops = record {
   piece = [];
   reads = reads_none v begun;
@@ -172,12 +172,12 @@ pop_goes known v old new actor begun pops = record {
 }
 
 -- then what follows has its answer
-pub ends_behind : (known : Known) (v w : PartView) (old mid new : Kept) (actor : ℕ) (answer : Result (Option Action) ScriptFault) → v.stage ≢ Fresh → Pops known actor None old mid → Ends known actor answer v w mid new → Ends known actor answer v w old new
+pub ends_behind : (known : ScriptNames) (v w : PartView) (old mid new : Kept) (actor : ℕ) (answer : Result (Option Action) ScriptFault) → v.stage ≢ Fresh → Pops known actor None old mid → Ends known actor answer v w mid new → Ends known actor answer v w old new
 ends_behind known v w old mid new actor answer begun pops ends =
     ends_then known actor answer v v w old mid new pops.empty (sym pops.first_is ∙ pops.empty) (pop_goes known v old mid actor begun pops) ends
 
 -- the first action that waits is the answer
-pub pop_answers : (known : Known) (v : PartView) (old new : Kept) (actor : ℕ) (action : Action) → v.stage ≢ Fresh → Pops known actor (Some action) old new → Answers known actor (Ok (Some action)) v v old new
+pub pop_answers : (known : ScriptNames) (v : PartView) (old new : Kept) (actor : ℕ) (action : Action) → v.stage ≢ Fresh → Pops known actor (Some action) old new → Answers known actor (Ok (Some action)) v v old new
 pop_answers known v old new actor action begun pops = record {
   piece = [];
   reads = reads_none v begun;

@@ -1,4 +1,4 @@
--- What taking the line at the front did for an Ask.
+-- What taking the line at the front did for a fetch.
 use Rattle.std.proofs.Common.{◌≡◌, ◌<◌, ◌∙◌, sym, ap, refl, ℕ, true, eqb, List, [], ◌∷◌, ◌++◌, length, None, Some, Ok, arith}
 use Rattle.std.specs.Prelude.{slice_set}
 use Rattle.std.proofs.lemmas.Bool.Decides.{nat_tests}
@@ -8,7 +8,7 @@ use Rattle.sg_base.specs.declared.ids.ActorId.{ActorId}
 use Rattle.sg_script.specs.declared.line.Entry.{Entry}
 use Rattle.sg_script.specs.declared.operation.Operation.TheVariants.{Alone}
 use Rattle.sg_script.specs.declared.waiting.Waiting.{Waiting}
-use Rattle.sg_script.specs.Known.{Known}
+use Rattle.sg_script.specs.Known.{ScriptNames}
 use Rattle.sg_script.specs.Line.{Judgement}
 use Rattle.sg_script.specs.Operation.{line_actions}
 use Rattle.sg_script.specs.Stands.{Kept}
@@ -17,7 +17,7 @@ use Rattle.sg_script.specs.kept.Steps.{LineTells, Passes, Pops, queues_with}
 use Rattle.sg_script.proofs.QueueLemmas.{said_waits}
 
 -- none was taken of an actor for whom none waits
-none_taken : (known : Known) (actor : ℕ) (kept : Kept) → waits known.members kept.queues actor ≡ [] → Pops known actor None kept kept
+none_taken : (known : ScriptNames) (actor : ℕ) (kept : Kept) → waits known.members kept.queues actor ≡ [] → Pops known actor None kept kept
 none_taken known actor kept empty = record {
   first_is = refl;
   empty = empty;
@@ -27,21 +27,21 @@ none_taken known actor kept empty = record {
 }
 
 -- a line that is passed over
-pub passed_tells : (known : Known) (said : Judgement) (end actor : ℕ) (old new : Kept) → said ≡ Ok None → waits known.members old.queues actor ≡ [] → Passes old.queues end old new → LineTells known said end actor None old new
+pub passed_tells : (known : ScriptNames) (said : Judgement) (end actor : ℕ) (old new : Kept) → said ≡ Ok None → waits known.members old.queues actor ≡ [] → Passes old.queues end old new → LineTells known said end actor None old new
 passed_tells known said end actor old new is empty passes =
     (new, (None, is, tt, passes), none_taken known actor new (ap (λ (qs : List (List Waiting)). waits known.members qs actor) passes.queued ∙ empty))
 
 -- the actor's own line, of an action alone
-own_actions : (known : Known) (a : ActorId) (action : Action) → line_actions known a.0 (Some (record { actor = a; operation = Alone action })) ≡ action ∷ []
+own_actions : (known : ScriptNames) (a : ActorId) (action : Action) → line_actions known a.0 (Some (record { actor = a; operation = Alone action })) ≡ action ∷ []
 own_actions known a action = let same : eqb a.0 a.0 ≡ true = grind (arith, nat_tests) in rw same refl
 
-own_is : (known : Known) (entry : Entry) (action : Action) (actor : ℕ) → entry.actor.0 ≡ actor → entry.operation ≡ Alone action → line_actions known actor (Some entry) ≡ action ∷ []
+own_is : (known : ScriptNames) (entry : Entry) (action : Action) (actor : ℕ) → entry.actor.0 ≡ actor → entry.operation ≡ Alone action → line_actions known actor (Some entry) ≡ action ∷ []
 own_is known entry action actor whose alone =
     ap (λ (n : ℕ). line_actions known n (Some entry)) (sym whose)
     ∙ ap (λ o. line_actions known entry.actor.0 (Some (record { actor = entry.actor; operation = o }))) alone
     ∙ own_actions known entry.actor action
 
-pub own_tells : (known : Known) (entry : Entry) (action : Action) (end actor : ℕ) (old new : Kept) → entry.actor.0 ≡ actor → entry.operation ≡ Alone action → entry.actor.0 < length old.queues → waits known.members old.queues actor ≡ [] → Passes old.queues end old new
+pub own_tells : (known : ScriptNames) (entry : Entry) (action : Action) (end actor : ℕ) (old new : Kept) → entry.actor.0 ≡ actor → entry.operation ≡ Alone action → entry.actor.0 < length old.queues → waits known.members old.queues actor ≡ [] → Passes old.queues end old new
     → LineTells known (Ok (Some entry)) end actor (Some (Ok (Some action))) old new
 own_tells known entry action end actor old new whose alone within empty passes =
     let queued : List (List Waiting) = queues_with (Some entry) old.queues in

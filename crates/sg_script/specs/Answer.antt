@@ -1,21 +1,21 @@
--- The answer to an actor's j-th Ask, by the whole script.
+-- The answer to an actor's j-th fetch, by the whole script.
 use Rattle.std.specs.Prelude.{ℕ, Bool, true, false, ◌+◌, ◌==◌, ◌||◌, ◌&&◌, List, [], ◌∷◌, ◌++◌, length, slice_get, Option, None, Some, Result, Ok, Err, if◌then◌else◌, nat_lt}
 use Rattle.std.specs.List.{slice_split}
 use Rattle.sg_edge.specs.Sources.{Source}
 use Rattle.sg_base.specs.declared.call.Action.{Action}
 use Rattle.sg_script.specs.declared.fault.LineFault.TheVariants.{TooManyLines}
-use Rattle.sg_script.specs.Known.{Known}
-use Rattle.sg_script.specs.Line.{Judgement, line_of}
+use Rattle.sg_script.specs.Known.{ScriptNames}
+use Rattle.sg_script.specs.Line.{Judgement, line_judgement}
 use Rattle.sg_script.specs.Operation.{line_actions}
 use Rattle.sg_script.specs.declared.fault.ScriptFault.{ScriptFault}
 use Rattle.sg_script.specs.declared.fault.ScriptFault.TheVariants.{Line, Read}
 
+-- whether a byte ends a line
 abbrev pub is_newline : ℕ → Bool
 is_newline b = b == 10
 
--- whether what stands behind the last newline is a line, where so many lines stand before it: at
--- the end of the input where it isn't empty; before a failed read only where it is bad however it
--- might have gone on.
+-- whether what follows the last newline is a line, if so many lines precede it: at the end of the
+-- input if it isn't empty; before a failed read only if it is bad however it might have continued
 abbrev pub is_last_line : Bool → ℕ → List ℕ → Bool
 is_last_line false before rest = nat_lt 0 (length rest)
 is_last_line true before rest =
@@ -29,26 +29,27 @@ lines_among broken before (line ∷ part ∷ parts) =
     line ∷ lines_among broken (before + 1) (part ∷ parts)
 
 -- the judgement of the line of that number
-abbrev pub judgement_of : Known → ℕ → List ℕ → Judgement
+abbrev pub judgement_of : ScriptNames → ℕ → List ℕ → Judgement
 judgement_of known number line =
-    if nat_lt 100000000 number then Err TooManyLines else line_of known line
+    if nat_lt 100000000 number then Err TooManyLines else line_judgement known line
 
-abbrev pub line_judgements : Known → ℕ → List (List ℕ) → List Judgement
+-- the judgements of these lines, if so many lines stand before them
+abbrev pub line_judgements : ScriptNames → ℕ → List (List ℕ) → List Judgement
 line_judgements known before [] = []
 line_judgements known before (line ∷ more) =
     judgement_of known (before + 1) line ∷ line_judgements known (before + 1) more
 
--- the judgements of a source's lines, where so many lines stand before these bytes
-abbrev pub judgements : Known → ℕ → List ℕ → Bool → List Judgement
+-- the judgements of a source's lines, if so many lines stand before these bytes
+abbrev pub judgements : ScriptNames → ℕ → List ℕ → Bool → List Judgement
 judgements known before bytes broken =
     line_judgements known before (lines_among broken before (slice_split is_newline bytes))
 
 -- the actions of an actor: the expansions of its good lines before the first bad line, in order
-abbrev pub actions_of : Known → ℕ → List Judgement → List Action
-actions_of known actor [] = []
-actions_of known actor (Ok said ∷ more) =
-    line_actions known actor said ++ actions_of known actor more
-actions_of known actor (Err kind ∷ more) = []
+abbrev pub script_actions : ScriptNames → ℕ → List Judgement → List Action
+script_actions known actor [] = []
+script_actions known actor (Ok said ∷ more) =
+    line_actions known actor said ++ script_actions known actor more
+script_actions known actor (Err kind ∷ more) = []
 
 -- the fault of the first bad line
 abbrev pub first_bad : ℕ → List Judgement → Option ScriptFault
@@ -56,7 +57,8 @@ first_bad before [] = None
 first_bad before (Ok said ∷ more) = first_bad (before + 1) more
 first_bad before (Err kind ∷ more) = Some (Line (before + 1) kind)
 
--- where no action is left the first bad line is told, else the read fault, else that there is no more
+-- the answer to a fetch: if no action remains, the first bad line is reported, else the read
+-- fault, else that there is no more
 abbrev pub answer_by : Bool → Option ScriptFault → Option Action →
     Result (Option Action) ScriptFault
 answer_by broken bad (Some action) = Ok (Some action)
@@ -64,8 +66,8 @@ answer_by broken (Some fault) None = Err fault
 answer_by true None None = Err Read
 answer_by false None None = Ok None
 
--- the answer to the Ask that so many Asks of the actor came before
-abbrev pub answer_of : Known → Source → ℕ → ℕ → Result (Option Action) ScriptFault
+-- the answer to an actor's fetch after so many of its fetches
+abbrev pub answer_of : ScriptNames → Source → ℕ → ℕ → Result (Option Action) ScriptFault
 answer_of known source actor earlier =
     let all = judgements known 0 source.bytes source.broken in
-    answer_by source.broken (first_bad 0 all) (slice_get (actions_of known actor all) earlier)
+    answer_by source.broken (first_bad 0 all) (slice_get (script_actions known actor all) earlier)

@@ -5,14 +5,15 @@ use Rattle.sg_rows.specs.Deployment.{Deployed, actor_named, members_of, mutex_na
 
 -- the replay actor of a name, the actor of a name whatever it does, and the number of the mutex, or
 -- semaphore, of a name; and who takes part in collectives
-pub record Known : Type 0 where
+pub record ScriptNames : Type 0 where
   pub actor : List ℕ → Option ActorId
   pub anyone : List ℕ → Option ActorId
   pub mutex : List ℕ → Option ℕ
   pub semaphore : List ℕ → Option ℕ
   pub members : List ActorId
 
-abbrev pub known_in : Deployed → Known
+-- what the names of a script stand for in this deployment
+abbrev pub known_in : Deployed → ScriptNames
 known_in deployment = record {
   actor = replay_actor_named deployment;
   anyone = actor_named deployment;

@@ -1,4 +1,4 @@
--- What Asks of a script, their answers, and its collectives keep to.
+-- What the fetches of a script, their answers, and its collectives keep to.
 use Rattle.std.specs.Prelude.{◌≡◌, ◌==◌, ◌<◌, ◌≤◌, ◌+◌, ◌++◌, ℕ, Bool, false, List, count_by, Err}
 use Rattle.sg_base.specs.declared.call.Action.{Action}
 use Rattle.sg_base.specs.declared.call.Action.TheVariants.{ISend, IRecv, Recv, Send}
@@ -7,31 +7,31 @@ use Rattle.sg_edge.specs.Files.{PartView}
 use Rattle.sg_edge.specs.Sources.{Source}
 use Rattle.sg_rows.specs.Deployment.{Deployed, members_of}
 use Rattle.sg_script.specs.Answer.{answer_of}
-use Rattle.sg_script.specs.Known.{Known}
+use Rattle.sg_script.specs.Known.{ScriptNames}
 use Rattle.sg_script.specs.Needed.{needed_by}
 use Rattle.sg_script.specs.declared.operation.Operation.TheVariants.{Together}
 use Rattle.sg_script.specs.Operation.{actions_for}
 use Rattle.sg_script.specs.Stands.{AreNeeded, IsNearNeed, IsWithinNeed, Reads, one_more}
 use Rattle.sg_script.specs.declared.fault.ScriptFault.{ScriptFault}
 
--- a fault is told again to each later Ask
+-- a fault is reported again to each later fetch
 abbrev pub FaultsRepeat : Type 0
-FaultsRepeat = (known : Known) (source : Source) (actor earlier later : ℕ) (fault : ScriptFault) →
+FaultsRepeat = (known : ScriptNames) (source : Source) (actor earlier later : ℕ) (fault : ScriptFault) →
     earlier ≤ later → answer_of known source actor earlier ≡ Err fault →
     answer_of known source actor later ≡ Err fault
 
--- Where less than a piece more was taken than the Asks of a run need, and the next Ask takes less
--- than a piece more than it needs, so it is with that Ask.
+-- If less than a piece more was taken than the fetches of a run need, and the next fetch takes
+-- less than a piece more than it needs, so it is with that fetch.
 abbrev pub NeedsAddUp : Type 0
-NeedsAddUp = (known : Known) (taken piece : List ℕ) (asks : ℕ → ℕ) (actor : ℕ)
+NeedsAddUp = (known : ScriptNames) (taken piece : List ℕ) (asks : ℕ → ℕ) (actor : ℕ)
     (old new : PartView) → Reads piece old new → AreNeeded known taken old.stage asks →
     IsNearNeed known taken piece new.stage actor (asks actor) →
     AreNeeded known (taken ++ piece) new.stage (one_more actor asks)
 
--- Bytes that are less than a piece more than one of the Asks needs are less than a piece more than
--- all of them need, where identifiers go up to this one.
+-- Bytes that are less than a piece more than one of the fetches needs are less than a piece more
+-- than all of them need, if identifiers go up to this one.
 abbrev pub NeedIsMost : Type 0
-NeedIsMost = (known : Known) (source : Source) (actors : ℕ) (asks : ℕ → ℕ) (count : ℕ) →
+NeedIsMost = (known : ScriptNames) (source : Source) (actors : ℕ) (asks : ℕ → ℕ) (count : ℕ) →
     ((actor : ℕ) → actors < actor → asks actor ≡ 0) → IsWithinNeed known source asks count →
     count ≤ needed_by known source actors asks + 4095
 

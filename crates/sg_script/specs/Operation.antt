@@ -7,7 +7,7 @@ use Rattle.sg_collectives.specs.Members.{actions_of as collective_actions, HasAm
 use Rattle.sg_script.specs.declared.line.Entry.{Entry}
 use Rattle.sg_script.specs.declared.operation.Operation.{Operation}
 use Rattle.sg_script.specs.declared.operation.Operation.TheVariants.{Alone, Together}
-use Rattle.sg_script.specs.Known.{Known}
+use Rattle.sg_script.specs.Known.{ScriptNames}
 
 -- what an actor does for an operation among these members: an action alone, or all that it does
 -- for a collective
@@ -15,8 +15,8 @@ abbrev pub actions_for : List ActorId → ℕ → Operation → List Action
 actions_for members actor (Alone action) = action ∷ []
 actions_for members actor (Together collective) = collective_actions members actor collective
 
--- what a line gives an actor: what its own actor does for it, where it is this actor's line
-abbrev pub line_actions : Known → ℕ → Option Entry → List Action
+-- what a line gives an actor: what its own actor does for it, if it is this actor's line
+abbrev pub line_actions : ScriptNames → ℕ → Option Entry → List Action
 line_actions known actor None = []
 line_actions known actor (Some entry) =
     if entry.actor.0 == actor then actions_for known.members entry.actor.0 entry.operation else []

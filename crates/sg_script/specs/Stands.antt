@@ -1,5 +1,5 @@
--- What is kept of a script that was read in part, what whole scripts it stands for, and what an
--- Ask does.
+-- What is kept of a script that was read in part, what whole scripts it stands for, and what a
+-- fetch does.
 use Rattle.std.specs.Prelude.{◌≡◌, ℕ, Bool, ◌+◌, ◌-◌, ◌++◌, List, [], length, slice_get, Option, Result, ◌≢◌, ◌<◌, ◌⊎◌, suc, Ok, Err, if◌then◌else◌, ◌==◌, ◌≤◌, IfOk, IfSome, ⊤}
 use Rattle.std.specs.List.{All}
 use Rattle.sg_base.specs.Limits.{Extent, IsAction}
@@ -7,11 +7,11 @@ use Rattle.sg_edge.specs.Files.{before, PartView}
 use Rattle.sg_edge.specs.declared.files.Part.{Part}
 use Rattle.sg_edge.specs.declared.files.Stage.{Stage}
 use Rattle.sg_base.specs.declared.call.Action.{Action}
-use Rattle.sg_script.specs.Known.{Known}
+use Rattle.sg_script.specs.Known.{ScriptNames}
 use Rattle.sg_script.specs.declared.waiting.Waiting.{Waiting}
 use Rattle.sg_script.specs.declared.script.Script.{Script}
 use Rattle.sg_script.specs.declared.fault.ScriptFault.{ScriptFault}
-use Rattle.sg_script.specs.Answer.{judgements, actions_of, first_bad, answer_by, answer_of}
+use Rattle.sg_script.specs.Answer.{judgements, script_actions, first_bad, answer_by, answer_of}
 use Rattle.sg_edge.specs.Sources.{Source}
 use Rattle.sg_script.specs.Needed.{need_from, need_of}
 use Rattle.sg_script.specs.Rest.{GoesOn, May}
@@ -20,7 +20,7 @@ use Rattle.sg_edge.specs.declared.files.Stage.TheVariants.{Fresh, Broken, Begun}
 use Rattle.sg_script.specs.declared.fault.ScriptFault.TheVariants.{Line, Read, Memory}
 
 -- what a script keeps: the lines that wait for each actor, how many lines were read, and the bytes
--- behind them
+-- after them
 pub record Kept : Type 0 where
   pub queues : List (List Waiting)
   pub lines : ℕ
@@ -37,17 +37,17 @@ actors_of script = length script.queues - 1
 abbrev pub nothing_read : Kept
 nothing_read = record { queues = []; lines = 0; pending = [] }
 
--- the answer to an Ask that so many Asks come before, by what is kept and the bytes still to come
-abbrev pub answer_from : Known → Kept → List ℕ → Bool → ℕ → ℕ → Result (Option Action) ScriptFault
+-- the answer to a fetch after so many others, by what is kept and the bytes still to come
+abbrev pub answer_from : ScriptNames → Kept → List ℕ → Bool → ℕ → ℕ → Result (Option Action) ScriptFault
 answer_from known kept rest broken actor earlier =
     let more = judgements known kept.lines (kept.pending ++ rest) broken in
     answer_by broken (first_bad kept.lines more)
-    (slice_get (waits known.members kept.queues actor ++ actions_of known actor more) earlier)
+    (slice_get (waits known.members kept.queues actor ++ script_actions known actor more) earlier)
 
--- The script stands for these bytes and Asks: whatever may still come, each later Ask has its
--- answer by what is kept; and where no action waits for it, what it needs lies behind what was
--- taken off the front.
-pub record Stands (known : Known) (taken : List ℕ) (stage : Stage) (asks : ℕ → ℕ)
+-- The script stands for these bytes and fetches: whatever may still come, each later fetch has its
+-- answer by what is kept. If no action waits for it, what it needs follows what was taken off the
+-- front.
+pub record Stands (known : ScriptNames) (taken : List ℕ) (stage : Stage) (asks : ℕ → ℕ)
     (kept : Kept) : Type 0 where
   pub answers : (rest : List ℕ) (broken : Bool) → May stage rest broken → (actor later : ℕ) →
       answer_of known (record { bytes = taken ++ rest; broken = broken }) actor (asks actor + later)
@@ -67,18 +67,19 @@ pub record Reads (piece : List ℕ) (old new : PartView) : Type 0 where
   pub stayed : old.stage ≢ Begun → (piece ≡ []) × (new.stage ≡ old.stage)
   pub begun : new.stage ≢ Fresh
 
--- the Asks with one more of an actor
+-- the fetches with one more of an actor
 abbrev pub one_more : ℕ → (ℕ → ℕ) → ℕ → ℕ
 one_more actor asks other = if other == actor then suc (asks other) else asks other
 
--- for this Ask nothing was read, or what was taken in all is less than a piece more than it needs
-abbrev pub IsNearNeed : Known → List ℕ → List ℕ → Stage → ℕ → ℕ → Type 0
+-- for this fetch nothing was read, or what was taken in all is less than a piece more than it
+-- needs
+abbrev pub IsNearNeed : ScriptNames → List ℕ → List ℕ → Stage → ℕ → ℕ → Type 0
 IsNearNeed known taken piece stage actor earlier =
     (source : Source) → GoesOn (taken ++ piece) stage source → (piece ≡ [])
     ⊎ (length (taken ++ piece) ≤ need_of known source actor earlier + 4095)
 
 -- the answer is the whole script's, and the script stands for what was read and asked
-pub record IsAsked (known : Known) (taken : List ℕ) (asks : ℕ → ℕ) (actor : ℕ)
+pub record IsAsked (known : ScriptNames) (taken : List ℕ) (asks : ℕ → ℕ) (actor : ℕ)
     (answer : Result (Option Action) ScriptFault) (old_part new_part : PartView)
     (new : Kept) : Type 0 where
   pub piece : List ℕ
@@ -89,17 +90,17 @@ pub record IsAsked (known : Known) (taken : List ℕ) (asks : ℕ → ℕ) (acto
       (asks actor) ≡ answer
   pub stands : Stands known (taken ++ piece) new_part.stage (one_more actor asks) new
 
--- without memory the Ask wasn't answered, and the script stands for what was read
-pub record IsCut (known : Known) (taken : List ℕ) (asks : ℕ → ℕ) (actor : ℕ)
+-- memory ran out, so the fetch wasn't answered, and the script stands for what was read
+pub record IsCut (known : ScriptNames) (taken : List ℕ) (asks : ℕ → ℕ) (actor : ℕ)
     (old_part new_part : PartView) (new : Kept) : Type 0 where
   pub piece : List ℕ
   pub reads : Reads piece old_part new_part
   pub near : IsNearNeed known taken piece new_part.stage actor (asks actor)
   pub stands : Stands known (taken ++ piece) new_part.stage asks new
 
--- What an Ask did that had this answer. Before it these bytes were taken, and so many Asks of
+-- What a fetch did that had this answer. Before it these bytes were taken, and so many fetches of
 -- each actor answered.
-abbrev pub AskIs : Known → List ℕ → (ℕ → ℕ) → ℕ → Result (Option Action) ScriptFault → PartView →
+abbrev pub AskIs : ScriptNames → List ℕ → (ℕ → ℕ) → ℕ → Result (Option Action) ScriptFault → PartView →
     PartView → Kept → Type 0
 AskIs known taken asks actor (Ok answer) = IsAsked known taken asks actor (Ok answer)
 AskIs known taken asks actor (Err (Line n kind)) =
@@ -107,31 +108,31 @@ AskIs known taken asks actor (Err (Line n kind)) =
 AskIs known taken asks actor (Err Read) = IsAsked known taken asks actor (Err Read)
 AskIs known taken asks actor (Err Memory) = IsCut known taken asks actor
 
--- what an Ask did, whatever was taken and asked before it
-abbrev pub LeadsAsk : Known → ℕ → Result (Option Action) ScriptFault → PartView → PartView → Kept →
+-- what a fetch did, whatever was taken and fetched before it
+abbrev pub LeadsAsk : ScriptNames → ℕ → Result (Option Action) ScriptFault → PartView → PartView → Kept →
     Kept → Type 0
 LeadsAsk known actor answer old_part new_part old new = (taken : List ℕ) (asks : ℕ → ℕ) →
     Stands known taken old_part.stage asks old →
     AskIs known taken asks actor answer old_part new_part new
 
--- so many bytes are less than a piece more than one of so many Asks of each actor needs
-pub record HasNeed (known : Known) (source : Source) (asks : ℕ → ℕ) (count : ℕ) : Type 0 where
+-- so many bytes are less than a piece more than one of so many fetches of each actor needs
+pub record HasNeed (known : ScriptNames) (source : Source) (asks : ℕ → ℕ) (count : ℕ) : Type 0 where
   pub actor : ℕ
   pub earlier : ℕ
   pub made : earlier < asks actor
   pub few : count ≤ need_of known source actor earlier + 4095
 
 -- they are, or they are none
-abbrev pub IsWithinNeed : Known → Source → (ℕ → ℕ) → ℕ → Type 0
+abbrev pub IsWithinNeed : ScriptNames → Source → (ℕ → ℕ) → ℕ → Type 0
 IsWithinNeed known source asks count = (count ≡ 0) ⊎ HasNeed known source asks count
 
 -- so it is with what was taken, whatever may still come
-abbrev pub AreNeeded : Known → List ℕ → Stage → (ℕ → ℕ) → Type 0
+abbrev pub AreNeeded : ScriptNames → List ℕ → Stage → (ℕ → ℕ) → Type 0
 AreNeeded known taken stage asks =
     (source : Source) → GoesOn taken stage source →
     IsWithinNeed known source asks (length taken)
 
--- a read fault is told only where the part is broken
+-- a read fault is reported only if the part is broken
 abbrev pub IsRead : Result (Option Action) ScriptFault → PartView → Type 0
 IsRead (Ok answer) part = ⊤
 IsRead (Err (Line n kind)) part = ⊤

@@ -1,4 +1,4 @@
--- How a script keeps what was read, and the steps by which an Ask is answered.
+-- How a script keeps what was read, and the steps by which a fetch is answered.
 pub mod Arguments
 pub mod Asks
 pub mod Front

@@ -3,7 +3,7 @@ ghost use Rattle.std.specs.Prelude.{◌≡◌, IfOk, Ok};
 ghost use Rattle.sg_base.specs.Limits.{IsActorIn, IsAmount, IsMutexIn, IsPriority, IsRate, IsSemaphoreIn, IsTime};
 ghost use Rattle.sg_rows.specs.Deployment.{extent_of};
 ghost use Rattle.sg_script.specs.Known.{known_in};
-ghost use Rattle.sg_script.specs.Line.{actor_in, alone, amount_in, computing_of, no_words, one_actor, one_amount, one_mutex, one_semaphore, one_time, priority_in, rate_in, receiving_of, sending_of, two_amounts};
+ghost use Rattle.sg_script.specs.Line.{actor_in, single_action, script_amount, computing_of, no_words, one_actor, one_amount, one_mutex, one_semaphore, one_time, priority_in, rate_in, receiving_of, sending_of, two_amounts};
 ghost use Rattle.sg_script.specs.Words.{words};
 
 use crate::fault::LineFault;
@@ -14,7 +14,7 @@ use sg_rows::Deployment;
 use sg_units::{read_amount, read_bandwidth, read_time};
 
 pub fn amount(text: &[u8]) -> Result<u64, LineFault>
-    ensures value { result ≡ amount_in text.now }
+    ensures value { result ≡ script_amount text.now }
     ensures limit { IfOk result IsAmount }
 {
     match read_amount(text) {
@@ -23,7 +23,7 @@ pub fn amount(text: &[u8]) -> Result<u64, LineFault>
     }
 }
 
-/// A priority of an execution: an amount from 1 to 1,000.
+/// Reads a priority of an execution: an amount from 1 to 1,000.
 pub fn priority(text: &[u8]) -> Result<u32, LineFault>
     ensures value { result ≡ priority_in text.now }
     ensures limit { IfOk result IsPriority }
@@ -35,7 +35,7 @@ pub fn priority(text: &[u8]) -> Result<u32, LineFault>
     }
 }
 
-/// The most bytes a second that a message is to have: a bandwidth of at least 1.
+/// Reads the most bytes a second that a message is to have: a bandwidth of at least 1.
 pub fn rate(text: &[u8]) -> Result<u64, LineFault>
     ensures value { result ≡ rate_in text.now }
     ensures limit { IfOk result IsRate }
@@ -46,7 +46,7 @@ pub fn rate(text: &[u8]) -> Result<u64, LineFault>
     }
 }
 
-/// The replay actor of that name.
+/// Reads the replay actor of that name.
 #[tactic(auto, using(crate::proofs::KnownLemmas::actor_exists))]
 pub fn actor(name: &[u8], deployment: &Deployment) -> Result<ActorId, LineFault>
     ensures named { result ≡ actor_in (known_in deployment.now) name.now }
@@ -58,7 +58,7 @@ pub fn actor(name: &[u8], deployment: &Deployment) -> Result<ActorId, LineFault>
     }
 }
 
-/// The only argument as an amount.
+/// Reads the only argument as an amount.
 pub fn one_amount(text: &[u8]) -> Result<u64, LineFault>
     ensures value { result ≡ one_amount (words text.now) }
     ensures limit { IfOk result IsAmount }
@@ -66,7 +66,7 @@ pub fn one_amount(text: &[u8]) -> Result<u64, LineFault>
     amount(one(text)?)
 }
 
-/// The only argument as a time.
+/// Reads the only argument as a time.
 pub fn one_time(text: &[u8]) -> Result<u64, LineFault>
     ensures value { result ≡ one_time (words text.now) }
     ensures limit { IfOk result IsTime }
@@ -77,7 +77,7 @@ pub fn one_time(text: &[u8]) -> Result<u64, LineFault>
     }
 }
 
-/// The actor that the only argument names, whatever it does.
+/// Reads the actor that the only argument names, whatever it does.
 #[tactic(auto, using(crate::proofs::KnownLemmas::anyone_exists))]
 pub fn one_actor(text: &[u8], deployment: &Deployment) -> Result<ActorId, LineFault>
     ensures named { result ≡ one_actor (known_in deployment.now) (words text.now) }
@@ -89,7 +89,7 @@ pub fn one_actor(text: &[u8], deployment: &Deployment) -> Result<ActorId, LineFa
     }
 }
 
-/// The number of the mutex that the only argument names.
+/// Reads the number of the mutex that the only argument names.
 #[tactic(auto, using(crate::proofs::KnownLemmas::mutex_exists))]
 pub fn one_mutex(text: &[u8], deployment: &Deployment) -> Result<u32, LineFault>
     ensures named { result ≡ one_mutex (known_in deployment.now) (words text.now) }
@@ -101,7 +101,7 @@ pub fn one_mutex(text: &[u8], deployment: &Deployment) -> Result<u32, LineFault>
     }
 }
 
-/// The number of the semaphore that the only argument names.
+/// Reads the number of the semaphore that the only argument names.
 #[tactic(auto, using(crate::proofs::KnownLemmas::semaphore_exists))]
 pub fn one_semaphore(text: &[u8], deployment: &Deployment) -> Result<u32, LineFault>
     ensures named { result ≡ one_semaphore (known_in deployment.now) (words text.now) }
@@ -113,7 +113,7 @@ pub fn one_semaphore(text: &[u8], deployment: &Deployment) -> Result<u32, LineFa
     }
 }
 
-/// An amount, and a priority, which is 1 where there is none.
+/// Reads an amount, and a priority, which is 1 if not given.
 pub fn computing(text: &[u8]) -> Result<(u64, u32), LineFault>
     ensures said { result ≡ computing_of (words text.now) }
     ensures limits { IfOk result (λ both. IsAmount both.0 × IsPriority both.1) }
@@ -127,7 +127,7 @@ pub fn computing(text: &[u8]) -> Result<(u64, u32), LineFault>
     }
 }
 
-/// A peer, an amount, and a rate, which is 0 where there is none.
+/// Reads a peer, an amount, and a rate, which is 0 if not given.
 pub fn sending(text: &[u8], deployment: &Deployment) -> Result<(ActorId, u64, u64), LineFault>
     ensures said { result ≡ sending_of (known_in deployment.now) (words text.now) }
     ensures limits { IfOk result
@@ -148,7 +148,7 @@ pub fn sending(text: &[u8], deployment: &Deployment) -> Result<(ActorId, u64, u6
     }
 }
 
-/// A peer, and an amount that is read where there is one, and has no effect.
+/// Reads a peer, and an amount if there is one, which has no effect.
 pub fn receiving(text: &[u8], deployment: &Deployment) -> Result<ActorId, LineFault>
     ensures said { result ≡ receiving_of (known_in deployment.now) (words text.now) }
     ensures exists { IfOk result (IsActorIn (extent_of deployment.now)) }
@@ -166,7 +166,7 @@ pub fn receiving(text: &[u8], deployment: &Deployment) -> Result<ActorId, LineFa
     }
 }
 
-/// Two amounts.
+/// Reads two amounts.
 pub fn two_amounts(text: &[u8]) -> Result<(u64, u64), LineFault>
     ensures said { result ≡ two_amounts (words text.now) }
     ensures limits { IfOk result (λ both. IsAmount both.0 × IsAmount both.1) }
@@ -180,9 +180,9 @@ pub fn two_amounts(text: &[u8]) -> Result<(u64, u64), LineFault>
     }
 }
 
-/// An action without arguments.
+/// Reads an action without arguments.
 pub fn bare(action: Action, text: &[u8]) -> Result<Operation, LineFault>
-    ensures { result ≡ alone (λ _. action) (no_words (words text.now)) }
+    ensures { result ≡ single_action (λ _. action) (no_words (words text.now)) }
 {
     none(text)?;
     Ok(Operation::Alone(action))

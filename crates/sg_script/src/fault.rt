@@ -1,6 +1,6 @@
-//! Why a line is bad, and why an Ask has no answer.
+//! Why a line is bad, and why a fetch of the next line has no answer.
 
-/// Why a script line is bad. Where several hold, the first in this order is told, but for the arguments, which are
+/// Why a script line is bad. If several reasons hold, the first in this order is reported, except that arguments are
 /// judged from left to right.
 #[derive(Clone, Copy)]
 pub enum LineFault {
@@ -8,8 +8,8 @@ pub enum LineFault {
     TooLong,
     /// It has a byte that is neither a tab nor in 0x20 to 0x7E.
     NotAscii,
-    /// Its first word isn't a replay actor, or an argument doesn't name an actor: one that replays where the line sends
-    /// to it or receives from it.
+    /// Its first word isn't a replay actor, or an argument doesn't name an actor: one that replays if the line sends to
+    /// it or receives from it.
     UnknownActor,
     /// It has no second word, or one that isn't an action.
     UnknownAction,
@@ -17,13 +17,13 @@ pub enum LineFault {
     ArgumentCount,
     /// An amount or a time that its reader refuses.
     BadAmount,
-    /// It is line 100,000,001. This is told before all else.
+    /// It is line 100,000,001. This is reported before all else.
     TooManyLines,
     /// An argument that isn't the name of a mutex, or of a semaphore.
     UnknownObject,
 }
 
-/// Why an Ask has no answer.
+/// Why a fetch of the next line has no answer.
 #[derive(Clone, Copy)]
 pub enum ScriptFault {
     /// The first bad line: its number, counted from 1, and why it is bad.

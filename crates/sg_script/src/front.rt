@@ -13,8 +13,8 @@ use sg_edge::Stage;
 /// What stands at the front of bytes that were read.
 #[derive(Clone, Copy)]
 pub enum Front {
-    /// A line of `len` bytes that takes `end` bytes with its newline; or a front of one that is bad however it goes
-    /// on.
+    /// A line of `len` bytes that takes `end` bytes with its newline; or the beginning of one that is bad however it
+    /// continues.
     Line { len: usize, end: usize },
     /// A part of a line, or nothing; more may come.
     Unread,
@@ -24,7 +24,7 @@ pub enum Front {
     Broken,
 }
 
-// The place of the first newline, which is sought in many bytes at a time.
+// Returns the place of the first newline, which is sought in many bytes at a time.
 #[tactic(auto, using(crate::proofs::Searching::first_newline))]
 fn newline_at(bytes: &[u8]) -> Option<usize>
     ensures { result ≡ position is_newline bytes.now }
@@ -32,14 +32,14 @@ fn newline_at(bytes: &[u8]) -> Option<usize>
     memchr(b'\n', bytes)
 }
 
-// Whether these bytes make a bad line, however it goes on.
+// Returns whether these bytes make a bad line, however it continues.
 fn is_bad(bytes: &[u8], before: u64) -> bool
     ensures { result ≡ is_last_line true before bytes.now }
 {
     bytes.len() > LONGEST_LINE || (!bytes.is_empty() && before == MOST_LINES)
 }
 
-// What stands behind the last newline, where no more is to come.
+// Returns what follows the last newline, if no more is to come.
 #[tactic(auto, using(crate::proofs::FrontLemmas::leads_last, crate::proofs::PlainLemmas::unbroken_none))]
 fn last_line(bytes: &[u8]) -> Front
     requires { position is_newline bytes.now ≡ None }
@@ -53,7 +53,7 @@ fn last_line(bytes: &[u8]) -> Front
     Front::Line { len, end: len }
 }
 
-// What stands behind the last newline.
+// Returns what follows the last newline.
 #[tactic(auto, using(crate::proofs::FrontLemmas::leads_bad, crate::proofs::FrontLemmas::is_short, crate::proofs::PlainLemmas::unbroken_none))]
 fn behind_newlines(bytes: &[u8], before: u64, stage: Stage) -> Front
     requires begun { stage ≢ Fresh }
@@ -72,7 +72,7 @@ fn behind_newlines(bytes: &[u8], before: u64, stage: Stage) -> Front
     }
 }
 
-/// What stands at the front of these bytes, before which so many lines were.
+/// Returns what stands at the front of these bytes, before which so many lines were.
 #[tactic(auto, using(crate::proofs::FrontLemmas::leads_newline, crate::proofs::FrontLemmas::below, crate::proofs::PlainLemmas::unbroken_some))]
 pub fn front_of(bytes: &[u8], before: u64, stage: Stage) -> Front
     requires { stage ≢ Fresh }

@@ -13,7 +13,7 @@ use sg_rows::Deployment;
 /// The most lines of a script.
 pub const MOST_LINES: u64 = 100_000_000;
 
-/// The judgement of a line before which so many lines stand, of which it may be known that it is plain.
+/// Returns the judgement of a line before which so many lines stand, of which it may be known that it is plain.
 pub fn judge(
     line: &[u8],
     before: u64,

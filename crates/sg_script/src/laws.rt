@@ -1,17 +1,17 @@
-//! Laws of Asks and of collectives, each the contract of a function that does nothing.
+//! Laws of fetched lines and of collectives, each the contract of a function that does nothing.
 ghost use Rattle.sg_script.specs.Laws.{CollectivesMeet, FaultsRepeat, NeedIsMost, NeedsAddUp};
 
-/// The fault that an Ask of an actor is told is told again to each later Ask of it.
+/// The fault that an actor's fetch reports is reported again to each later one.
 pub fn faults_repeat()
     ensures { FaultsRepeat }
 {}
 
-/// What is read over a run stays within a piece of what its Asks need, as it does for each of them.
+/// What is read over a run stays within a piece of what its fetches need, as it does for each of them.
 pub fn needs_add_up()
     ensures { NeedsAddUp }
 {}
 
-/// What is within a piece of what an Ask needs is within a piece of what all Asks need.
+/// What is within a piece of what one fetch needs is within a piece of what all need.
 pub fn need_is_most()
     ensures { NeedIsMost }
 {}

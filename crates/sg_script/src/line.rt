@@ -3,7 +3,7 @@ ghost use Rattle.std.specs.Prelude.{◌≡◌, IfOk, IsTrue, Ok, true};
 ghost use Rattle.std.specs.List.{list_all};
 ghost use Rattle.sg_rows.specs.Deployment.{extent_of};
 ghost use Rattle.sg_script.specs.Known.{known_in};
-ghost use Rattle.sg_script.specs.Line.{entry_of, is_plain, KeepsLimits, line_of, operation_of, text_of, without_return};
+ghost use Rattle.sg_script.specs.Line.{entry_of, is_plain, KeepsLimits, line_judgement, operation_of, text_judgement, without_return};
 ghost use Rattle.sg_script.specs.Operation.{IsOperation};
 ghost use Rattle.sg_script.specs.Words.{words};
 ghost use Rattle.sg_script.specs.kept.Asks.{IsJudged};
@@ -60,7 +60,7 @@ fn isend(text: &[u8], deployment: &Deployment) -> Result<Operation, LineFault>
     alone(Action::ISend(to, bytes, rate))
 }
 
-// What a verb asks for with the arguments that stand in this text.
+// Reads what a verb asks for with the arguments that stand in this text.
 fn read_operation(verb: Verb, text: &[u8], deployment: &Deployment) -> Result<Operation, LineFault>
     ensures said { result ≡ operation_of (known_in deployment.now) verb (words text.now) }
     ensures limits { IfOk result (IsOperation (extent_of deployment.now)) }
@@ -106,7 +106,7 @@ fn read_operation(verb: Verb, text: &[u8], deployment: &Deployment) -> Result<Op
     }
 }
 
-// The entry of a first word and the text behind it.
+// Reads the entry of a first word and the text after it.
 fn read_entry(name: &[u8], text: &[u8], deployment: &Deployment) -> Result<Option<Entry>, LineFault>
     ensures { IsJudged deployment.now
         (entry_of (known_in deployment.now) name.now (words text.now)) result }
@@ -129,7 +129,7 @@ fn is_ascii(text: &[u8]) -> bool
         .all(|b| *b == b'\t' || (b' '..=b'~').contains(b))
 }
 
-// Whether all bytes are plain, where it may be known already.
+// Returns whether all bytes are plain, which may be known already.
 fn all_plain(text: &[u8], plain: bool) -> bool
     requires { IsTrue plain → list_all is_plain text.now ≡ true }
     ensures { result ≡ list_all is_plain text.now }
@@ -148,7 +148,7 @@ fn without_end(line: &[u8]) -> &[u8]
 
 fn read_text(text: &[u8], plain: bool, deployment: &Deployment) -> Result<Option<Entry>, LineFault>
     requires { IsTrue plain → list_all is_plain text.now ≡ true }
-    ensures { IsJudged deployment.now (text_of (known_in deployment.now) text.now) result }
+    ensures { IsJudged deployment.now (text_judgement (known_in deployment.now) text.now) result }
 {
     let Some((first, rest)) = next_word(text) else {
         return Ok(None);
@@ -162,7 +162,7 @@ fn read_text(text: &[u8], plain: bool, deployment: &Deployment) -> Result<Option
     read_entry(first, rest, deployment)
 }
 
-/// The same as `read_line`, where it may be known that the bytes are plain.
+/// Does what `read_line` does; it may be known that the bytes are plain.
 #[tactic(auto, using(crate::proofs::PlainLemmas::plain_without))]
 pub fn read_known_line(
     line: &[u8],
@@ -170,7 +170,7 @@ pub fn read_known_line(
     deployment: &Deployment,
 ) -> Result<Option<Entry>, LineFault>
     requires { IsTrue plain → list_all is_plain line.now ≡ true }
-    ensures { IsJudged deployment.now (line_of (known_in deployment.now) line.now) result }
+    ensures { IsJudged deployment.now (line_judgement (known_in deployment.now) line.now) result }
 {
     if line.len() > LONGEST_LINE {
         return Err(LineFault::TooLong);
@@ -178,13 +178,13 @@ pub fn read_known_line(
     read_text(without_end(line), plain, deployment)
 }
 
-/// What a line says, without its newline: `None` where it is passed over.
+/// Reads what a line says, without its newline: `None` if it is skipped.
 ///
 /// Words are separated by blanks, which are spaces and tabs; one carriage return at the end is dropped. A line of
-/// blanks alone, or whose first word begins with `#`, is passed over. Else its words are the name of a replay
-/// actor, an action and the arguments of the action. It takes no memory.
+/// blanks alone, or whose first word begins with `#`, is skipped. Else its words are the name of a replay actor, an
+/// action and the arguments of the action. It takes no memory.
 pub fn read_line(line: &[u8], deployment: &Deployment) -> Result<Option<Entry>, LineFault>
-    ensures said { result ≡ line_of (known_in deployment.now) line.now }
+    ensures said { result ≡ line_judgement (known_in deployment.now) line.now }
     ensures limits { KeepsLimits (extent_of deployment.now) result }
 {
     read_known_line(line, false, deployment)

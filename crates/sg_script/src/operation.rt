@@ -16,7 +16,7 @@ pub enum Operation {
 }
 
 impl Operation {
-    /// The action at this place, from 0 on, of what an actor does for it; none behind the last.
+    /// Returns the action at this place, from 0 on, of what an actor does for it; none after the last.
     pub fn action(self, actor: ActorId, members: &Members, place: u64) -> Option<Action>
         ensures action { result ≡ slice_get (actions_for members.now actor.0 self) place }
         ensures few { IfSome result (λ _. place + 1 < 2 ^ 64) }

@@ -40,7 +40,7 @@ fn is_text(b: u8) -> bool
     b == b'\t' || b == b'\n' || (b' ' <= b && b <= b'~')
 }
 
-// Whether each of these bytes may stand in a line, or ends one. It looks at all of them, many at a time.
+// Returns whether each of these bytes may stand in a line, or ends one. It looks at all of them, many at a time.
 fn are_text(bytes: &[u8]) -> bool
     ensures { result ≡ list_all is_text_spec bytes.now }
 {
@@ -69,7 +69,7 @@ impl Pending {
         &self.buffer[self.at..]
     }
 
-    /// Whether it is known that each byte may stand in a line, or ends one.
+    /// Returns whether it is known that each byte may stand in a line, or ends one.
     #[tactic(auto, using(crate::proofs::PlainLemmas::all_dropped))]
     pub fn is_plain(&self) -> bool
         ensures { IsTrue result → list_all is_text_spec self.now ≡ true }

@@ -28,7 +28,7 @@ impl Model for Queues {
     ghost view = { λ q. map (λ list. list.items) q.lists.items };
 }
 
-// Takes the line at the front, where it asks for an action alone.
+// Takes the line at the front, if it asks for an action alone.
 fn take_alone(lines: &mut VecDeque<Waiting>) -> Option<Action>
     ensures { MatchOption result (lines.new.items ≡ lines.old.items)
         (λ action. lines.old.items
@@ -47,7 +47,7 @@ fn take_alone(lines: &mut VecDeque<Waiting>) -> Option<Action>
     Some(action)
 }
 
-// Takes the next action of the lines of an actor, and lets the lines before it go, of which nothing is left.
+// Takes the next action of an actor's lines, and drops the lines before it, which have no action left.
 fn take_next(lines: &mut VecDeque<Waiting>, actor: ActorId, members: &Members) -> Option<Action>
     ensures first { flat_map (left_of members.now actor.0) lines.old.items
         ≡ with_first result (flat_map (left_of members.now actor.0) lines.new.items) }
@@ -63,7 +63,7 @@ fn take_next(lines: &mut VecDeque<Waiting>, actor: ActorId, members: &Members) -
     None
 }
 
-// The same. An action alone goes with its line, so that no line is looked at of which nothing is left.
+// Does the same. An action alone leaves with its line, so that no line without actions is examined.
 #[tactic(auto, using(crate::proofs::QueueLemmas::alone_first))]
 fn take_first(lines: &mut VecDeque<Waiting>, actor: ActorId, members: &Members) -> Option<Action>
     ensures first { flat_map (left_of members.now actor.0) lines.old.items
@@ -78,7 +78,7 @@ fn take_first(lines: &mut VecDeque<Waiting>, actor: ActorId, members: &Members) 
 }
 
 impl Queues {
-    /// So many empty queues.
+    /// Makes so many empty queues.
     pub fn new(alloc: Global, count: usize) -> Result<Queues, Memory>
         ensures { IfOk result (λ q. q ≡ replicate count []) }
     {
@@ -89,7 +89,7 @@ impl Queues {
         Ok(Queues { lists })
     }
 
-    /// Puts a line behind those that wait for the actor.
+    /// Puts a line after those that wait for the actor.
     pub fn push(&mut self, actor: ActorId, operation: Operation) -> Result<(), Memory>
         requires { actor.0 < length self.old }
         ensures ok { OnOk result (self.new ≡ with_line actor.0 operation self.old) }

@@ -22,10 +22,10 @@ use sg_edge::{Failed, Files, Part};
 use sg_rows::Deployment;
 use std::alloc::Global;
 
-// What an Ask is answered.
+// The answer to an actor that fetches its next line.
 type Answer = Result<Option<Action>, ScriptFault>;
 
-// What a line of this actor asks for, where it is an action alone.
+// Returns what a line of this actor asks for, if it is an action alone.
 fn own_action(entry: Entry, actor: ActorId) -> Option<Action>
     ensures { MatchOption result ⊤
         (λ action. (entry.actor.0 ≡ actor.0) × (entry.operation ≡ Alone action)) }
@@ -36,11 +36,11 @@ fn own_action(entry: Entry, actor: ActorId) -> Option<Action>
     }
 }
 
-/// A script that is read as far as the answers to Asks need it.
+/// A script that is read as far as the fetches of lines need it.
 ///
-/// It keeps the lines that were read and of which something may be left, how many lines there were, and the bytes behind
-/// them. What stands there is judged when it is reached, so a bad line and a read that failed are told again to each Ask
-/// that needs more.
+/// It keeps the lines that were read and may have actions left, how many lines there were, and the bytes after them.
+/// These are judged when they are reached, so a bad line and a failed read are reported again to each fetch that needs
+/// more.
 #[derive(Drop)]
 pub struct Script {
     queues: Queues,
@@ -53,17 +53,18 @@ pub struct Script {
 impl Script {
     ghost use Rattle.sg_edge.specs.declared.files.Stage.{Stage};
     ghost use Rattle.sg_script.specs.Frugal.{Frugal};
-    ghost use Rattle.sg_script.specs.Known.{Known};
+    ghost use Rattle.sg_script.specs.Known.{ScriptNames};
     ghost use Rattle.sg_script.specs.Stands.{AreLimited, IsLimited, IsRead, LeadsAsk, BreaksOnFailure, actors_of, kept_of, Stands};
     ghost use Rattle.sg_script.specs.kept.Asks.{CanPass, IsAnswered, IsAtFront, IsIdle, IsReady, KeepsLimitsIf};
     ghost use Rattle.sg_script.specs.kept.Steps.{LineIs, LineTells, Pops, ReadIs, StepIs};
 
-    /// A script of which nothing was read, for so many actors.
+    /// Makes a script of which nothing was read, for so many actors.
     #[tactic(auto, using(crate::proofs::LimitLemmas::limited_none))]
     pub fn new(alloc: Global, actors: u32) -> Result<Script, Memory>
         ensures actors { IfOk result (λ s. actors_of s ≡ actors) }
         ensures stands { IfOk result
-            (λ s. (known : Known) (stage : Stage) → Stands known [] stage (λ _. 0) (kept_of s)) }
+            (λ s. (known : ScriptNames) (stage : Stage)
+            → Stands known [] stage (λ _. 0) (kept_of s)) }
         ensures waiting { IfOk result (λ s. (extent : Extent) → AreLimited extent (kept_of s)) }
     {
         Ok(Script {
@@ -114,8 +115,8 @@ impl Script {
         self.queues.pop(actor, deployment.members())
     }
 
-    // Takes a good line, where no action waits for the actor that asks: the answer is the first one that then waits for
-    // it, where one does. An action alone of that actor never goes into its queue, and behind a line of another one none
+    // Takes a good line, if no action waits for the actor that fetches; the answer is the first one that then waits for
+    // it, if one does. An action alone of that actor never enters its queue, and after a line of another one none
     // waits.
     #[tactic(auto, using(crate::proofs::LimitLemmas::limited_same))]
     fn answer_by_entry(
@@ -148,8 +149,8 @@ impl Script {
         }
     }
 
-    // Takes the line at the front, which has `len` bytes and takes `end`, where no action waits for the actor that asks:
-    // the answer is the first one that then waits for it, where one does.
+    // Takes the line at the front, which has `len` bytes and takes `end`, if no action waits for the actor that
+    // fetches; the answer is the first one that then waits for it, if one does.
     #[tactic(auto, using(crate::proofs::LimitLemmas::limited_same, crate::proofs::PlainLemmas::plain_line))]
     fn answer_by_line(
         &mut self,
@@ -176,7 +177,7 @@ impl Script {
         }
     }
 
-    // Reads one piece. Where that fails the part is broken, which the next step sees.
+    // Reads one piece. If that fails the part is broken, which the next step sees.
     fn read_piece<F: Files>(&mut self, files: &mut F)
         requires begun { (F.shows files.old Part.Script).stage ≡ Begun }
         requires short { length self.old.pending ≤ 4096 }
@@ -191,7 +192,7 @@ impl Script {
         }
     }
 
-    // Takes a line or reads a piece: the answer, where the actor has it now.
+    // Takes a line or reads a piece; returns the answer, if the actor has it now.
     #[tactic(auto, using(crate::proofs::LimitLemmas::limited_same))]
     fn step<F: Files>(
         &mut self,
@@ -239,7 +240,7 @@ impl Script {
         }
     }
 
-    // The first action that waits for the actor, or what reading on gives.
+    // Returns the first action that waits for the actor, or what reading on gives.
     #[tactic(auto, using(crate::proofs::Steps::popped_length))]
     fn answer<F: Files>(
         &mut self,
@@ -258,12 +259,12 @@ impl Script {
         }
     }
 
-    /// The answer to an Ask of that actor: the next action of its lines, or `None` where there is no further one. The
-    /// line of a collective gives all that the actor does for it, one action after the other.
+    /// Returns the next action of the actor's lines, or `None` if there is no further one. The line of a collective
+    /// gives all that the actor does for it, one action after the other.
     ///
-    /// The answer is that of the whole script. It reads on in pieces of at most 4,096 bytes, each only where the
-    /// answer isn't there yet. After `Memory` no byte that was taken is lost, and the Ask can be made again. `Line`
-    /// and `Read` are told again to each Ask that needs more than what was read.
+    /// The answer is that of the whole script. It reads on in pieces of at most 4,096 bytes, each only if the answer
+    /// isn't there yet. After `Memory` no byte that was taken is lost, and the call can be made again. `Line` and
+    /// `Read` are returned again to each call that needs more than what was read.
     ///
     /// It is to be given the same deployment and files each time: the actions that wait are those of that deployment.
     pub fn next_of<F: Files>(

@@ -30,9 +30,9 @@ pub enum Verb {
     Alltoall,
 }
 
-// Each word is of a length that is known where it is compared, so that most are told apart by their lengths alone.
+// The length of each word is known when it is compared, so that most differ by their lengths alone.
 
-// The action of a word that is none of the usual ones.
+// Returns the action of a word that is none of the usual ones.
 fn read_rarer_verb(word: &[u8]) -> Option<Verb>
     ensures { result ≡ rarer_verb_of word.now }
 {
@@ -72,7 +72,7 @@ fn read_rarer_verb(word: &[u8]) -> Option<Verb>
     None
 }
 
-/// The action of that word.
+/// Returns the action of that word.
 pub fn read_verb(word: &[u8]) -> Option<Verb>
     ensures { result ≡ verb_of word.now }
 {

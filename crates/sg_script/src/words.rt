@@ -7,14 +7,14 @@ ghost use Rattle.sg_script.specs.kept.Arguments.{AreArguments};
 
 use crate::fault::LineFault;
 
-// The place of the first blank.
+// Returns the place of the first blank.
 fn blank_at(text: &[u8]) -> Option<usize>
     ensures { result ≡ position is_blank text.now }
 {
     text.iter().position(|b| *b == b' ' || *b == b'\t')
 }
 
-// What stands before the first blank and behind it.
+// Returns what stands before the first blank and after it.
 #[tactic(auto, using(std::proofs::lemmas::Grind::common_steps, crate::proofs::Splits::split_some, crate::proofs::Splits::split_none, crate::proofs::Splits::some_below))]
 fn cut(text: &[u8]) -> Option<(&[u8], &[u8])>
     ensures cut { MatchOption result (slice_split is_blank text.now ≡ text.now ∷ [])
@@ -27,7 +27,7 @@ fn cut(text: &[u8]) -> Option<(&[u8], &[u8])>
     }
 }
 
-/// The first word, and what stands behind it.
+/// Returns the first word, and what follows it.
 #[tactic(auto, using(crate::proofs::WordLemmas::words_lead, crate::proofs::WordLemmas::words_kept, crate::proofs::WordLemmas::words_whole))]
 pub fn next_word(text: &[u8]) -> Option<(&[u8], &[u8])>
     ensures { MatchOption result (words text.now ≡ [])
@@ -58,7 +58,7 @@ pub enum Arguments<'a> {
     More,
 }
 
-/// The words of a text, in one walk.
+/// Returns the words of a text, in one walk.
 pub fn cut_arguments(text: &[u8]) -> Arguments<'_>
     ensures { AreArguments result (words text.entry.now) }
 {
@@ -87,7 +87,7 @@ pub fn none(text: &[u8]) -> Result<(), LineFault>
     }
 }
 
-/// The only word.
+/// Returns the only word.
 pub fn one(text: &[u8]) -> Result<&[u8], LineFault>
     ensures { MatchResult result (λ word. one_word (words text.entry.now) ≡ Ok word.now)
         (λ e. one_word (words text.entry.now) ≡ Err e) }

@@ -1,4 +1,4 @@
--- What stands under each serial as an entry comes into a place or leaves it.
+-- The value under each activity id as an entry comes into a place or leaves it.
 use Rattle.std.proofs.Common.{◌≡◌, ◌≢◌, ◌<◌, ◌≤◌, ℕ, true, false, cond, nat_eq, ◌⊎◌, inl, inr, Option, None, Some, Result, Ok, Err, List, [], ◌∷◌, length, get_or, set, get_or-set_same, get_or-set_other, refl, sym, ap, subst, ◌∙◌, arith}
 use Rattle.std.proofs.lemmas.List.{get_or_past}
 use Rattle.std.specs.HashMap.{HashMap, get, hash_map_len}
@@ -28,11 +28,11 @@ nothing_in {T} far none serial = ap (λ (es : List (ℕ × T)). lookup (nat_eq s
     empty (e ∷ es) h = absurd (omega (arith, h))
 
 module _ {T : Type 0} (near : List (Option (Entry T))) (mask : ℕ) where
-  -- what holds where a place has this entry or none, and else as before
+  -- what holds if a place has this entry or none, and else as before
   at_place : (far : ℕ → Option T) (slot : Option (Entry T)) (serial : ℕ) → place mask serial < length near → in_parts (set near (place mask serial) slot) mask far serial ≡ or_else (value_in slot serial) (far serial)
   at_place far slot serial within = ap (λ e. or_else (value_in e serial) (far serial)) (get_or-set_same near (place mask serial) slot None within)
 
-  -- of another serial, where neither what comes nor what goes is its
+  -- of another activity id, which neither the new nor the old entry has
   elsewhere : (far : ℕ → Option T) (slot : Option (Entry T)) (at other : ℕ) → at < length near → value_in slot other ≡ None → value_in (get_or near at None) other ≡ None → in_parts (set near at slot) mask far other ≡ in_parts near mask far other
   elsewhere far slot at other within new old = elim (eq_cases (place mask other) at) [
     | inl e ↦
@@ -57,7 +57,7 @@ module _ {T : Type 0} (near : List (Option (Entry T))) (mask : ℕ) where
       entry : Entry T
       entry = record { serial = serial; value = value }
 
-  -- a value comes into the map, where the place has another's entry
+  -- a value comes into the map, if the place has another's entry
   pub put_far : (far new : ℕ → Option T) (serial : ℕ) (value : Option T) → value_in (get_or near (place mask serial) None) serial ≡ None
       → ((other : ℕ) → new other ≡ cond (nat_eq serial other) value (far other))
       → (other : ℕ) → in_parts near mask new other ≡ cond (nat_eq serial other) value (in_parts near mask far other)
@@ -87,7 +87,7 @@ module _ {T : Type 0} (near : List (Option (Entry T))) (mask : ℕ) where
     | inr ne' ↦ let q : None ≡ Some value = sym (ap (λ b. cond b (Some entry.value) None) (differs entry.serial serial ne')) ∙ is in cc
   ]
 
-  -- an entry leaves its place, and the map has nothing of its serial
+  -- an entry leaves its place, and the map has nothing of its activity id
   pub take_near : (far new : ℕ → Option T) (serial : ℕ) (value : T) → value_in (get_or near (place mask serial) None) serial ≡ Some value
       → ((other : ℕ) → new other ≡ cond (nat_eq serial other) None (far other))
       → (other : ℕ) → in_parts (set near (place mask serial) None) mask new other ≡ cond (nat_eq serial other) None (in_parts near mask far other)
@@ -105,7 +105,7 @@ module _ {T : Type 0} (near : List (Option (Entry T))) (mask : ℕ) where
       within : place mask serial < length near
       within = there serial value is
 
-  -- an entry comes in place of one of the same serial
+  -- an entry replaces one of the same activity id
   pub replace_near : (far : ℕ → Option T) (serial : ℕ) (was value : T) → value_in (get_or near (place mask serial) None) serial ≡ Some was
       → (other : ℕ) → in_parts (set near (place mask serial) (Some (record { serial = serial; value = value }))) mask far other ≡ cond (nat_eq serial other) (Some value) (in_parts near mask far other)
   replace_near far serial was value is = put_near far serial value (there serial was is) (λ other h. value_of (get_or near (place mask serial) None) serial other was is (λ e. apart serial other h e))
@@ -114,7 +114,7 @@ module _ {T : Type 0} (near : List (Option (Entry T))) (mask : ℕ) where
 pub no_places : {T : Type 0} (near : List (Option (Entry T))) (mask : ℕ) (far : ℕ → Option T) (serial : ℕ) → ((at : ℕ) → get_or near at None ≡ None) → in_parts near mask far serial ≡ far serial
 no_places near mask far serial none = ap (λ e. or_else (value_in e serial) (far serial)) (none (place mask serial))
 
--- what holds in any case holds where it went well
+-- what holds in any case holds if it went well
 pub in_any_case : {A E P : Type 0} (result : Result A E) → P → OnOk result P
 in_any_case (Ok x) p = p
 in_any_case (Err e) p = tt

@@ -1,5 +1,5 @@
-//! Values by serials.
-ghost use Rattle.std.specs.Prelude.{◌≡◌, ◌≤◌, ◌<◌, ◌+◌, ◌^◌, ℕ, nat_eq, None, Some, IsSome, OnOk, true, false, if◌then◌else◌, length, min, slice_index_or, slice_set};
+//! Values by activity id.
+ghost use Rattle.std.specs.Prelude.{◌≡◌, ◌≤◌, ◌<◌, ◌+◌, ◌^◌, ℕ, nat_eq, None, Some, IsSome, IsNone, OnOk, true, false, if◌then◌else◌, length, min, slice_index_or, slice_set};
 ghost use Rattle.std.specs.HashMap as hash;
 ghost use Rattle.sg_serials.specs.Serials.{at, place as place_spec, room, value_in as value_in_spec, Puts};
 
@@ -10,17 +10,17 @@ use std::collections::HashMap;
 /// The most places.
 const MOST_PLACES: usize = 8192;
 
-/// A value and its serial.
+/// A value and its activity id.
 #[derive(Clone, Copy)]
 pub struct Entry<T> {
     pub(crate) serial: u64,
     pub(crate) value: T,
 }
 
-/// Values by serials. Contracts see for each serial its value or none, and for how many there is room.
+/// Values by activity id. Contracts see for each id its value or none, and for how many there is room.
 ///
-/// Serials that follow one another have places side by side, under their last digits; one whose place another has is in a
-/// map, as all are where no places were made yet. Only `reserve` takes memory.
+/// Consecutive ids have places side by side, under their last digits; an id whose place is taken is in a map, as all are
+/// before places are made. Only `reserve` takes memory.
 #[derive(Drop)]
 pub struct BySerial<T> {
     near: Vec<Option<Entry<T>>>,
@@ -35,7 +35,7 @@ fn place(mask: u64, serial: u64) -> usize
     (serial & mask) as usize
 }
 
-// The value of an entry, where it is of this serial.
+// Returns the value of an entry, if it has this id.
 fn value_in<T: Copy>(entry: &Option<Entry<T>>, serial: u64) -> Option<T>
     ensures { result ≡ value_in_spec entry.now serial }
 {
@@ -51,7 +51,7 @@ fn value_in<T: Copy>(entry: &Option<Entry<T>>, serial: u64) -> Option<T>
     }
 }
 
-// The value in a place, where its entry is of this serial.
+// Returns the value in a place, if its entry has this id.
 fn near_value<T: Copy>(near: &[Option<Entry<T>>], at: usize, serial: u64) -> Option<T>
     ensures { result ≡ value_in_spec (slice_index_or near.now at None) serial }
 {
@@ -62,7 +62,7 @@ fn near_value<T: Copy>(near: &[Option<Entry<T>>], at: usize, serial: u64) -> Opt
     }
 }
 
-// Whether a place may take an entry of this serial: it is there, and has no other's.
+// Returns whether a place may take an entry of this id: it exists, and has no other id's entry.
 fn is_open<T: Copy>(near: &[Option<Entry<T>>], at: usize, serial: u64) -> bool
     ensures there { result ≡ true → at < length near.now }
     ensures free { result ≡ true → (other : ℕ) → nat_eq serial other ≡ false
@@ -98,7 +98,7 @@ fn put_place<T: Copy + Drop>(near: &mut [Option<Entry<T>>], at: usize, entry: En
     }
 }
 
-// The value in the map.
+// Returns the value in the map.
 fn far_value<T: Copy>(far: &HashMap<u64, T>, serial: u64) -> Option<T>
     ensures { result ≡ hash.get nat_eq far.now serial }
 {
@@ -121,11 +121,12 @@ fn remove_far<T: Copy + Drop>(far: &mut HashMap<u64, T>, serial: u64) -> Option<
     far.remove(&serial)
 }
 
-// Writes a value over the one in the map, if there is one, and answers what was there.
+// Writes a value over the one in the map, if there is one, and returns what was there.
 fn replace_far<T: Copy + Drop>(far: &mut HashMap<u64, T>, serial: u64, value: T) -> Option<T>
     ensures was { result ≡ hash.get nat_eq far.old serial }
     ensures is { IsSome result → (other : ℕ) → hash.get nat_eq far.new other
         ≡ (if nat_eq serial other then Some value else hash.get nat_eq far.old other) }
+    ensures kept { IsNone result → far.new ≡ far.old }
     ensures room { hash.spare far.new ≡ hash.spare far.old }
 {
     match far.get_mut(&serial) {
@@ -151,7 +152,7 @@ fn put_far<T: Copy + Drop>(far: &mut HashMap<u64, T>, serial: u64, value: T)
     }
 }
 
-// How many places are made for so many values: a power of two of at least twice as many, but at most MOST_PLACES.
+// Returns how many places are made for so many values: a power of two, at least twice as many, at most `MOST_PLACES`.
 fn count_for(n: usize) -> usize
     ensures { 0 < result }
 {
@@ -162,7 +163,7 @@ fn count_for(n: usize) -> usize
     count
 }
 
-// So many places that no entry has.
+// Adds so many places that no entry has.
 fn add_places<T: Copy + Drop>(near: &mut Vec<Option<Entry<T>>>, n: usize) -> Result<(), Memory>
     ensures { (at : ℕ) → slice_index_or near.new.items at None
         ≡ slice_index_or near.old.items at None }
@@ -177,7 +178,7 @@ fn add_places<T: Copy + Drop>(near: &mut Vec<Option<Entry<T>>>, n: usize) -> Res
 }
 
 impl<T: Copy + Drop> BySerial<T> {
-    /// No values, and no room.
+    /// Makes a state without values and room.
     pub fn new(alloc: Global) -> BySerial<T>
         ensures { (serial : ℕ) → at result serial ≡ None }
     {
@@ -188,7 +189,7 @@ impl<T: Copy + Drop> BySerial<T> {
         }
     }
 
-    // Makes places, where there are none yet.
+    // Makes places, if there are none yet.
     fn make_places(&mut self, n: usize) -> Result<(), Memory>
         ensures same { (serial : ℕ) → at self.new serial ≡ at self.old serial }
         ensures room { room self.new ≡ room self.old }
@@ -202,7 +203,7 @@ impl<T: Copy + Drop> BySerial<T> {
         Ok(())
     }
 
-    /// Makes room for so many values more. Where it is made for the first time, its number says how many places there are.
+    /// Makes room for so many more values. If it is made for the first time, its number says how many places there are.
     pub fn reserve(&mut self, n: usize) -> Result<(), Memory>
         ensures same { (serial : ℕ) → at self.new serial ≡ at self.old serial }
         ensures room { OnOk result (n ≤ room self.new) }
@@ -212,7 +213,7 @@ impl<T: Copy + Drop> BySerial<T> {
         self.make_places(n)
     }
 
-    /// Lets most of the memory go where there are few of the many values that there were; room for so many more stays.
+    /// Lets most of the memory go if there are few of the many values that there were; room for so many more stays.
     pub fn trim(&mut self, n: usize)
         ensures same { (serial : ℕ) → at self.new serial ≡ at self.old serial }
         ensures room { min n (room self.old) ≤ room self.new }
@@ -223,7 +224,7 @@ impl<T: Copy + Drop> BySerial<T> {
         }
     }
 
-    /// The value of a serial.
+    /// Returns the value of an activity id.
     pub fn get(&self, serial: u64) -> Option<T>
         ensures { result ≡ at self.now serial }
     {
@@ -233,7 +234,7 @@ impl<T: Copy + Drop> BySerial<T> {
         }
     }
 
-    /// Gives a serial a value, in place of the one that it has, if any.
+    /// Gives an activity id a value, in place of the one that it has, if any.
     pub fn insert(&mut self, serial: u64, value: T)
         requires { 0 < room self.old }
         ensures puts { Puts serial (Some value) self.old self.new }
@@ -247,10 +248,11 @@ impl<T: Copy + Drop> BySerial<T> {
         }
     }
 
-    /// Gives a serial that has a value another, which takes no room, and answers the one that it had.
+    /// Gives an activity id that has a value another, which takes no room, and returns the old one.
     pub fn replace(&mut self, serial: u64, value: T) -> Option<T>
         ensures was { result ≡ at self.old serial }
         ensures puts { IsSome result → Puts serial (Some value) self.old self.new }
+        ensures kept { IsNone result → self.new ≡ self.old }
         ensures room { room self.new ≡ room self.old }
     {
         let at = place(self.mask, serial);
@@ -263,7 +265,7 @@ impl<T: Copy + Drop> BySerial<T> {
         }
     }
 
-    /// Takes the value of a serial, if it has one.
+    /// Removes and returns the value of an activity id, if it has one.
     pub fn remove(&mut self, serial: u64) -> Option<T>
         ensures was { result ≡ at self.old serial }
         ensures puts { Puts serial None self.old self.new }

@@ -1,6 +1,6 @@
-//! Values by the serials of activities.
-//! One enters by `BySerial`: `insert`, `get` and `remove` find a serial in the place that its last digits say, which is
-//! free for it where not many more serials are there at once than room was made for at first; the others are in a hash map.
+//! Values by activity id.
+//! The type is `BySerial`: `insert`, `get` and `remove` find an id in the place under its last digits, which is free if few
+//! more ids are in use at once than room was made for at first; the others are in a hash map.
 //! It stands on `sg_base`.
 #![tactic(auto)]
 

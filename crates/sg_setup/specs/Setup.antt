@@ -34,12 +34,15 @@ pub record Setup : Type 0 where
   pub members : ℕ
   pub budget : ℕ
 
-abbrev pub power_of : rows.Power → Power
-power_of power = record { idle = power.idle; epsilon = power.epsilon; all = power.all; off = power.off }
+-- the power of a host in milliwatts, as the simulation uses it: idle, nearly idle, at full load, off
+abbrev pub power_of_row : rows.Power → Power
+power_of_row power = record { idle = power.idle; epsilon = power.epsilon; all = power.all; off = power.off }
 
+-- what a host offers the simulation: its speed and its cores, with its power if declared
 abbrev pub host_cap : HostRow → HostCap
-host_cap host = record { speed = host.speed; cores = host.cores; power = option_map power_of host.power }
+host_cap host = record { speed = host.speed; cores = host.cores; power = option_map power_of_row host.power }
 
+-- a link of this bandwidth, FATPIPE or not
 abbrev pub link_cap : ℕ → Bool → LinkCap
 link_cap bandwidth fatpipe = record { bandwidth = bandwidth; fatpipe = fatpipe }
 
@@ -57,18 +60,22 @@ caps_in network row = caps_of row.policy (bandwidth_over network row.bandwidth)
 abbrev pub link_caps : Network → List LinkRow → List LinkCap
 link_caps network rows = flat_map (caps_in network) rows ++ link_cap 498000000 true ∷ []
 
+-- the number of the host on which an actor is deployed
 abbrev pub home_of : ActorRow → ℕ
 home_of actor = actor.host.0
 
+-- whether a function is replay: its actor takes actions from the script
 abbrev pub is_replay : Function → Bool
 is_replay Replay = true
 is_replay Worker = false
 is_replay (Master tasks flops bytes workers) = false
 is_replay (Churn seed next prev steps) = false
 
+-- whether an actor takes its actions from the script, and so is a member of collectives
 abbrev pub replays : ActorRow → Bool
 replays actor = is_replay actor.function
 
+-- the capacity of a semaphore at the start of the run
 abbrev pub capacity_of : SemaphoreRow → ℕ
 capacity_of semaphore = semaphore.capacity
 

@@ -1,10 +1,10 @@
-//! What a platform and a deployment give to a simulation, row by row. An `Err` says that memory is wanting.
+//! What a platform and a deployment give to a simulation, row by row. An `Err` says that memory ran out.
 ghost use Rattle.std.specs.Prelude.{◌≡◌, ◌≤◌, ◌++◌, All, IfOk, OnOk, length, map, option_map};
 ghost use Rattle.std.specs.List.{count_by};
 ghost use Rattle.sg_rows.specs.Deployment.{starts};
 ghost use Rattle.sg_rows.specs.Network.{IsNetwork};
 ghost use Rattle.sg_rows.specs.Platform.{IsLinkRow};
-ghost use Rattle.sg_setup.specs.Setup.{capacity_of, caps_in, host_cap, is_replay, link_cap, link_caps, power_of, replays};
+ghost use Rattle.sg_setup.specs.Setup.{capacity_of, caps_in, host_cap, is_replay, link_cap, link_caps, power_of_row, replays};
 
 use sg_base::{Memory, PointId};
 use sg_lives::{HostCap, LinkCap, Power};
@@ -14,9 +14,9 @@ use std::alloc::Global;
 /// The bandwidth of the loopback, in bytes a second.
 const LOOPBACK_BANDWIDTH: u64 = 498_000_000;
 
-// What a host draws, as its row says.
+// Returns what a host draws, as its row says.
 fn power(row: &HostRow) -> Option<Power>
-    ensures { result ≡ option_map power_of row.now.power }
+    ensures { result ≡ option_map power_of_row row.now.power }
 {
     match row.power {
         Some(power) => Some(Power {
@@ -29,7 +29,7 @@ fn power(row: &HostRow) -> Option<Power>
     }
 }
 
-/// What the host of each row offers and draws, in the order of the rows.
+/// Returns what the host of each row offers and draws, in the order of the rows.
 pub fn hosts(alloc: Global, rows: &[HostRow]) -> Result<Vec<HostCap>, Memory>
     ensures { IfOk result (λ hosts. hosts.items ≡ map host_cap rows.now) }
 {
@@ -50,7 +50,7 @@ fn link(bandwidth: u64, fatpipe: bool) -> LinkCap
     LinkCap { bandwidth, fatpipe }
 }
 
-// Puts the links of a row behind.
+// Appends the links of a row.
 fn add_links(links: &mut Vec<LinkCap>, network: Network, row: &LinkRow) -> Result<(), Memory>
     requires network { IsNetwork network }
     requires row { IsLinkRow row.now }
@@ -68,7 +68,8 @@ fn add_links(links: &mut Vec<LinkCap>, network: Network, row: &LinkRow) -> Resul
     Ok(())
 }
 
-/// The links in declared order, whose bandwidths have the network's factor, and last the loopback, which has none.
+/// Returns the links in declared order, whose bandwidths have the network's factor, and last the loopback, which has
+/// none.
 pub fn links(alloc: Global, network: Network, rows: &[LinkRow]) -> Result<Vec<LinkCap>, Memory>
     requires network { IsNetwork network }
     requires rows { All IsLinkRow rows.now }
@@ -82,7 +83,7 @@ pub fn links(alloc: Global, network: Network, rows: &[LinkRow]) -> Result<Vec<Li
     Ok(links)
 }
 
-/// The host of each actor.
+/// Returns the host of each actor.
 pub fn homes(alloc: Global, actors: &[ActorRow]) -> Result<Vec<PointId>, Memory>
     ensures { IfOk result (λ homes. homes.items ≡ map (λ actor. actor.host) actors.now) }
 {
@@ -93,7 +94,7 @@ pub fn homes(alloc: Global, actors: &[ActorRow]) -> Result<Vec<PointId>, Memory>
     Ok(homes)
 }
 
-/// Whether each actor starts with the run.
+/// Returns whether each actor starts with the run.
 pub fn starts(alloc: Global, actors: &[ActorRow]) -> Result<Vec<bool>, Memory>
     ensures { IfOk result (λ starting. starting.items ≡ map starts actors.now) }
 {
@@ -104,7 +105,7 @@ pub fn starts(alloc: Global, actors: &[ActorRow]) -> Result<Vec<bool>, Memory>
     Ok(starts)
 }
 
-/// The capacity of each semaphore.
+/// Returns the capacity of each semaphore.
 pub fn capacities(alloc: Global, rows: &[SemaphoreRow]) -> Result<Vec<u64>, Memory>
     ensures { IfOk result (λ capacities. capacities.items ≡ map capacity_of rows.now) }
 {
@@ -124,7 +125,7 @@ fn is_replay(function: &Function) -> bool
     }
 }
 
-/// How many actors replay.
+/// Returns how many actors replay.
 pub fn members(actors: &[ActorRow]) -> u32
     requires { length actors.now ≤ 65536 }
     ensures { result ≡ count_by replays actors.now }

@@ -15,7 +15,7 @@ use Rattle.sg_lazy.proofs.Reached.{or_true, both_true, spread_cases}
 use Rattle.sg_filling.proofs.Listing.{eq_cases}
 use Rattle.sg_lazy.proofs.Slots.{sum_written}
 
--- where no flow uses two resources, spreading reaches nothing more
+-- if no flow uses two resources, spreading reaches nothing more
 reaches_first : (flows : List Flow) (first : ℕ → Bool) → ((f : Flow) → In f flows → (a b : ℕ) → is_on a f ≡ true → is_on b f ≡ true → a ≡ b) → (n c : ℕ) → reach n flows first c ≡ true → first c ≡ true
 unfolding reach
 reaches_first flows first one zero c e = e
@@ -44,7 +44,8 @@ on_it f resource u = ap (list_any (λ used. used == resource)) u ∙ ap (λ b. b
 on_same : (f : Flow) → UsesOne f → (a b : ℕ) → is_on a f ≡ true → is_on b f ≡ true → a ≡ b
 on_same f one a b p q = sym (on_one f one.0 a one.1 p) ∙ on_one f one.0 b one.1 q
 
--- where all that is marked uses one resource, and no other's capacity changed, a flow that is joined to these uses it too
+-- if all that is marked uses one resource, and no other's capacity changed, a flow in the same connected component uses
+-- it too
 joined_on : (running : List RunningFlow) (resources : List ℕ) (resource : ℕ) → ((r : RunningFlow) → In r running → UsesOne r.flow) → ((r : RunningFlow) → In r running → r.marked ≡ true → r.flow.uses ≡ resource ∷ []) → ((c : ℕ) → is_in c resources ≡ true → resource ≡ c) →
     (r : RunningFlow) → In r running → is_joined running [] resources r ≡ true → is_on resource r.flow ≡ true
 unfolding is_joined
@@ -99,7 +100,8 @@ few_looks m u h k =
     let two : m + u ≤ 4 = omega (arith, h, k) in
     omega (arith, mul-le-mul one two)
 
--- A flow that begins on a resource with one flow at most, where nothing else began or ended: two flows are touched, and have two uses.
+-- A flow that begins on a resource with one flow at most, if nothing else began or ended: two flows are touched, and
+-- have two uses.
 pub second_works : (slots : List (Option RunningFlow)) (id resource : ℕ) (second : RunningFlow) → id < length slots → running_at slots id ≡ None → second.flow.uses ≡ resource ∷ [] →
     ((other : ℕ) (r : RunningFlow) → running_at slots other ≡ Some r → UsesOne r.flow) → ((other : ℕ) (r : RunningFlow) → running_at slots other ≡ Some r → r.marked ≡ false) → users_of resource slots ≤ 1 →
     work (running_flows (set slots id (Some second))) [] [] ≤ 48

@@ -74,7 +74,7 @@ same_flows (Some x ∷ xs) (Some y ∷ ys) l e = ap (λ f. f ∷ flows_in xs) (s
     same_flow : (a b : Flow) → Some a ≡ Some b → a ≡ b
     same_flow a b h = cc h
 
--- a settling changes no flow
+-- a rate update changes no flow
 pub one_settled : (s t : Lazily) (count : ℕ) → IsSettled s t → IsOneEach count s → IsOneEach count t
 one_settled s t count settled each =
     let flows = same_flows t.slots s.slots settled.numbers settled.flows in

@@ -18,7 +18,7 @@ is_none : {X : Type 0} (o : Option X) → o ≡ None → IsSome o → ⊥
 is_none None e h = cc h
 is_none (Some x) e h = none_some x (sym e)
 
--- what is there stays there, where one that is there is written
+-- what is there stays there, if one that is there is written
 pub still_there : {X : Type 0} (xs : List (Option X)) (id : ℕ) (y : Option X) (other : ℕ) → IsSome y → IsSome (get_or xs other None) → IsSome (get_or (set xs id y) other None)
 still_there xs id y other some h = elim (eq_cases other id) [
   | inr ne ↦ ap is_some (get_or-set_other xs id other y None ne) ∙ h
@@ -32,7 +32,7 @@ still_there xs id y other some h = elim (eq_cases other id) [
     below q (inl l) = omega (arith, q, l)
     below q (inr past) = absurd (is_none (get_or xs other None) (get_or_past xs other None past) h)
 
--- where each flow goes on, and no number changes its twin
+-- each flow runs on in its place, and no number changes its twin
 pub pairs_stay : (a b : Lazily) (s t : Sharing) (twins twins' : List (Option ℕ)) → ArePaired a s twins → length b.capacities ≡ length a.capacities → length t.capacities ≡ length s.capacities → ((id : ℕ) → IsSome (running_at a.slots id) → IsSome (running_at b.slots id)) → ((id : ℕ) → IsSome (flow_at s.slots id) → IsSome (flow_at t.slots id)) →
     ((id : ℕ) → twin_of twins' id ≡ twin_of twins id) → ArePaired b t twins'
 pairs_stay a b s t twins twins' paired caps whole_caps run held same = record {

@@ -1,4 +1,5 @@
--- Flows that run in a filling of what changes and in one of the whole.
+-- Flows that run in a system of which only changes are solved and in one that is solved as a
+-- whole.
 use Rattle.std.specs.Prelude.{◌≡◌, ◌<◌, ℕ, Option, None, Some, IsSome, List, length, slice_index_or}
 use Rattle.sg_maxmin.specs.Sharing.{Sharing, flow_at}
 use Rattle.sg_lazy.specs.RunningFlow.{running_at}

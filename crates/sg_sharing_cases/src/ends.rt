@@ -18,7 +18,7 @@ const HOSTS: u32 = 16_384;
 
 const ENDS: u32 = 1_000_000;
 
-// Goes to the next date and ends the first phase that is due: the date, and its serial.
+// Goes to the next date and ends the first phase that completes: the date, and its activity id.
 fn next_end<L: Ledger>(doing: &mut Activities, steps: &mut Steps<L>) -> Option<(u128, u64)>
     requires { length doing.old.under.tasks < 10 ^ 9 }
     ensures tasks { length doing.new.under.tasks ≡ length doing.old.under.tasks }
@@ -55,7 +55,7 @@ fn hosts_of_speeds(alloc: Global) -> Result<Vec<HostCap>, Memory>
     Ok(hosts)
 }
 
-// The execution of this number on a host, of a million flops, begins; both are noted under its serial.
+// Begins the execution of this number on a host, of a million flops; both are noted under its activity id.
 fn compute(
     doing: &mut Activities,
     host: u32,
@@ -73,12 +73,13 @@ fn compute(
     Ok(())
 }
 
-// When so many executions of a million flops, one after the other, are over on the host.
+// Returns when so many executions of a million flops, one after the other, have completed on the host.
 fn over_at(host: u32, number: u64) -> u128 {
     u128::from(number) * u128::from(1_000_000_000_000_000u64.div_ceil(u64::from(host) + 1))
 }
 
-// The next execution ends when all those on its host up to it are over, whatever goes on elsewhere. Another begins there.
+// Checks that the next execution ends when all those on its host up to it have, whatever runs elsewhere, and begins
+// another there.
 fn compute_anew<L: Ledger>(
     rt: &impl Abort,
     doing: &mut Activities,
@@ -131,7 +132,7 @@ fn ends_as_stated<L: Ledger>(rt: &impl Abort, alloc: Global, blank: Blank) -> Re
     compute_long(rt, &mut doing, &mut noted, &mut steps)
 }
 
-// A body that looks at all hosts, or copies all uses, at each end doesn't come to the end of it in time.
+// An implementation that visits all hosts, or copies all uses, at each end doesn't finish in time.
 #[test]
 fn touched_scale(rt: HostRuntime) -> Result<(), Fail> {
     ends_as_stated::<Brand>(&rt, rt.alloc(), Blank::new(1))?;

@@ -1,4 +1,4 @@
-//! What a second execution on a host, and another speed of it, change among 100 hosts, and how much they look at.
+//! What a second execution on a host, and another speed of it, change among 100 hosts, and how many visits that takes.
 ghost use Rattle.std.specs.Prelude.{◌<◌, ◌≤◌, ◌+◌, OnOk};
 ghost use Rattle.sg_sharing_cases.specs.Ledgers.{IsBlankOf};
 ghost use Rattle.sg_sharing_cases.specs.OneEach.{HasOneAt, IsCalm, IsIdle, IsOneEach};
@@ -14,7 +14,7 @@ use std::test::Fail;
 
 const HOSTS: usize = 100;
 
-// One execution on each of 100 hosts, settled; the numbers of the flows are put behind.
+// Starts one execution on each of 100 hosts and updates the rates; the numbers of the flows are appended.
 fn one_each<L: Ledger>(
     lazy: &mut Lazy,
     flows: &mut Vec<usize>,
@@ -33,7 +33,7 @@ fn one_each<L: Ledger>(
     Ok(())
 }
 
-// A second execution on a host, settled with no more looks than its two flows allow.
+// Adds a second execution on a host, and updates the rates with no more visits than its two flows allow.
 fn add_second<L: Ledger>(lazy: &mut Lazy, host: usize, steps: &mut Steps<L>) -> usize
     requires { HasOneAt host lazy.old }
     ensures { steps.new ≤ steps.old + 48 }
@@ -86,7 +86,7 @@ fn second_execution_changes_two(rt: HostRuntime) -> Result<(), Fail> {
     Ok(())
 }
 
-// Another speed of a host, settled with no more looks than its one flow allows.
+// Changes the speed of a host, and updates the rates with no more visits than its one flow allows.
 fn slow_host<L: Ledger>(lazy: &mut Lazy, host: usize, speed: u64, steps: &mut Steps<L>)
     requires { HasOneAt host lazy.old }
     ensures { steps.new ≤ steps.old + 16 }

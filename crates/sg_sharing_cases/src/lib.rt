@@ -1,5 +1,5 @@
 //! Tests of shares, rates, dates, energies and paths, of what no whole run shows: worked systems, rates beside those of
-//! a filling of the whole, how little an end touches, a million changes of power, and least paths.
+//! a max-min solve of the whole, how little an end touches, a million changes of power, and shortest paths.
 //! One enters by a module of tests, as `settling`; there is nothing else in it.
 //! It stands on `sg_activity`, on `sg_paths`, and what is below these.
 #![tactic(auto)]

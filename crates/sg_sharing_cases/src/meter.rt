@@ -12,7 +12,7 @@ const SECOND: u64 = 1_000_000_000;
 // A power in watts, and a span in nanoseconds.
 type Stretch = (u16, u64);
 
-// What a host has used after two stretches.
+// Returns what a host has used after two stretches.
 fn told(alloc: Global, first: Stretch, second: Stretch) -> Result<(u128, u64), Memory> {
     let mut meter = Meter::new(alloc, 2)?;
     let change = u128::from(first.1);
@@ -22,12 +22,12 @@ fn told(alloc: Global, first: Stretch, second: Stretch) -> Result<(u128, u64), M
     Ok(meter.energy(HOST, end))
 }
 
-// The last date, and what a gigawatt comes to until then.
+// The last date, and the energy of a gigawatt until then.
 const LAST: u128 = 9_999_999_999_999_999_999_999_999_999_999_999;
 
 const GREATEST: (u128, u64) = (9_999_999_999_999_999_999_999_999_999_999, 999_000_000_000);
 
-// What a host has used at the last date, and another one.
+// Returns what a host has used at the last date, and another one.
 fn greatest(alloc: Global) -> Result<[(u128, u64); 2], Memory> {
     let mut meter = Meter::new(alloc, 2)?;
     meter.set(HOST, SECOND, 0);
@@ -37,7 +37,7 @@ fn greatest(alloc: Global) -> Result<[(u128, u64); 2], Memory> {
 
 #[test]
 fn runs_cost_so_much(rt: HostRuntime) -> Result<(), Fail> {
-    // of a host of 200 W when it is busy, 120 W where an execution gets nothing, 100 W when idle, 5 W when off
+    // of a host of 200 W when it is busy, 120 W if an execution gets nothing, 100 W when idle, 5 W when off
     let table = [
         // busy for a second; the same with two cores, of which one is busy
         ((200, SECOND), (100, 0), (200, 0)),

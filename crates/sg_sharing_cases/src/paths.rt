@@ -1,4 +1,4 @@
-//! Least paths of small networks. What is expected was found by a search in another language.
+//! Shortest paths of small networks. The expected ones were found by a search in another language.
 ghost use Rattle.std.specs.Prelude.{◌≡◌, ◌<◌, IfOk};
 
 use sg_base::{LinkId, Links, Memory};
@@ -16,7 +16,7 @@ struct Case {
 }
 
 const CASES: &[Case] = &[
-    // Two links are fewer than a route of three; one way back is missing.
+    // Two links are fewer than a route of three; one reverse route is missing.
     Case {
         routes: &[(0, 1, &[0]), (1, 2, &[1]), (0, 2, &[2, 3, 4])],
         searches: &[
@@ -124,7 +124,7 @@ fn network(alloc: Global, rows: &[(u32, u32, &[u32])]) -> Result<Paths, Memory>
     Paths::build(alloc, POINTS, routes.as_slice())
 }
 
-/// Whether a search gives these links.
+/// Returns whether a search gives these links.
 fn gives(paths: &mut Paths, from: u32, to: u32, expected: Option<&[u32]>) -> bool
     ensures { paths.new ≡ paths.old }
 {
@@ -153,7 +153,7 @@ fn same(links: &[LinkId], numbers: &[u32]) -> bool {
     true
 }
 
-/// How many searches give what is expected of them.
+/// Returns how many searches give what is expected of them.
 fn right(paths: &mut Paths, searches: &[(u32, u32, Option<&[u32]>)]) -> usize
     requires { paths.old.points ≡ POINTS }
 {

@@ -1,4 +1,4 @@
-//! Settlings beside fillings of the whole: each rate is the share there.
+//! Rate updates beside max-min solves of the whole: each rate is the share there.
 ghost use Rattle.std.specs.Prelude.{◌≡◌, ◌<◌, ◌≤◌, ◌+◌, ℕ, List, Option, [], IfOk, IsSome, OnOk, length};
 ghost use Rattle.sg_maxmin.specs.Fill.{flow};
 ghost use Rattle.sg_maxmin.specs.Sharing.{IsFlow, flow_at};
@@ -18,7 +18,7 @@ use std::test::Fail;
 
 const RESOURCES: usize = 6;
 
-// what a resource may come to offer
+// the capacities that a resource may have
 const CAPACITIES: [u64; 6] = [0, 5, 17, 300, 1_000_000, 1 << 60];
 
 const SETTLINGS: usize = 500;
@@ -27,13 +27,13 @@ const SETTLINGS: usize = 500;
 #[derive(Drop)]
 struct Draw {
     state: u64,
-    // how many changes come between two settlings
+    // how many changes come between two rate updates
     changes: usize,
     picked: Marks,
 }
 
 impl Draw {
-    // One of the numbers below n.
+    // Returns one of the numbers below n.
     fn below(&mut self, n: usize) -> usize
         requires { 0 < n }
         ensures below { result < n }
@@ -59,7 +59,7 @@ impl Draw {
         }
     }
 
-    // A bound, or none; where no resource is picked there is one.
+    // Returns a bound, or none; if no resource is picked there is one.
     fn bound(&mut self) -> Option<u64>
         ensures some { self.old.picked.members ≡ [] → IsSome result }
         ensures picked { self.new.picked ≡ self.old.picked }
@@ -115,7 +115,7 @@ fn start(
     Ok(())
 }
 
-// A flow that is drawn starts in both.
+// Starts a drawn flow in both.
 fn start_one(
     draw: &mut Draw,
     lazy: &mut Lazy,
@@ -131,7 +131,7 @@ fn start_one(
     start(draw.picked.members(), weight, bound, lazy, whole, twins)
 }
 
-// One of the resources gets another capacity in both.
+// Gives one of the resources another capacity in both.
 fn change_capacity(draw: &mut Draw, lazy: &mut Lazy, whole: &mut System)
     requires lazy { length lazy.old.capacities ≡ 6 }
     requires whole { length whole.old.capacities ≡ 6 }
@@ -144,7 +144,7 @@ fn change_capacity(draw: &mut Draw, lazy: &mut Lazy, whole: &mut System)
     whole.set_capacity(resource, capacity);
 }
 
-// A flow gets another bound in both, which may be 0.
+// Gives a flow another bound in both, which may be 0.
 fn change_bound(draw: &mut Draw, lazy: &mut Lazy, whole: &mut System, id: usize, twin: usize)
     requires runs { IsSome (running_at lazy.old.slots id) }
     requires held { IsSome (flow_at whole.old.slots twin) }
@@ -156,7 +156,7 @@ fn change_bound(draw: &mut Draw, lazy: &mut Lazy, whole: &mut System, id: usize,
     whole.set_bound(twin, bound);
 }
 
-// A number is drawn: the flow that has it gets another bound or ends in both, and where there is none one starts.
+// Draws a number: the flow that has it gets another bound or ends in both, and if no flow has it one starts.
 fn change_flow(
     draw: &mut Draw,
     lazy: &mut Lazy,
@@ -182,7 +182,7 @@ fn change_flow(
     }
 }
 
-// The changes between two settlings: a capacity changes, or a flow starts, ends or gets another bound.
+// Makes the changes between two rate updates: a capacity changes, or a flow starts, ends or gets another bound.
 fn change_some(
     draw: &mut Draw,
     lazy: &mut Lazy,
@@ -202,7 +202,7 @@ fn change_some(
     Ok(())
 }
 
-// Each rate is the share in the filling of the whole.
+// Checks that each rate is the share in the max-min solve of the whole.
 fn compare(rt: &impl Abort, lazy: &Lazy, whole: &System, twins: &[Option<usize>])
     requires { ArePaired lazy.now whole.now twins.now }
 {
@@ -213,7 +213,7 @@ fn compare(rt: &impl Abort, lazy: &Lazy, whole: &System, twins: &[Option<usize>]
     }
 }
 
-// Settles 500 times, each time after some changes, and compares the rates.
+// Updates the rates 500 times, each time after some changes, and compares them.
 fn settle_often<L: Ledger>(
     rt: &impl Abort,
     draw: &mut Draw,
@@ -233,7 +233,7 @@ fn settle_often<L: Ledger>(
     Ok(())
 }
 
-// No flow yet, on resources with these capacities.
+// Makes resources with these capacities and no flow yet.
 fn lazy_on(alloc: Global, capacities: &[u64]) -> Result<Lazy, Memory>
     ensures { IfOk result (IsFresh capacities.now) }
 {
@@ -241,7 +241,7 @@ fn lazy_on(alloc: Global, capacities: &[u64]) -> Result<Lazy, Memory>
     Lazy::new(alloc, system)
 }
 
-// On these resources, where about half of so many flows run at once.
+// Compares the rates on these resources, with about half of so many flows running at once.
 fn agrees_with_the_whole<L: Ledger>(
     rt: &impl Abort,
     alloc: Global,

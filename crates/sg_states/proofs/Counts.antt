@@ -1,4 +1,4 @@
--- Counts of the elements that pass a test.
+-- Counts of the elements that meet a test.
 use Rattle.std.proofs.Common.{◌≡◌, ℕ, zero, suc, ◌+◌, ◌*◌, ◌<◌, ◌≤◌, ◌==◌, Bool, true, false, cond, get_or, set, replicate, ◌&&◌, ◌||◌, nat_lt, List, [], ◌∷◌, length, count_by, refl, ap, ◌∙◌, arith}
 use Rattle.std.specs.List.{list_all, list_any}
 use Rattle.std.proofs.lemmas.List.Folds.{sum_by-replicate}
@@ -42,7 +42,7 @@ count_any p (x ∷ xs) = cases (p x) (count-cons p x xs) (count_any p xs)
         let same : count_by p (x ∷ xs) ≡ count_by p xs = omega (arith, e) in
         ap (nat_lt 0) same ∙ h
 
--- not all are counted, where one doesn't pass
+-- not all are counted, if one doesn't pass
 pub counted_less : {X : Type 0} (p : X → Bool) (xs : List X) (i : ℕ) (d : X) → i < length xs → p (get_or xs i d) ≡ false → count_by p xs < length xs
 counted_less p [] i d within isnt = absurd (omega (arith, within))
 counted_less p (x ∷ xs) zero d within isnt = let none : ◌≡◌ {A = ℕ} (cond (p x) 1 0) 0 = ap (λ b. cond b 1 0) isnt in omega (arith, count-cons p x xs, none, count_le p xs)
@@ -52,7 +52,7 @@ counted_less p (x ∷ xs) (suc i) d within isnt = cases (p x) (count-cons p x xs
     cases true e h = omega (arith, e, h)
     cases false e h = omega (arith, e, h)
 
--- one is counted, where one passes
+-- one is counted, if one passes
 pub counted_one : {X : Type 0} (p : X → Bool) (xs : List X) (i : ℕ) (d : X) → i < length xs → p (get_or xs i d) ≡ true → 1 ≤ count_by p xs
 counted_one p xs i d within is =
     let one : ◌≡◌ {A = ℕ} (cond (p (get_or xs i d)) 1 0) 1 = ap (λ b. cond b 1 0) is in

@@ -76,6 +76,6 @@ rest_by target id (a ∷ more) actor rest next is goes = cases (joins target a.s
         ∙ (ap (λ b. cond b (record { 0 = id } ∷ joiners target (id + 1) after) (joiners target (id + 1) after)) was
         ∙ later e)
 
--- as the first one goes on, the others are left
+-- as the first one continues, the others remain
 pub joiners_rest : (target : ℕ) (actors : List Actor) (actor : ActorId) (rest : List ActorId) (next : Actor) → joiners target 1 actors ≡ actor ∷ rest → joins target next.state ≡ false → joiners target 1 (put_actor actors actor.0 next) ≡ rest
 joiners_rest target actors actor rest next is goes = rest_by target 1 actors actor rest next is goes

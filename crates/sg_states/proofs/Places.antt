@@ -1,4 +1,4 @@
--- What `partition_point` tells of a list in rising order.
+-- What `partition_point` returns for a list in rising order.
 use Rattle.std.proofs.Common.{◌≡◌, ℕ, ◌<◌, ◌≤◌, true, false, List, length, nat_lt, get_or, inl, inr, ap, arith}
 use Rattle.std.specs.Prelude.{AllPairs}
 use Rattle.std.specs.List.Sorted.{IsNonDecreasingBy, IsPartitionPoint}

@@ -1,4 +1,4 @@
--- Queues of actors, as rounds and passes change them.
+-- Queues of actors, as scheduling rounds and time advances change them.
 use Rattle.std.proofs.Common.{◌≡◌, ◌≢◌, ℕ, zero, suc, ◌-◌, ◌<◌, ◌≤◌, ◌==◌, Bool, true, false, true≢false, cond, List, [], ◌∷◌, ◌++◌, length, set, get_or, count_by, nat_lt, inl, inr, refl, sym, ap, ◌∙◌, arith}
 use Rattle.std.specs.Prelude.{Contains, filter}
 use Rattle.std.specs.List.{list_any}
@@ -58,7 +58,7 @@ contains_filter p (x ∷ xs) y (suc k) within at passes = cases (p x) (contains_
 abbrev pub has_number : ℕ → ActorId → Bool
 has_number id actor = actor.0 == id
 
--- ---- in a round
+-- ---- in a scheduling round
 -- an actor that doesn't get ready may become any other
 pub queue_kept : (actors : List Actor) (queue : List ActorId) (id : ℕ) (next : Actor) → 0 < id → id ≤ length actors → (is_ready next ≡ true → is_ready_in actors id ≡ true) → IsQueue actors queue → IsQueue (set actors (id - 1) next) queue
 queue_kept actors queue id next from to was old = record {
@@ -74,7 +74,7 @@ queue_kept actors queue id next from to was old = record {
       ];
 }
 
--- those that aren't ready are let go
+-- those that aren't ready are removed
 pub queue_filtered : (actors : List Actor) (queue : List ActorId) → IsQueue actors queue → IsQueue actors (filter (λ (actor : ActorId). is_ready_in actors actor.0) queue)
 queue_filtered actors queue old = record {
   rises = AllPairs-filter (λ a b. a.0 < b.0) (λ (actor : ActorId). is_ready_in actors actor.0) queue old.rises;
@@ -82,7 +82,7 @@ queue_filtered actors queue old = record {
   has_ready = λ actor from ready. let has = old.has_ready actor from ready in contains_filter (λ (a : ActorId). is_ready_in actors a.0) queue actor has.0 has.1 has.2 ready;
 }
 
--- ---- in a pass
+-- ---- during a time advance
 none_ready : (actors : List Actor) (i : ℕ) → count_by is_ready actors ≡ 0 → is_ready (get_or actors i (not_suspended Ended)) ≡ false
 none_ready actors i none = elim (cases_lt i (length actors)) [
   | inl less ↦ cases (is_ready (get_or actors i (not_suspended Ended))) refl less

@@ -18,7 +18,7 @@ still_in xs y z place within has =
       | inr past ↦ (has.0 + 1, omega (arith, long, has.1), get_or-insert_above xs place y z has.0 past within ∙ has.2)
     ]
 
--- where P holds of it and of the others
+-- if P holds of it and of the others
 pub all_inserted : {X : Type 0} (P : X → Type 0) (xs : List X) (y : X) (place : ℕ) → place ≤ length xs → P y → All P xs → All P (insert xs place y)
 all_inserted P xs y place within new old = λ k d less.
     let long = length-insert xs place y within in
@@ -33,7 +33,7 @@ all_inserted P xs y place within new old = λ k d less.
       ]
     ]
 
--- at its place, where it isn't there yet
+-- at its place, if it isn't there yet
 pub rises_inserted : {X : Type 0} (key : X → ℕ) (xs : List X) (y : X) (place : ℕ) → AllPairs (λ a b. key a < key b) xs → IsPlace key xs (key y) place → ((k : ℕ) (d : X) → k < length xs → key (get_or xs k d) ≢ key y) → AllPairs (λ a b. key a < key b) (insert xs place y)
 rises_inserted key xs y place rises is none i j d less within =
     let long = length-insert xs place y is.within in

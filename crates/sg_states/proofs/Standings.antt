@@ -39,7 +39,7 @@ standing_moved standing queue queued list listed old new actor next actors is sa
       joiners_fit = omega (arith, long, joiners_room, was.joiners_fit);
     }
 
--- ---- where nobody has started
+-- ---- if nobody has started
 abbrev pub none_of : ℕ → List Actor
 none_of n = replicate n (first_actor false)
 

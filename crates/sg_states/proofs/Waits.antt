@@ -154,7 +154,7 @@ joining_blocked (Ready a) of e = absurd (true≢false (sym (ap is_some_id e)))
 joining_blocked (Blocked what since on) of e = refl
 joining_blocked Ended of e = absurd (true≢false (sym (ap is_some_id e)))
 
--- whoever waits stands at the place of the first or behind it
+-- whoever waits stands at the place of the first or after it
 stands : (actors : List Actor) (list : List Joiner) (target : ActorId) (place k : ℕ) → AreWaiting actors list → IsPlace rank list (rank (record { of = target; actor = record { 0 = 0 } })) place
     → joins target.0 (get_or actors k (not_suspended Ended)).state ≡ true → (m : ℕ) × (place ≤ m) × (m < length list) × ((d : Joiner) → rank (get_or list m d) ≡ target.0 * 2 ^ 32 + (k + 1))
 stands actors list target place k is found waits =

@@ -10,6 +10,7 @@ use Rattle.sg_states.specs.declared.state.Blocking.{Blocking}
 use Rattle.sg_states.specs.declared.state.State.{State}
 use Rattle.sg_states.specs.declared.state.State.TheVariants.{Unstarted, Ready, Blocked, Ended}
 
+-- an actor in this state that is not suspended
 abbrev pub not_suspended : State → Actor
 not_suspended state = record { state = state; suspended = false }
 
@@ -17,6 +18,7 @@ not_suspended state = record { state = state; suspended = false }
 abbrev pub actor_at : List Actor → ℕ → Actor
 actor_at actors actor = slice_index_or actors (actor - 1) (not_suspended Ended)
 
+-- the state of an actor: unstarted, ready, blocked or ended
 abbrev pub state_at : List Actor → ℕ → State
 state_at actors actor = (actor_at actors actor).state
 
@@ -38,6 +40,7 @@ first_actor true = not_suspended (Ready answer.Start)
 first_actor false = not_suspended Unstarted
 
 -- ---- states
+-- whether an actor has not started yet, so that a create may start it
 abbrev pub is_unstarted : State → Bool
 is_unstarted Unstarted = true
 is_unstarted (Ready answer) = false
@@ -57,6 +60,7 @@ is_blocked (Ready answer) = false
 is_blocked (Blocked what since on) = true
 is_blocked Ended = false
 
+-- whether an actor has ended, by its own exit or by a kill
 abbrev pub is_ended : State → Bool
 is_ended Unstarted = false
 is_ended (Ready answer) = false
@@ -70,7 +74,7 @@ is_alive (Ready answer) = true
 is_alive (Blocked what since on) = true
 is_alive Ended = false
 
--- it is blocked until the call of another lets it go on
+-- it is blocked until the call of another wakes it
 abbrev pub is_held : State → Bool
 is_held Unstarted = false
 is_held (Ready answer) = false
@@ -111,6 +115,7 @@ joined_in (Ready answer) = None
 joined_in (Blocked what since on) = joined_by what
 joined_in Ended = None
 
+-- whether an optional identifier is that of this actor
 abbrev pub is_id : ℕ → Option ActorId → Bool
 is_id id None = false
 is_id id (Some actor) = actor.0 == id

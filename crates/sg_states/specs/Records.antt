@@ -23,7 +23,7 @@ end_by answer.Failed ns = end.Failed
 abbrev pub record_of : ℕ → Call → ℕ → ℕ → Answer → ℕ → Record
 record_of actor what since bytes answer date = record { actor = record { 0 = actor }; date = date; what = what; bytes = bytes; end = end_by answer (date - since) }
 
--- a call that a record or a blocked line tells: its amounts keep to their limits, and what it names exists
+-- a call that a record or a blocked line prints: its amounts keep to their limits, and what it names exists
 pub record IsTellable (extent : Extent) (what : Call) : Type 0 where
   pub told : HasLine what
   pub call : IsCall extent what

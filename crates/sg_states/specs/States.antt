@@ -10,7 +10,8 @@ use Rattle.sg_states.specs.declared.state.State.TheVariants.{Unstarted, Ready, B
 use Rattle.sg_states.specs.Actors.{is_alive, put_state, put_suspended, state_at, IsActor, MayCall}
 use Rattle.sg_states.specs.Records.{record_of, IsTellable}
 
--- what calls may name; what each actor does; the records that aren't cleared; room for so many calls; and whether a pass goes on
+-- what calls may name; what each actor does; the records that aren't cleared; room for so many calls; whether a time advance
+-- runs
 pub record ActorStates : Type 0 where
   pub extent : Extent
   pub actors : List Actor
@@ -18,18 +19,19 @@ pub record ActorStates : Type 0 where
   pub room : ℕ
   pub passing : Bool
 
--- a call of the actor can be answered: it may make one, there is room for it, and no pass goes on
+-- a call of the actor can be answered: it may make one, there is room for it, and no time advance is running
 pub record CanCall (states : ActorStates) (actor : ℕ) : Type 0 where
   pub caller : MayCall states.actors actor
   pub room : 0 < states.room
   pub round : states.passing ≡ false
 
--- a round may begin with room for so many calls: there is no more than that, and no pass goes on
+-- a scheduling round may begin with room for so many calls: there is no more room, and no time advance is
+-- running
 pub record CanReserve (n : ℕ) (states : ActorStates) : Type 0 where
   pub more : states.room ≤ n
   pub round : states.passing ≡ false
 
--- another may kill, suspend or resume the actor: it is alive, and no pass goes on
+-- another may kill, suspend or resume the actor: it is alive, and no time advance is running
 pub record IsAlive (states : ActorStates) (actor : ℕ) : Type 0 where
   pub is : IsActor states.actors actor
   pub alive : IsTrue (is_alive (state_at states.actors actor))

@@ -16,13 +16,13 @@ use std::marker::Model;
 
 /// What each actor does, who is to take a turn, and who waits for another to end.
 ///
-/// Contracts see the actors, and whether a pass goes on.
+/// Contracts see the actors, and whether a time advance is running.
 #[derive(Drop)]
 pub(crate) struct Crowd {
     /// By id from 1 on.
     actors: Vec<Actor>,
-    /// By rising id all actors that are ready, and those that were since the round began; while a pass goes on just
-    /// the ready ones, in any order.
+    /// By rising id all actors that are ready, and those that were since the scheduling round began; during a time
+    /// advance only the ready ones, in any order.
     queue: Vec<ActorId>,
     /// Those that are blocked by a join, by whom they join, and then by id.
     joiners: Vec<Joiner>,
@@ -53,7 +53,7 @@ impl Model for Crowd {
         }) };
 }
 
-// How many pass a test, where one of them may change.
+// Returns how many pass a test, if one of them may change.
 fn counted(count: usize, was: bool, is: bool) -> usize
     requires was { IsTrue was → 0 < count }
     requires few { count < 2 ^ 63 }
@@ -65,7 +65,7 @@ fn counted(count: usize, was: bool, is: bool) -> usize
     if is { count + 1 } else { count - 1 }
 }
 
-// How many are ready without one that was, unless it is suspended.
+// Returns how many are ready without one that was, unless it is suspended.
 fn without_one(ready: usize, suspended: bool) -> usize
     requires { suspended ≡ false → 0 < ready }
     ensures { result + (if suspended then 0 else 1) ≡ ready }
@@ -73,7 +73,7 @@ fn without_one(ready: usize, suspended: bool) -> usize
     if suspended { ready } else { ready - 1 }
 }
 
-// How many are ready with one more, unless it is suspended.
+// Returns how many are ready with one more, unless it is suspended.
 fn with_one(ready: usize, suspended: bool) -> usize
     requires { ready < 2 ^ 63 }
     ensures { result ≡ ready + (if suspended then 0 else 1) }
@@ -81,7 +81,7 @@ fn with_one(ready: usize, suspended: bool) -> usize
     if suspended { ready } else { ready + 1 }
 }
 
-// So many actors, none of which has started.
+// Returns so many actors, none of which has started.
 fn unstarted(alloc: Global, n: usize) -> Result<Vec<Actor>, Memory>
     ensures { IfOk result (λ actors. actors.items ≡ replicate n (first_actor false)) }
 {
@@ -100,7 +100,7 @@ fn unstarted(alloc: Global, n: usize) -> Result<Vec<Actor>, Memory>
 }
 
 impl Crowd {
-    // So many actors, none of which has started.
+    // Makes so many actors, none of which has started.
     fn blank(alloc: Global, n: usize) -> Result<Crowd, Memory>
         requires { n < 2 ^ 32 }
         ensures { IfOk result (λ crowd. crowd ≡ record {
@@ -118,7 +118,7 @@ impl Crowd {
         })
     }
 
-    /// The actors, of which just those are ready that start at the beginning.
+    /// Makes the actors, of which just those are ready that start at the beginning.
     pub(crate) fn new(alloc: Global, starts: &[bool]) -> Result<Crowd, Memory>
         ensures { IfOk result (λ crowd. crowd ≡ record {
           actors = map first_actor starts.now;
@@ -137,14 +137,14 @@ impl Crowd {
         Ok(crowd)
     }
 
-    /// How many actors there are.
+    /// Returns how many actors there are.
     pub(crate) fn len(&self) -> usize
         ensures { result ≡ length self.now.actors }
     {
         self.actors.len()
     }
 
-    /// An actor.
+    /// Returns an actor.
     pub(crate) fn actor(&self, actor: ActorId) -> Actor
         requires { IsActor self.now.actors actor.0 }
         ensures { result ≡ actor_at self.now.actors actor.0 }
@@ -152,8 +152,7 @@ impl Crowd {
         self.actors[actor.index()]
     }
 
-    /// An actor does that from now on. In a pass it wasn't ready before; one that waits for another to end no longer
-    /// does.
+    /// Sets what an actor does. During a time advance it wasn't ready before; it no longer waits for another to end.
     pub(crate) fn put_state(&mut self, actor: ActorId, state: State)
         requires actor { IsActor self.old.actors actor.0 }
         requires turn { self.old.passing ≡ true → is_ready_in self.old.actors actor.0 ≡ false }
@@ -171,7 +170,7 @@ impl Crowd {
         self.actors[actor.index()] = next;
     }
 
-    /// An actor that has an answer has this one from now on. It is ready as before, so only its state is touched.
+    /// Gives an actor that has an answer this one. It is ready as before, so only its state is touched.
     pub(crate) fn put_answer(&mut self, actor: ActorId, answer: Answer)
         requires { CanAnswer self.old actor.0 }
         ensures { self.new
@@ -180,7 +179,7 @@ impl Crowd {
         self.actors[actor.index()].state = State::Ready(answer);
     }
 
-    /// An actor that has an answer is blocked from now on.
+    /// Blocks an actor that has an answer.
     pub(crate) fn put_blocked(&mut self, actor: ActorId, what: Call, since: u128, on: Option<Await>)
         requires { CanAnswer self.old actor.0 }
         ensures { self.new ≡ record self.old {
@@ -193,7 +192,7 @@ impl Crowd {
         self.actors[actor.index()].state = State::Blocked(what, since, on);
     }
 
-    /// An actor that is blocked has this answer from now on.
+    /// Gives a blocked actor this answer.
     pub(crate) fn put_reply(&mut self, actor: ActorId, answer: Answer)
         requires actor { IsActor self.old.actors actor.0 }
         requires blocked { IsTrue (is_blocked (state_at self.old.actors actor.0)) }
@@ -213,7 +212,7 @@ impl Crowd {
         self.actors[actor.index()].state = State::Ready(answer);
     }
 
-    /// An actor is suspended from now on, or isn't any more.
+    /// Suspends or resumes an actor.
     pub(crate) fn put_suspended(&mut self, actor: ActorId, on: bool)
         requires { CanPut self.old actor.0 }
         ensures { self.new
@@ -229,7 +228,7 @@ impl Crowd {
         self.actors[actor.index()] = after;
     }
 
-    /// A round begins: lets those go from the queue that aren't ready.
+    /// Begins a scheduling round: removes those from the queue that aren't ready.
     pub(crate) fn keep_ready(&mut self)
         requires { self.old.passing ≡ false }
         ensures { self.new ≡ self.old }
@@ -237,7 +236,7 @@ impl Crowd {
         queue::keep_ready(&mut self.queue, &self.actors);
     }
 
-    /// A pass begins, where nobody is ready.
+    /// Begins a time advance, when nobody is ready.
     pub(crate) fn begin_pass(&mut self)
         requires { list_any is_ready self.old.actors ≡ false }
         ensures { self.new ≡ record self.old { passing = true } }
@@ -246,7 +245,7 @@ impl Crowd {
         self.passing = true;
     }
 
-    /// A pass is over.
+    /// Ends a time advance.
     pub(crate) fn end_pass(&mut self)
         requires { self.old.passing ≡ true }
         ensures { self.new ≡ record self.old { passing = false } }
@@ -255,7 +254,7 @@ impl Crowd {
         self.passing = false;
     }
 
-    /// Who is to take a turn: by rising id all actors that are ready, and perhaps some that were.
+    /// Returns who is to take a turn: by rising id all actors that are ready, and perhaps some that were.
     pub(crate) fn queue(&self) -> &[ActorId]
         requires { self.now.passing ≡ false }
         ensures { IsQueue self.now.actors result.now }
@@ -263,7 +262,7 @@ impl Crowd {
         self.queue.as_slice()
     }
 
-    /// Who waits first, by rising id, for the actor to end.
+    /// Returns who waits first, by rising id, for the actor to end.
     pub(crate) fn joiner(&self, target: ActorId) -> Option<ActorId>
         ensures { MatchOption result (joiners target.0 1 self.now.actors ≡ [])
             (λ actor. IsJoiner self.now.actors target.0 actor) }
@@ -271,14 +270,14 @@ impl Crowd {
         joiners::first(&self.joiners, target)
     }
 
-    /// Whether an actor is ready.
+    /// Returns whether an actor is ready.
     pub(crate) fn any_ready(&self) -> bool
         ensures { result ≡ list_any is_ready self.now.actors }
     {
         self.ready > 0
     }
 
-    /// Whether no actor is alive.
+    /// Returns whether no actor is alive.
     pub(crate) fn all_over(&self) -> bool
         ensures { result ≡ list_all is_over self.now.actors }
     {

@@ -26,7 +26,7 @@ fn rank(joiner: Joiner) -> u64
     u64::from(joiner.of.0) * 4_294_967_296 + u64::from(joiner.actor.0)
 }
 
-// The place in rising order.
+// Returns the place in rising order.
 fn place_of(list: &[Joiner], joiner: Joiner) -> usize
     requires { AllPairs (λ a b. rank_spec a < rank_spec b) list.now }
     ensures { IsPlace rank_spec list.now (rank_spec joiner) result }
@@ -35,7 +35,7 @@ fn place_of(list: &[Joiner], joiner: Joiner) -> usize
     list.partition_point(|other| rank(*other) < sought)
 }
 
-// The actor begins to wait for the end of another.
+// Enters an actor that begins to wait for the end of another.
 fn enter(list: &mut Vec<Joiner>, of: ActorId, actor: ActorId)
     requires rises { AllPairs (λ a b. rank_spec a < rank_spec b) list.old.items }
     requires room { vec_len list.old < vec_capacity list.old }
@@ -53,7 +53,7 @@ fn enter(list: &mut Vec<Joiner>, of: ActorId, actor: ActorId)
     }
 }
 
-// The actor no longer waits for the end of another.
+// Removes an actor that no longer waits for the end of another.
 fn leave(list: &mut Vec<Joiner>, of: ActorId, actor: ActorId)
     requires rises { AllPairs (λ a b. rank_spec a < rank_spec b) list.old.items }
     requires there { Contains list.old.items (record { of = of; actor = actor }) }
@@ -67,7 +67,7 @@ fn leave(list: &mut Vec<Joiner>, of: ActorId, actor: ActorId)
     let _ = list.remove(place);
 }
 
-// Whom a call joins.
+// Returns whom a call joins.
 fn joined_by(what: Call) -> Option<ActorId>
     ensures { result ≡ joined_by_spec what }
 {
@@ -77,7 +77,7 @@ fn joined_by(what: Call) -> Option<ActorId>
     }
 }
 
-/// The actor, which waits for nobody's end, is blocked by a call: it enters the list where that is a join.
+/// Enters an actor that a call blocks, and that waits for nobody's end, if the call is a join.
 #[tactic(auto, using(crate::proofs::Waits::waiting_room, crate::proofs::Waits::waiting_same))]
 pub(crate) fn enter_by(list: &mut Vec<Joiner>, actors: &[Actor], actor: ActorId, what: Call)
     requires actor { IsIdOf actors.now actor }
@@ -93,7 +93,7 @@ pub(crate) fn enter_by(list: &mut Vec<Joiner>, actors: &[Actor], actor: ActorId,
     }
 }
 
-/// The actor is blocked no longer: it leaves the list where it waited for the end of another.
+/// Removes an actor that is no longer blocked, if it waited for the end of another.
 #[tactic(auto, using(crate::proofs::Waits::waiting_same))]
 pub(crate) fn let_go(list: &mut Vec<Joiner>, actors: &[Actor], actor: ActorId)
     requires actor { IsIdOf actors.now actor }
@@ -106,7 +106,7 @@ pub(crate) fn let_go(list: &mut Vec<Joiner>, actors: &[Actor], actor: ActorId)
     }
 }
 
-/// The actor becomes the next one: it enters the list where it begins to wait, and leaves it where it goes on.
+/// Updates the list for an actor's next state: it enters when it begins to wait, and leaves when it continues.
 pub(crate) fn follow(list: &mut Vec<Joiner>, actors: &[Actor], actor: ActorId, next: Actor)
     requires actor { IsIdOf actors.now actor }
     requires few { length actors.now < 2 ^ 32 }
@@ -123,7 +123,7 @@ pub(crate) fn follow(list: &mut Vec<Joiner>, actors: &[Actor], actor: ActorId, n
     }
 }
 
-/// Who waits first, by rising id, for the end of an actor.
+/// Returns who waits first, by rising id, for the end of an actor.
 pub(crate) fn first(list: &[Joiner], target: ActorId) -> Option<ActorId>
     requires rises { AllPairs (λ a b. rank_spec a < rank_spec b) list.now }
     ensures { (actors : List Actor) → length actors < 2 ^ 32 → AreWaiting actors list.now

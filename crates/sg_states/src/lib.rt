@@ -1,6 +1,6 @@
 //! What actors do: their states, the run queue, who waits for another to end, and the records of what was answered.
-//! One enters by `States`: `block` has an actor wait, `answer` and `reply` make it ready, `begin` and `end` are its
-//! life, and `run_queue` has who is to take a turn.
+//! The type is `States`: `block` makes an actor wait, `answer` and `reply` make it ready, `begin` and `end` start and
+//! end it, and `run_queue` returns who is to take a turn.
 //! It stands on `sg_base`.
 #![tactic(auto)]
 

@@ -20,7 +20,7 @@ fn is_ready_in(actors: &[Actor], actor: ActorId) -> bool
     }
 }
 
-/// Lets those go that aren't ready.
+/// Removes those that aren't ready.
 pub(crate) fn keep_ready(queue: &mut Vec<ActorId>, actors: &[Actor])
     ensures items { queue.new.items
         ≡ filter (λ (actor : ActorId). is_ready_in_spec actors.now actor.0) queue.old.items }
@@ -38,7 +38,7 @@ pub(crate) fn sort(queue: &mut Vec<ActorId>)
     queue.sort_unstable_by_key(|actor| actor.0);
 }
 
-// The place in rising order of an actor that isn't there; none where it is.
+// Returns the place in rising order of an actor that isn't there; none if it is.
 fn place_of(queue: &[ActorId], actor: ActorId) -> Option<usize>
     requires { AllPairs (λ a b. a.0 < b.0) queue.now }
     ensures { MatchOption result (Contains queue.now actor)
@@ -51,7 +51,7 @@ fn place_of(queue: &[ActorId], actor: ActorId) -> Option<usize>
     Some(place)
 }
 
-// One more actor joins, at its place in rising order, where it isn't there.
+// Adds an actor at its place in rising order, if it isn't there.
 fn join_in_order(queue: &mut Vec<ActorId>, actor: ActorId)
     requires rises { AllPairs (λ a b. a.0 < b.0) queue.old.items }
     requires room { ¬ Contains queue.old.items actor → vec_len queue.old < vec_capacity queue.old }
@@ -68,7 +68,7 @@ fn join_in_order(queue: &mut Vec<ActorId>, actor: ActorId)
     }
 }
 
-// One that isn't ready is to take a turn.
+// Adds an actor that isn't ready and is to take a turn.
 fn join(queue: &mut Vec<ActorId>, actors: &[Actor], passing: bool, actor: ActorId)
     requires follows { CanFollow passing actors.now queue.old actor }
     requires idle { is_ready_in_spec actors.now actor.0 ≡ false }
@@ -81,7 +81,7 @@ fn join(queue: &mut Vec<ActorId>, actors: &[Actor], passing: bool, actor: ActorI
     }
 }
 
-/// One that isn't ready has an answer from now on: it is to take a turn, unless it is suspended.
+/// Adds an actor that wasn't ready and has an answer from now on, unless it is suspended.
 #[tactic(auto, using(crate::proofs::Turning::queued_idle))]
 pub(crate) fn join_unless(
     queue: &mut Vec<ActorId>,
@@ -99,7 +99,7 @@ pub(crate) fn join_unless(
     }
 }
 
-/// The actor becomes the next one: it joins the queue where it gets ready. In a pass it wasn't ready before.
+/// Updates the queue for an actor's next state: it joins when it gets ready. In a time advance it wasn't ready before.
 pub(crate) fn follow(
     queue: &mut Vec<ActorId>,
     actors: &[Actor],

@@ -4,7 +4,7 @@ ghost use Rattle.sg_states.specs.Records.{end_by as end_by_spec, record_of as re
 
 use sg_base::{ActorId, Answer, Call, End, Record};
 
-// How a call ended that had its answer after so many nanoseconds.
+// Returns how a call ended that had its answer after so many nanoseconds.
 fn end_by(answer: Answer, ns: u128) -> End
     ensures { result ≡ end_by_spec answer ns }
 {
@@ -17,7 +17,7 @@ fn end_by(answer: Answer, ns: u128) -> End
     }
 }
 
-/// The record of a call that was made at the date `since` and is answered now.
+/// Returns the record of a call that was made at the date `since` and is answered now.
 pub(crate) fn record_of(
     actor: ActorId,
     what: Call,

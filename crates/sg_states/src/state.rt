@@ -11,21 +11,21 @@ pub enum State {
     Unstarted,
     /// It is to take a turn, with this answer.
     Ready(Answer),
-    /// It is blocked by this call since this date: until its side of an activity is done, or, with none, until the
-    /// call of another lets it go on.
+    /// It is blocked by this call since this date: until its endpoint of an activity is done, or, with none, until the
+    /// call of another wakes it.
     Blocked(Call, u128, Option<Await>),
     /// It has made its last call, or another has killed it.
     Ended,
 }
 
-/// On what an actor is blocked: its call, the date of the call, and its side of an activity, if it waits for one.
+/// Why an actor is blocked: its call, the date of the call, and its endpoint of an activity, if it waits for one.
 #[derive(Clone, Copy)]
 pub struct Blocking {
     /// The call.
     pub what: Call,
     /// When it was made.
     pub since: u128,
-    /// The side that it waits for.
+    /// The endpoint that it waits for.
     pub on: Option<Await>,
 }
 
@@ -39,7 +39,7 @@ pub struct Actor {
 }
 
 impl State {
-    /// On what it is blocked.
+    /// Returns why it is blocked.
     pub fn blocking(self) -> Option<Blocking>
         ensures { result ≡ blocking_in self }
     {
@@ -49,7 +49,7 @@ impl State {
         }
     }
 
-    /// Whether it has started and hasn't ended.
+    /// Returns whether it has started and hasn't ended.
     pub fn is_alive(self) -> bool
         ensures { result ≡ is_alive self }
     {
@@ -59,7 +59,7 @@ impl State {
         }
     }
 
-    /// For whose end it waits.
+    /// Returns for whose end it waits.
     pub(crate) fn joined(self) -> Option<ActorId>
         ensures { result ≡ joined_in self }
     {
@@ -71,21 +71,21 @@ impl State {
 }
 
 impl Actor {
-    /// Whether it is to take a turn.
+    /// Returns whether it is to take a turn.
     pub(crate) fn is_ready(self) -> bool
         ensures { result ≡ is_ready_spec self }
     {
         matches!(self.state, State::Ready(_)) && !self.suspended
     }
 
-    /// Whether it takes no turn again, unless another starts it.
+    /// Returns whether it takes no turn again, unless another starts it.
     pub(crate) fn is_over(self) -> bool
         ensures { result ≡ is_over self }
     {
         !self.state.is_alive()
     }
 
-    /// The answer with which it takes a turn.
+    /// Returns the answer with which it takes a turn.
     pub(crate) fn inbox(self) -> Option<Answer>
         ensures { result ≡ inbox_of self }
     {

@@ -19,9 +19,9 @@ use std::marker::Model;
 /// What each actor does, who is to take a turn, who waits for another to end, and the records of what was answered.
 ///
 /// Contracts see what calls may name, the states, the records that aren't cleared, for how many calls there is room,
-/// and whether a pass goes on. No call costs more with more actors, but for a binary search in the run queue where one
-/// gets to take a turn in a round, the same among the joiners where one joins another or goes on, with the shift of
-/// those behind it, and for the sorting of the queue at the end of a pass.
+/// and whether a time advance is running. No call costs more with more actors, except for a binary search in the run
+/// queue when an actor gets ready in a scheduling round, the same among the joiners when one joins another or
+/// continues, with the shift of those after it, and for the sorting of the queue at the end of a time advance.
 pub struct States {
     crowd: Crowd,
     /// The records that aren't cleared.
@@ -63,8 +63,8 @@ impl Model for States {
 }
 
 impl States {
-    /// The actors, of which just those are ready that start at the beginning, with the answer Start. There is no room
-    /// for calls. Calls may name so many mutexes and semaphores.
+    /// Makes the actors, of which just those are ready that start at the beginning, with the answer Start. There is no
+    /// room for calls. Calls may name so many mutexes and semaphores.
     pub fn new(
         alloc: Global,
         starts: &[bool],
@@ -93,8 +93,8 @@ impl States {
         })
     }
 
-    /// A round begins: makes room for so many calls and for what the passes after them answer, and lets those go from
-    /// the run queue that aren't ready. Nothing else changes, also where there is no memory.
+    /// Begins a scheduling round: makes room for this many calls and for what the time advances after them answer, and
+    /// removes those from the run queue that aren't ready. Nothing else changes, even if memory runs out.
     pub fn reserve_round(&mut self, n: usize) -> Result<(), Memory>
         requires { CanReserve n self.old }
         ensures room { OnOk result (self.new.room ≡ n) }
@@ -110,7 +110,7 @@ impl States {
         Ok(())
     }
 
-    /// A round begins for which there is room: lets those go from the run queue that aren't ready.
+    /// Begins a scheduling round for which there is room: removes those from the run queue that aren't ready.
     pub fn keep_ready(&mut self)
         requires { self.old.passing ≡ false }
         ensures { self.new ≡ self.old }
@@ -118,14 +118,14 @@ impl States {
         self.crowd.keep_ready();
     }
 
-    /// For how many calls there is room.
+    /// Returns for how many calls there is room.
     pub fn room(&self) -> usize
         ensures { result ≡ self.now.room }
     {
         self.room
     }
 
-    /// The actor goes on with this answer, without a record.
+    /// Makes the actor continue with this answer, without a record.
     pub fn go_on(&mut self, actor: ActorId, answer: Answer)
         requires able { CanCall self.old actor.0 }
         requires answer { IsAnswer self.old.extent answer }
@@ -135,7 +135,7 @@ impl States {
         self.room -= 1;
     }
 
-    /// The actor is blocked by its call, which it makes at this date.
+    /// Blocks an actor by its call, which it makes at this date.
     pub fn block(&mut self, actor: ActorId, what: Call, date: u128, on: Option<Await>)
         requires able { CanCall self.old actor.0 }
         requires what { IsTellable self.old.extent what }
@@ -145,7 +145,7 @@ impl States {
         self.room -= 1;
     }
 
-    /// The actor has made its last call.
+    /// Ends an actor after its last call.
     pub fn exit(&mut self, actor: ActorId)
         requires able { CanCall self.old actor.0 }
         ensures { self.new ≡ by_call actor.0 Ended self.old }
@@ -154,7 +154,7 @@ impl States {
         self.room -= 1;
     }
 
-    /// The actor's call, which it makes at this date, is answered at once, with a record.
+    /// Answers an actor's call, which it makes at this date, at once, with a record.
     pub fn answer(&mut self, actor: ActorId, what: Call, bytes: u64, answer: Answer, date: u128)
         requires able { CanCall self.old actor.0 }
         requires what { IsTellable self.old.extent what }
@@ -171,8 +171,8 @@ impl States {
         self.room -= 1;
     }
 
-    /// The call on which an actor is blocked is answered, with a record. One that is suspended takes its turn once it
-    /// is resumed.
+    /// Answers the call on which an actor is blocked, with a record. A suspended actor takes its turn after it is
+    /// resumed.
     pub fn reply(
         &mut self,
         actor: ActorId,
@@ -196,7 +196,7 @@ impl States {
         self.crowd.put_reply(actor, answer);
     }
 
-    /// Another starts the actor: it is to take a turn, with the answer Start.
+    /// Starts an actor for another: it is to take a turn, with the answer `Start`.
     pub fn begin(&mut self, target: ActorId)
         requires actor { IsActor self.old.actors target.0 }
         requires unstarted { IsTrue (is_unstarted (state_at self.old.actors target.0)) }
@@ -206,7 +206,7 @@ impl States {
         self.crowd.put_state(target, State::Ready(Answer::Start));
     }
 
-    /// Another kills the actor. What it was blocked on is no longer known.
+    /// Kills an actor for another. What it was blocked on is no longer known.
     pub fn end(&mut self, target: ActorId)
         requires alive { IsAlive self.old target.0 }
         ensures { self.new ≡ with_state target.0 Ended self.old }
@@ -214,7 +214,7 @@ impl States {
         self.crowd.put_state(target, State::Ended);
     }
 
-    /// Another suspends the actor: it takes no turn until it is resumed.
+    /// Suspends an actor for another: it takes no turn until it is resumed.
     pub fn suspend(&mut self, target: ActorId)
         requires alive { IsAlive self.old target.0 }
         ensures { self.new ≡ with_suspended target.0 true self.old }
@@ -222,7 +222,7 @@ impl States {
         self.crowd.put_suspended(target, true);
     }
 
-    /// Another resumes the actor: if it has an answer, it is to take a turn.
+    /// Resumes an actor for another: if it has an answer, it is to take a turn.
     pub fn resume(&mut self, target: ActorId)
         requires alive { IsAlive self.old target.0 }
         ensures { self.new ≡ with_suspended target.0 false self.old }
@@ -230,7 +230,7 @@ impl States {
         self.crowd.put_suspended(target, false);
     }
 
-    /// A pass begins, where nobody is ready.
+    /// Begins a time advance, when nobody is ready.
     pub fn begin_pass(&mut self)
         requires idle { list_any is_ready self.old.actors ≡ false }
         ensures { self.new ≡ record self.old { passing = true } }
@@ -238,7 +238,7 @@ impl States {
         self.crowd.begin_pass();
     }
 
-    /// A pass is over.
+    /// Ends a time advance.
     pub fn end_pass(&mut self)
         requires { self.old.passing ≡ true }
         ensures { self.new ≡ record self.old { passing = false } }
@@ -246,15 +246,15 @@ impl States {
         self.crowd.end_pass();
     }
 
-    /// How many actors there are. Their ids count from 1.
+    /// Returns how many actors there are. Their ids count from 1.
     pub fn actors(&self) -> usize
         ensures { result ≡ length self.now.actors }
     {
         self.crowd.len()
     }
 
-    /// Who is to take a turn: by rising id all actors that are ready, and perhaps some that were since
-    /// `reserve_round`. To tell it costs nothing.
+    /// Returns who is to take a turn: by rising id all actors that are ready, and perhaps some that were since
+    /// `reserve_round`. It costs nothing.
     pub fn run_queue(&self) -> &[ActorId]
         requires { self.now.passing ≡ false }
         ensures { IsQueue self.now.actors result.now }
@@ -262,7 +262,7 @@ impl States {
         self.crowd.queue()
     }
 
-    /// Who waits first, by rising id, for the actor to end.
+    /// Returns who waits first, by rising id, for the actor to end.
     pub fn joiner(&self, target: ActorId) -> Option<ActorId>
         ensures { MatchOption result (joiners target.0 1 self.now.actors ≡ [])
             (λ actor. IsJoiner self.now.actors target.0 actor) }
@@ -270,7 +270,7 @@ impl States {
         self.crowd.joiner(target)
     }
 
-    /// What an actor does.
+    /// Returns what an actor does.
     pub fn state(&self, actor: ActorId) -> State
         requires { IsActor self.now.actors actor.0 }
         ensures is { result ≡ state_at self.now.actors actor.0 }
@@ -279,7 +279,7 @@ impl States {
         self.crowd.actor(actor).state
     }
 
-    /// Whether an actor is suspended.
+    /// Returns whether an actor is suspended.
     pub fn suspended(&self, actor: ActorId) -> bool
         requires { IsActor self.now.actors actor.0 }
         ensures { result ≡ (actor_at self.now.actors actor.0).suspended }
@@ -287,7 +287,7 @@ impl States {
         self.crowd.actor(actor).suspended
     }
 
-    /// The answer of an actor that is to take a turn.
+    /// Returns the answer of an actor that is to take a turn.
     pub fn inbox(&self, actor: ActorId) -> Option<Answer>
         requires { IsActor self.now.actors actor.0 }
         ensures is { result ≡ inbox_of (actor_at self.now.actors actor.0) }
@@ -296,7 +296,7 @@ impl States {
         self.crowd.actor(actor).inbox()
     }
 
-    /// The call on which an actor is blocked.
+    /// Returns the call on which an actor is blocked.
     pub fn blocked(&self, actor: ActorId) -> Option<Call>
         requires { IsActor self.now.actors actor.0 }
         ensures is { result ≡ blocked_of (state_at self.now.actors actor.0) }
@@ -308,21 +308,21 @@ impl States {
         }
     }
 
-    /// Whether an actor is ready.
+    /// Returns whether an actor is ready.
     pub fn any_ready(&self) -> bool
         ensures { result ≡ list_any is_ready self.now.actors }
     {
         self.crowd.any_ready()
     }
 
-    /// Whether no actor is alive: none takes a turn again.
+    /// Returns whether no actor is alive: none takes a turn again.
     pub fn all_over(&self) -> bool
         ensures { result ≡ list_all is_over self.now.actors }
     {
         self.crowd.all_over()
     }
 
-    /// The records that aren't cleared, in the order in which they were made.
+    /// Returns the records that aren't cleared, in the order in which they were made.
     pub fn records(&self) -> &[Record]
         ensures are { result.now ≡ self.now.records }
         ensures limited { AreRecords self.now.extent self.now.records }

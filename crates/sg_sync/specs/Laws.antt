@@ -12,7 +12,7 @@ comers caller GoesOn = []
 comers caller Waits = caller ∷ []
 comers caller Refused = []
 
--- Nobody is lost, and nobody goes on who didn't wait: who waits after the call or goes on by it waited before, or comes to wait by it.
+-- Nobody is lost, and nobody continues who didn't wait: who waits after the call or continues by it waited before, or begins to wait.
 abbrev pub KeepsAll : ActorId → Objects → Done → Type 0
 KeepsAll caller o done = (actor : ActorId) → waiting done.after actor + times actor done.after.others ≡ waiting o actor + times actor (comers caller done.outcome)
 

@@ -4,9 +4,10 @@ use Rattle.std.specs.Option.{option_to_list}
 use Rattle.sg_base.specs.declared.ids.ActorId.{ActorId}
 use Rattle.sg_sync.specs.declared.outcome.Outcome.{Outcome}
 use Rattle.sg_sync.specs.declared.outcome.Outcome.TheVariants.{GoesOn, Waits, Refused}
-use Rattle.sg_sync.specs.Queues.{queue_at, front, joined, left, shortened, times, waits, without}
+use Rattle.sg_sync.specs.Queues.{waiters_at, first_waiter, with_waiter, left, shortened, times, waits, without}
 
--- the owner of each mutex and who waits for it; the count of each semaphore and who waits there; who has arrived at the barrier, in order, and how many members it has; and who else went on by the last call
+-- the owner of each mutex and who waits for it; the count of each semaphore and who waits there; who has arrived at the barrier, in order, and its number of members; and who else continued by the last
+-- call
 pub record Objects : Type 0 where
   pub actors : ℕ
   pub owners : List (Option ActorId)
@@ -17,9 +18,11 @@ pub record Objects : Type 0 where
   pub arrived : List ActorId
   pub others : List ActorId
 
+-- the actor that owns a mutex; none: it is free
 abbrev pub owner_of : Objects → ℕ → Option ActorId
 owner_of o mutex = slice_index_or o.owners mutex None
 
+-- the count of a semaphore: how many acquires succeed before one must wait
 abbrev pub count_of : Objects → ℕ → ℕ
 count_of o semaphore = slice_index_or o.counts semaphore 0
 
@@ -35,18 +38,20 @@ pub record Done : Type 0 where
 -- a free mutex gets its owner; else the actor waits, its owner too
 abbrev pub locked_by : Option ActorId → ActorId → ℕ → Objects → Done
 locked_by None actor mutex o = record { outcome = GoesOn; after = record o { owners = slice_set o.owners mutex (Some actor); others = [] } }
-locked_by (Some owner) actor mutex o = record { outcome = Waits; after = record o { locking = joined o.locking mutex actor; others = [] } }
+locked_by (Some owner) actor mutex o = record { outcome = Waits; after = record o { locking = with_waiter o.locking mutex actor; others = [] } }
 
+-- a lock: a free mutex gets the caller as its owner; else the caller waits
 abbrev pub locked : ActorId → ℕ → Objects → Done
 locked actor mutex o = locked_by (owner_of o mutex) actor mutex o
 
+-- the call is refused: no owner, count or queue changes
 abbrev pub refused : Objects → Done
 refused o = record { outcome = Refused; after = record o { others = [] } }
 
--- the first that waits owns the mutex and goes on, or nobody owns it
+-- the first that waits owns the mutex and continues, or nobody owns it
 abbrev pub passed_on : ℕ → Objects → Done
 passed_on mutex o =
-    let first = front (queue_at o.locking mutex) in
+    let first = first_waiter (waiters_at o.locking mutex) in
     record { outcome = GoesOn; after = record o { owners = slice_set o.owners mutex first; locking = shortened o.locking mutex; others = option_to_list first } }
 
 -- by its owner alone
@@ -54,6 +59,7 @@ abbrev pub unlocked_by : Option ActorId → ActorId → ℕ → Objects → Done
 unlocked_by None actor mutex o = refused o
 unlocked_by (Some owner) actor mutex o = if owner.0 == actor.0 then passed_on mutex o else refused o
 
+-- an unlock, which only the owner may do: it hands the mutex to the first that waits
 abbrev pub unlocked : ActorId → ℕ → Objects → Done
 unlocked actor mutex o = unlocked_by (owner_of o mutex) actor mutex o
 
@@ -62,23 +68,24 @@ abbrev pub acquired : ActorId → ℕ → Objects → Done
 acquired actor semaphore o =
     if nat_lt 0 (count_of o semaphore)
     then record { outcome = GoesOn; after = record o { counts = slice_set o.counts semaphore (count_of o semaphore - 1); others = [] } }
-    else record { outcome = Waits; after = record o { acquiring = joined o.acquiring semaphore actor; others = [] } }
+    else record { outcome = Waits; after = record o { acquiring = with_waiter o.acquiring semaphore actor; others = [] } }
 
--- the first that waits goes on, or the count rises by one
+-- the first that waits continues, or the count rises by one
 abbrev pub released_to : Option ActorId → ℕ → Objects → Done
 released_to None semaphore o = record { outcome = GoesOn; after = record o { counts = slice_set o.counts semaphore (count_of o semaphore + 1); others = [] } }
 released_to (Some first) semaphore o = record { outcome = GoesOn; after = record o { acquiring = shortened o.acquiring semaphore; others = first ∷ [] } }
 
+-- a release: the first that waits for the semaphore continues, or its count rises by one
 abbrev pub released : ℕ → Objects → Done
-released semaphore o = released_to (front (queue_at o.acquiring semaphore)) semaphore o
+released semaphore o = released_to (first_waiter (waiters_at o.acquiring semaphore)) semaphore o
 
--- who isn't the last of the members waits; the last one lets all go on, in order of arrival, and the barrier begins anew
+-- the last of the members makes all continue, in order of arrival, and the barrier begins anew; the others wait
 abbrev pub arrived : ActorId → Objects → Done
 arrived actor o =
     if nat_lt (length o.arrived + 1) o.members
     then record { outcome = Waits; after = record o { arrived = o.arrived ++ actor ∷ []; others = [] } }
     else record { outcome = GoesOn; after = record o { arrived = []; others = o.arrived } }
 
--- an actor waits nowhere any more, and nobody goes on by that
-abbrev pub withdrawn : ActorId → Objects → Objects
-withdrawn actor o = record o { locking = left actor o.locking; acquiring = left actor o.acquiring; arrived = without actor o.arrived; others = [] }
+-- an actor waits nowhere any more, and nobody continues by that
+abbrev pub after_withdrawal : ActorId → Objects → Objects
+after_withdrawal actor o = record o { locking = left actor o.locking; acquiring = left actor o.acquiring; arrived = without actor o.arrived; others = [] }

@@ -11,30 +11,33 @@ pub record Waiting : Type 0 where
 abbrev pub IsActor : ℕ → ActorId → Type 0
 IsActor actors actor = (0 < actor.0) × (actor.0 ≤ actors)
 
-abbrev pub queue_at : List (List ActorId) → ℕ → List ActorId
-queue_at queues at = slice_index_or queues at []
+-- the actors in the queue of a number, the first in front
+abbrev pub waiters_at : List (List ActorId) → ℕ → List ActorId
+waiters_at queues at = slice_index_or queues at []
 
--- who is first in a queue, and who waits behind
-abbrev pub front : List ActorId → Option ActorId
-front [] = None
-front (actor ∷ rest) = Some actor
+-- who is first in a queue; none: nobody waits there
+abbrev pub first_waiter : List ActorId → Option ActorId
+first_waiter [] = None
+first_waiter (actor ∷ rest) = Some actor
 
-abbrev pub behind : List ActorId → List ActorId
-behind [] = []
-behind (actor ∷ rest) = rest
+-- those that wait after the first of a queue
+abbrev pub waiters_behind : List ActorId → List ActorId
+waiters_behind [] = []
+waiters_behind (actor ∷ rest) = rest
 
--- an actor goes to the end of a queue
-abbrev pub joined : List (List ActorId) → ℕ → ActorId → List (List ActorId)
-joined queues at actor = slice_set queues at (queue_at queues at ++ actor ∷ [])
+-- an actor joins a queue at its end
+abbrev pub with_waiter : List (List ActorId) → ℕ → ActorId → List (List ActorId)
+with_waiter queues at actor = slice_set queues at (waiters_at queues at ++ actor ∷ [])
 
 -- the first leaves a queue, if anybody waits there
 abbrev pub shortened : List (List ActorId) → ℕ → List (List ActorId)
-shortened queues at = slice_set queues at (behind (queue_at queues at))
+shortened queues at = slice_set queues at (waiters_behind (waiters_at queues at))
 
--- an actor leaves a queue, and all of them, from wherever it stands there
+-- a queue that an actor leaves, from wherever it stands there
 abbrev pub without : ActorId → List ActorId → List ActorId
 without actor queue = filter (λ (other : ActorId). not (other.0 == actor.0)) queue
 
+-- the queues without this actor, which leaves each one
 abbrev pub left : ActorId → List (List ActorId) → List (List ActorId)
 left actor queues = map (without actor) queues
 

@@ -1,7 +1,7 @@
 //! Those that have arrived at the barrier.
 ghost use Rattle.std.specs.Prelude.{◌≡◌, ◌<◌, ◌≤◌, ◌+◌, ◌^◌, [], ◌∷◌, length, IfOk};
 ghost use Rattle.sg_sync.specs.Waits.{CanJoin};
-ghost use Rattle.sg_sync.specs.Queues.{IsActor, front, joined, left, queue_at, shortened};
+ghost use Rattle.sg_sync.specs.Queues.{IsActor, first_waiter, with_waiter, left, waiters_at, shortened};
 
 use crate::queues::Queues;
 use sg_base::{ActorId, Memory};
@@ -31,7 +31,7 @@ impl Model for Arrivals {
 }
 
 impl Arrivals {
-    /// Nobody of so many actors.
+    /// Makes a barrier queue of so many actors, with nobody in it.
     pub(crate) fn new(alloc: Global, actors: u32) -> Result<Arrivals, Memory>
         ensures { IfOk result (λ s. s ≡ record { actors = actors; queues = [] ∷ [] }) }
     {
@@ -43,28 +43,28 @@ impl Arrivals {
         })
     }
 
-    /// How many wait.
+    /// Returns how many wait.
     pub(crate) fn len(&self) -> u32
-        ensures len { result ≡ length (queue_at self.now.queues 0) }
+        ensures len { result ≡ length (waiters_at self.now.queues 0) }
         ensures few { result ≤ self.now.actors + 2 }
     {
         self.len
     }
 
-    /// An actor comes, behind all others.
+    /// Puts an actor after all others.
     pub(crate) fn join(&mut self, actor: ActorId)
         requires joins { CanJoin self.old actor }
-        requires few { length (queue_at self.old.queues 0) + 1 < 2 ^ 32 }
-        ensures { self.new ≡ record self.old { queues = joined self.old.queues 0 actor } }
+        requires few { length (waiters_at self.old.queues 0) + 1 < 2 ^ 32 }
+        ensures { self.new ≡ record self.old { queues = with_waiter self.old.queues 0 actor } }
     {
         self.queues.join(QUEUE, actor);
         self.here[actor.0 as usize] = true;
         self.len += 1;
     }
 
-    /// The first leaves.
+    /// Removes and returns the first.
     pub(crate) fn take_first(&mut self) -> Option<ActorId>
-        ensures first { result ≡ front (queue_at self.old.queues 0) }
+        ensures first { result ≡ first_waiter (waiters_at self.old.queues 0) }
         ensures shortened { self.new
             ≡ record self.old { queues = shortened self.old.queues 0 } }
     {
@@ -78,7 +78,7 @@ impl Arrivals {
         }
     }
 
-    /// An actor leaves, if it waits.
+    /// Removes an actor, if it waits.
     pub(crate) fn leave(&mut self, actor: ActorId)
         requires { IsActor self.old.actors actor }
         ensures { self.new ≡ record self.old { queues = left actor self.old.queues } }

@@ -1,6 +1,6 @@
 //! Mutexes, semaphores and the barrier: the simulated objects at which actors wait.
-//! One enters by `Sync`: `lock`, `unlock`, `acquire`, `release`, `arrive` and `leave` answer an `Outcome`, and `others`
-//! tells who else goes on by it.
+//! The type is `Sync`: `lock`, `unlock`, `acquire`, `release`, `arrive` and `leave` return an `Outcome`, and `others`
+//! returns who else continues.
 //! It stands on `sg_base`, and on `sg_queues` for who waits where.
 #![tactic(auto)]
 

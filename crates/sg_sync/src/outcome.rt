@@ -1,10 +1,10 @@
-//! What a call at a mutex, a semaphore or the barrier answers.
+//! What a call at a mutex, a semaphore or the barrier returns.
 
-/// What becomes of the actor that called.
+/// What happens to the calling actor.
 #[derive(Clone, Copy)]
 pub enum Outcome {
     GoesOn,
-    /// Until another call names it among those that go on.
+    /// Until another call names it among those that continue.
     Waits,
     /// The call has no effect: an unlock by another than the owner.
     Refused,

@@ -1,7 +1,7 @@
-//! First-in-first-out queues of actors, which can also let go an actor from the middle.
+//! First-in-first-out queues of actors, which also release actors from the middle.
 ghost use Rattle.std.specs.Prelude.{◌≡◌, ◌<◌, ◌≤◌, ◌+◌, [], length, replicate, IfOk, IfSome};
 ghost use Rattle.sg_sync.specs.Waits.{CanJoin};
-ghost use Rattle.sg_sync.specs.Queues.{IsActor, front, joined, left, queue_at, shortened};
+ghost use Rattle.sg_sync.specs.Queues.{IsActor, first_waiter, with_waiter, left, waiters_at, shortened};
 
 use sg_base::{ActorId, Memory};
 use sg_queues::Rings;
@@ -13,7 +13,7 @@ use std::marker::Model;
 /// Joining and leaving take no memory, and cost the same however long the queues are.
 #[derive(Drop)]
 pub(crate) struct Queues {
-    /// Each actor is a slot, of its own number, which is alone where the actor waits nowhere.
+    /// Each actor is a slot, of its own number, which is alone if the actor waits nowhere.
     rings: Rings,
     actors: u32,
 }
@@ -30,7 +30,7 @@ impl Model for Queues {
 }
 
 impl Queues {
-    /// So many queues, in which nobody waits.
+    /// Makes so many queues, in which nobody waits.
     pub(crate) fn new(alloc: Global, actors: u32, queues: usize) -> Result<Queues, Memory>
         ensures { IfOk result (λ s. s ≡ record { actors = actors; queues = replicate queues [] }) }
     {
@@ -44,23 +44,23 @@ impl Queues {
         Ok(Queues { rings, actors })
     }
 
-    /// An actor goes to the end of a queue.
+    /// Puts an actor at the end of a queue.
     pub(crate) fn join(&mut self, queue: u32, actor: ActorId)
         requires queue { queue < length self.old.queues }
         requires joins { CanJoin self.old actor }
         ensures joined { self.new ≡ record self.old {
-          queues = joined self.old.queues queue actor;
+          queues = with_waiter self.old.queues queue actor;
         } }
-        ensures few { length (queue_at self.new.queues queue)
+        ensures few { length (waiters_at self.new.queues queue)
             ≤ self.old.actors + length self.old.queues + 1 }
     {
         self.rings.join(actor.0 as usize, queue as usize);
     }
 
-    /// The first of a queue leaves it.
+    /// Removes and returns the first of a queue.
     pub(crate) fn take_first(&mut self, queue: u32) -> Option<ActorId>
         requires { queue < length self.old.queues }
-        ensures first { result ≡ front (queue_at self.old.queues queue) }
+        ensures first { result ≡ first_waiter (waiters_at self.old.queues queue) }
         ensures shortened { self.new
             ≡ record self.old { queues = shortened self.old.queues queue } }
         ensures actor { IfSome result (λ actor. actor.0 ≤ self.old.actors) }
@@ -74,7 +74,7 @@ impl Queues {
         }
     }
 
-    /// An actor leaves the queue in which it waits, if it waits.
+    /// Removes an actor from the queue in which it waits, if it waits.
     pub(crate) fn leave(&mut self, actor: ActorId)
         requires { IsActor self.old.actors actor }
         ensures { self.new ≡ record self.old { queues = left actor self.old.queues } }

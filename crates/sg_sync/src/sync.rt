@@ -1,8 +1,8 @@
 //! The objects at which actors wait for one another.
 ghost use Rattle.std.specs.Prelude.{◌≡◌, ◌<◌, ◌≤◌, ◌+◌, ◌∷◌, ◌++◌, ◌^◌, [], None, IfOk, length, replicate};
 ghost use Rattle.std.specs.Vec.{vec_capacity};
-ghost use Rattle.sg_sync.specs.Queues.{IsActor, queue_at};
-ghost use Rattle.sg_sync.specs.Objects.{acquired, arrived, count_of, locked, passed_on, released, unlocked, withdrawn};
+ghost use Rattle.sg_sync.specs.Queues.{IsActor, waiters_at};
+ghost use Rattle.sg_sync.specs.Objects.{acquired, arrived, count_of, locked, passed_on, released, unlocked, after_withdrawal};
 ghost use Rattle.sg_sync.specs.Waits.{CanWait};
 
 use crate::arrivals::Arrivals;
@@ -14,8 +14,8 @@ use std::marker::Model;
 
 /// Mutexes and semaphores, each by its place in declared order from 0 on, and the one barrier.
 ///
-/// An actor that waits goes on by a later call of another: `others` tells who does. All queues are first in, first
-/// out. An actor that waits makes no call; so it waits in one queue at most, and no call takes memory.
+/// A waiting actor continues by a later call of another: `others` returns who does. All queues are first in, first out.
+/// A waiting actor makes no call; so it waits in one queue at most, and no call takes memory.
 pub struct Sync {
     owners: Vec<Option<ActorId>>,
     locking: Queues,
@@ -44,7 +44,7 @@ impl Drop for Sync {
 impl Model for Sync {
     ghost use Rattle.std.specs.Prelude.{◌≡◌, ◌≤◌, length};
     ghost use Rattle.std.specs.Vec.{vec_capacity};
-    ghost use Rattle.sg_sync.specs.Queues.{queue_at};
+    ghost use Rattle.sg_sync.specs.Queues.{waiters_at};
     ghost use Rattle.sg_sync.specs.Objects.{Objects};
     ghost use Rattle.sg_sync.specs.kept.Objects.{IsKept};
 
@@ -57,7 +57,7 @@ impl Model for Sync {
       counts = s.counts.items;
       acquiring = s.acquiring.queues;
       members = s.members;
-      arrived = queue_at s.arrived.queues 0;
+      arrived = waiters_at s.arrived.queues 0;
       others = s.others.items;
     } };
 
@@ -65,7 +65,7 @@ impl Model for Sync {
         (length s.owners.items) (length s.counts.items) (vec_capacity s.others) };
 }
 
-// Notes one more that goes on.
+// Notes one more actor that continues.
 fn tell(others: &mut Vec<ActorId>, actor: ActorId)
     requires { length others.old.items < vec_capacity others.old }
     ensures more { others.new.items ≡ others.old.items ++ actor ∷ [] }
@@ -77,13 +77,13 @@ fn tell(others: &mut Vec<ActorId>, actor: ActorId)
     }
 }
 
-// All leave the barrier, in order.
+// Removes all from the barrier, in order, and notes that they continue.
 fn tell_all(others: &mut Vec<ActorId>, arrived: &mut Arrivals)
     requires queue { length arrived.old.queues ≡ 1 }
     requires none { others.old.items ≡ [] }
-    requires few { length (queue_at arrived.old.queues 0) ≤ arrived.old.actors + 2 }
+    requires few { length (waiters_at arrived.old.queues 0) ≤ arrived.old.actors + 2 }
     requires room { arrived.old.actors + 2 ≤ vec_capacity others.old }
-    ensures all { others.new.items ≡ queue_at arrived.old.queues 0 }
+    ensures all { others.new.items ≡ waiters_at arrived.old.queues 0 }
     ensures capacity { vec_capacity others.old ≤ vec_capacity others.new }
     ensures left { arrived.new ≡ record arrived.old { queues = [] ∷ [] } }
 {
@@ -93,7 +93,7 @@ fn tell_all(others: &mut Vec<ActorId>, arrived: &mut Arrivals)
 }
 
 impl Sync {
-    /// Free mutexes, semaphores with these capacities, and a barrier of so many members.
+    /// Makes free mutexes, semaphores with these capacities, and a barrier of so many members.
     pub fn new(
         alloc: Global,
         actors: u32,
@@ -123,7 +123,7 @@ impl Sync {
         })
     }
 
-    /// A lock: a free mutex gets its owner, and who finds an owner waits, also the owner itself.
+    /// Locks a mutex: a free one gets its owner; an actor that finds an owner waits, even the owner itself.
     pub fn lock(&mut self, actor: ActorId, mutex: u32) -> Outcome
         requires waits { CanWait self.old actor }
         requires mutex { mutex < length self.old.owners }
@@ -143,7 +143,7 @@ impl Sync {
         }
     }
 
-    /// An unlock by the owner: the first that waits becomes the owner and goes on.
+    /// Unlocks a mutex for its owner: the first that waits becomes the owner and continues.
     pub fn unlock(&mut self, actor: ActorId, mutex: u32) -> Outcome
         requires mutex { mutex < length self.old.owners }
         ensures outcome { result ≡ (unlocked actor mutex self.old).outcome }
@@ -159,7 +159,7 @@ impl Sync {
         }
     }
 
-    // The mutex goes to the first that waits, or to nobody.
+    // Gives the mutex to the first that waits, or to nobody.
     fn pass_on(&mut self, mutex: u32)
         requires mutex { mutex < length self.old.owners }
         requires none { self.old.others ≡ [] }
@@ -172,7 +172,7 @@ impl Sync {
         }
     }
 
-    /// An acquire: a count above 0 falls by one, else the actor waits.
+    /// Acquires a semaphore: a count above 0 falls by one, else the actor waits.
     pub fn acquire(&mut self, actor: ActorId, semaphore: u32) -> Outcome
         requires waits { CanWait self.old actor }
         requires semaphore { semaphore < length self.old.counts }
@@ -190,7 +190,7 @@ impl Sync {
         }
     }
 
-    /// A release: the first that waits goes on, or the count rises by one.
+    /// Releases a semaphore: the first that waits continues, or the count rises by one.
     pub fn release(&mut self, semaphore: u32) -> Outcome
         requires semaphore { semaphore < length self.old.counts }
         requires room { count_of self.old semaphore + 1 < 2 ^ 64 }
@@ -205,8 +205,8 @@ impl Sync {
         Outcome::GoesOn
     }
 
-    /// An arrival at the barrier: where it makes the members complete, all that have arrived go on in the order of
-    /// arrival, this one last. A barrier of no members lets each one through.
+    /// Enters the barrier: once all members have arrived, all continue in the order of arrival, this one last. A
+    /// barrier of no members blocks nobody.
     pub fn arrive(&mut self, actor: ActorId) -> Outcome
         requires { CanWait self.old actor }
         ensures outcome { result ≡ (arrived actor self.old).outcome }
@@ -222,11 +222,11 @@ impl Sync {
         }
     }
 
-    /// An actor leaves whatever queue it waits in, from wherever it stands there, and all others keep their order. It
-    /// keeps the mutexes that it owns. Nobody goes on by this.
+    /// Removes an actor from whatever queue it waits in, at any place, and all others keep their order. It keeps the
+    /// mutexes that it owns. Nobody continues by this.
     pub fn leave(&mut self, actor: ActorId)
         requires { IsActor self.old.actors actor }
-        ensures { self.new ≡ withdrawn actor self.old }
+        ensures { self.new ≡ after_withdrawal actor self.old }
     {
         self.others.clear();
         self.locking.leave(actor);
@@ -234,8 +234,8 @@ impl Sync {
         self.arrived.leave(actor);
     }
 
-    /// Who goes on by the last call beside the one that made it, in order. That one goes on before them at a mutex and
-    /// a semaphore, and after them at the barrier.
+    /// Returns who continues by the last call beside its caller, in order. The caller continues before them at a mutex
+    /// and a semaphore, and after them at the barrier.
     pub fn others(&self) -> &[ActorId]
         ensures { result.now ≡ self.now.others }
     {

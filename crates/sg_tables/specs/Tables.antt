@@ -14,6 +14,7 @@ use Rattle.sg_tables.specs.declared.units.Quantity.TheVariants.{Time, Latency, S
 use Rattle.sg_tables.specs.declared.tables.Word.{Word}
 use Rattle.sg_tables.specs.declared.tables.Word.TheVariants as word
 
+-- a key of a table: its word, whether a row must have it, and the rule for its value
 abbrev pub key : Word → Need → Rule → Key
 key word need rule = record { word = word; need = need; rule = rule }
 
@@ -71,6 +72,7 @@ keys_of Mutex = key word.Id Required (Text NewMutex) ∷ []
 keys_of Semaphore = key word.Id Required (Text NewSemaphore)
     ∷ key word.Capacity Required (Whole 0 1000000000) ∷ []
 
+-- the table as a text writes it
 abbrev pub table_text : Table → List ℕ
 table_text Zone = codes "zone"
 table_text Host = codes "host"
@@ -99,10 +101,11 @@ row_limit Profile = 4096
 row_limit StateProfile = 4096
 row_limit _ = 65536
 
--- the tables of a platform, and those of a deployment, in order
+-- the tables of a platform, in order
 abbrev pub platform_tables : List Table
 platform_tables = Zone ∷ Host ∷ Router ∷ Link ∷ Route ∷ ZoneRoute ∷ Spoke ∷ Network ∷ Profile ∷ StateProfile ∷ []
 
+-- the tables of a deployment, in order
 abbrev pub deployment_tables : List Table
 deployment_tables = Actor ∷ Mutex ∷ Semaphore ∷ []
 

@@ -1,4 +1,4 @@
--- Values with units, where their reader takes the text, and whole numbers within bounds.
+-- Values with units, if their reader takes the text, and whole numbers within bounds.
 use Rattle.std.specs.Prelude.{ℕ, ℤ, pos, negsuc, ◌&&◌, nat_le, List, if◌then◌else◌, Option, Some, None, option_and_then}
 use Rattle.std.specs.Result.{result_ok}
 use Rattle.sg_tables.specs.declared.units.Quantity.{Quantity}

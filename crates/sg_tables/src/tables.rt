@@ -56,9 +56,9 @@ pub enum Word {
 pub enum Need {
     Required,
     Optional,
-    /// Required where this other key of the row names a zone.
+    /// Required if this other key of the row names a zone.
     IfZone(Word),
-    /// Required where the row doesn't have this other key.
+    /// Required if the row doesn't have this other key.
     Unless(Word),
 }
 
@@ -98,9 +98,9 @@ pub enum TextRule {
     EndName,
     /// The name of a host.
     HostName,
-    /// The name of a point, where no earlier route row gave the pair.
+    /// The name of a point, if no earlier route row gave the pair.
     RouteEnd,
-    /// The name of a zone or point, where no earlier zone route row gave the pair.
+    /// The name of a zone or point, if no earlier zone route row gave the pair.
     ZoneRouteEnd,
     /// The name of a zone or point that no earlier spoke row has.
     SpokeChild,
@@ -114,13 +114,13 @@ pub enum TextRule {
     PositiveValue(Quantity),
     /// A value.
     AnyValue(Quantity),
-    /// The name of a host, where no earlier profile row has it.
+    /// The name of a host, if no earlier profile row has it.
     ProfiledHost,
-    /// The name of a link, where no earlier profile row has it, nor this row a host.
+    /// The name of a link, if no earlier profile row has it, nor this row a host.
     ProfiledLink,
-    /// The name of a host, where no earlier row of states has it.
+    /// The name of a host, if no earlier row of states has it.
     SwitchedHost,
-    /// The name of a link, where no earlier row of states has it, nor this row a host.
+    /// The name of a link, if no earlier row of states has it, nor this row a host.
     SwitchedLink,
 }
 
@@ -183,7 +183,7 @@ pub const PLATFORM: [Table; 10] = [
 pub const DEPLOYMENT: [Table; 3] = [Table::Actor, Table::Mutex, Table::Semaphore];
 
 impl Word {
-    /// The key as a text writes it.
+    /// Returns the key as a text writes it.
     pub fn text(self) -> &'static str
         ensures { result.now ≡ word_text self }
     {
@@ -324,7 +324,7 @@ const SEMAPHORE_KEYS: [Key; 2] = [
 ];
 
 impl Table {
-    /// The table as a text writes it.
+    /// Returns the table as a text writes it.
     pub fn text(self) -> &'static str
         ensures { result.now ≡ table_text self }
     {
@@ -345,7 +345,7 @@ impl Table {
         }
     }
 
-    /// How many rows it may have.
+    /// Returns how many rows it may have.
     pub fn row_limit(self) -> usize
         ensures { result ≡ row_limit self }
     {

@@ -1,4 +1,4 @@
-//! Values with units, where their reader takes the text, and whole numbers within bounds.
+//! Values with units, if their reader takes the text, and whole numbers within bounds.
 ghost use Rattle.std.specs.Prelude.{◌≡◌};
 ghost use Rattle.sg_tables.specs.Units.{quantity_value, whole_value};
 ghost use Rattle.sg_tables.specs.declared.units.Quantity.TheVariants as quantity;
@@ -36,7 +36,7 @@ fn latency_value(text: &[u8]) -> Option<u64>
 }
 
 impl Quantity {
-    /// The amount that a text gives.
+    /// Returns the amount that a text gives.
     #[tactic(auto, unfolding(crate::specs::Units::quantity_value))]
     pub fn value(self, text: &[u8]) -> Option<u64>
         ensures { result ≡ quantity_value self text.now }
@@ -52,7 +52,7 @@ impl Quantity {
     }
 }
 
-/// The whole number, if it is from the least to the greatest.
+/// Returns the whole number, if it is from the least to the greatest.
 pub fn whole_value(least: u64, greatest: u64, number: i64) -> Option<u64>
     ensures { result ≡ whole_value least greatest number }
 {

@@ -17,12 +17,12 @@ abbrev pub sender_name : Deployed → BoxId → List ℕ
 sender_name deployed (box.Pair from to) = actor_name deployed from
 sender_name deployed (box.Named actor) = actor_name deployed actor
 
--- the bytes that a receive brought, where it is over
+-- the bytes that a receive brought, if it has completed
 abbrev pub brought_text : Option ℕ → List ℕ
 brought_text (Some bytes) = codes " " ++ decimal bytes
 brought_text None = []
 
--- the text of a call; a receive that is over tells what it brought, one that is still blocked doesn't
+-- the text of a call; a completed receive has what it brought, one that is still blocked doesn't
 abbrev pub call_text : Deployed → Option ℕ → Call → List ℕ
 call_text deployed brought call.Ask = []
 call_text deployed brought (call.Compute flops priority) = codes "compute " ++ decimal flops

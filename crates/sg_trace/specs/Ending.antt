@@ -1,4 +1,4 @@
--- The lines that tell how the run ended.
+-- The lines that report how the run ended.
 use Rattle.std.specs.Prelude.{⊤, ℕ, ◌<◌, ◌^◌, List, ◌++◌, decimal, codes, length, None}
 use Rattle.sg_base.specs.Limits.{IsActorIn, IsCall}
 use Rattle.sg_base.specs.Lines.{HasLine}
@@ -12,7 +12,7 @@ use Rattle.sg_trace.specs.Energy.{energy_of}
 use Rattle.sg_trace.specs.Line.{IsDate}
 use Rattle.sg_trace.specs.Names.{actor_label, host_name}
 
--- what a line tells, without its newline
+-- what a line reports, without its newline
 abbrev pub last_text : Last → Platform → Deployed → List ℕ
 last_text (Time date) platform deployed = codes "Simulation time " ++ date_of date
 last_text (Deadlock date) platform deployed = codes "deadlock at " ++ date_of date
@@ -24,10 +24,12 @@ last_text (Suspended actor) platform deployed = codes "suspended [" ++ actor_lab
 last_text (Summary actors events) platform deployed = decimal actors ++ codes " actors, " ++ decimal events ++ codes " events"
 last_text (Energy host joules rest) platform deployed = codes "energy " ++ host_name platform host ++ codes " " ++ energy_of joules rest
 
+-- a line that reports the end of a run, with its newline
 abbrev pub ending_of : Last → Platform → Deployed → List ℕ
 ending_of last platform deployed = last_text last platform deployed ++ codes "\n"
 
--- what a line tells is of this platform and this deployment, its date is one, and the rest of its energy is below a joule
+-- what a line reports is of this platform and this deployment, its date is one, and the rest of its energy is below a
+-- joule
 abbrev pub IsLastOf : Platform → Deployed → Last → Type 0
 IsLastOf platform deployed (Time date) = IsDate date
 IsLastOf platform deployed (Deadlock date) = IsDate date

@@ -57,7 +57,7 @@ fn push_received(line: &mut Line, word: &str, deployment: &Deployment, mailbox: 
     push_actor_name(line, deployment, sender);
 }
 
-/// The bytes that a receive brought, where it is over.
+/// Adds the bytes that a receive brought, if it has completed.
 fn push_brought(line: &mut Line, brought: Option<u64>)
     requires room { HasRoom line.old 33 }
     ensures bytes { line.new.bytes ≡ line.old.bytes ++ brought_text brought }
@@ -107,7 +107,7 @@ fn push_counting(line: &mut Line, word: &str, deployment: &Deployment, semaphore
     push_semaphore(line, deployment, semaphore);
 }
 
-/// The text of a call, and of a receive that is over the bytes that it brought.
+/// Adds the text of a call, and for a completed receive the bytes that it brought.
 pub fn push_call(line: &mut Line, deployment: &Deployment, call: Call, brought: Option<u64>)
     requires told { HasLine call }
     requires call { IsCall (extent_of deployment.now) call }

@@ -1,14 +1,14 @@
-//! What is told at the end of a run.
+//! What is reported at the end of a run.
 use sg_base::{ActorId, Call, PointId};
 
-/// What a line at the end of a run tells. Dates are in nanoseconds.
+/// What a line at the end of a run reports. Dates are in nanoseconds.
 #[derive(Clone, Copy)]
 pub enum Last {
     /// All actors had ended at this date.
     Time(u128),
-    /// Nobody was ready, and nothing was under way.
+    /// No actor was ready, and no activity was running.
     Deadlock(u128),
-    /// Nobody was ready, and nothing that was under way would ever be over.
+    /// No actor was ready, and no running activity would ever end.
     Starved(u128),
     /// The budget, of so many events, was used up at this date.
     Budget(u64, u128),

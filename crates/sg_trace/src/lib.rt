@@ -1,4 +1,4 @@
-//! The lines on standard output: those of the trace, and those that tell how a run ended. Nothing here takes memory.
+//! The lines on standard output: those of the trace, and those that report how a run ended. Nothing here takes memory.
 //! One enters by `line`, for an answered call, and `ending_lines`.
 //! It stands on `sg_units` for dates, and on `sg_rows` for names.
 #![tactic(auto)]

@@ -15,7 +15,7 @@ use crate::pieces::{Line, push_date, push_end, push_energy, push_number};
 use sg_base::{ActorId, Record};
 use sg_rows::{Deployment, PlatformText};
 
-/// The line of the trace that tells a record, with its newline. It takes no memory.
+/// Returns the trace line of a record, with its newline. It takes no memory.
 pub fn line(answered: &Record, platform: &PlatformText, deployment: &Deployment) -> Line
     requires answered { IsOfDeployment deployment.now answered.now }
     requires deployed { IsDeployedOn platform.now deployment.now }
@@ -45,7 +45,7 @@ fn push_dated(line: &mut Line, text: &str, date: u128)
     push_date(line, date);
 }
 
-// A text that ends in an opening bracket, the actor and the closing one.
+// Adds a text that ends in an opening bracket, the actor and the closing one.
 fn push_in_brackets(
     line: &mut Line,
     text: &str,
@@ -105,7 +105,7 @@ fn push_last(line: &mut Line, last: Last, platform: &PlatformText, deployment: &
     }
 }
 
-/// A line that tells how the run ended, with its newline. It takes no memory.
+/// Returns a line that reports how the run ended, with its newline. It takes no memory.
 pub fn ending_lines(last: &Last, platform: &PlatformText, deployment: &Deployment) -> Line
     requires last { IsLastOf platform.now deployment.now last.now }
     requires deployed { IsDeployedOn platform.now deployment.now }

@@ -52,7 +52,7 @@ pub fn push_actor_name(line: &mut Line, deployment: &Deployment, actor: ActorId)
     push_name(line, &deployment.actors()[actor.index()].name);
 }
 
-/// The actor with its host and its identifier.
+/// Adds the actor with its host and its identifier.
 pub fn push_actor(line: &mut Line, platform: &PlatformText, deployment: &Deployment, actor: ActorId)
     requires actor { IsActorIn (extent_of deployment.now) actor }
     requires deployed { IsDeployedOn platform.now deployment.now }

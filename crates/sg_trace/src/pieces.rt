@@ -55,7 +55,7 @@ fn push_twelve_digits(line: &mut Line, number: u64)
     line.push_str(digits);
 }
 
-/// An energy: whole joules, and the rest in units of 10^-12 J.
+/// Adds an energy: whole joules, and the rest in units of 10^-12 J.
 pub fn push_energy(line: &mut Line, joules: u128, rest: u64)
     requires rest { rest < 10 ^ 12 }
     requires room { HasRoom line.old 64 }
@@ -68,7 +68,7 @@ pub fn push_energy(line: &mut Line, joules: u128, rest: u64)
     push_twelve_digits(line, rest);
 }
 
-/// How long a call took, or that it was refused or failed.
+/// Adds how long a call took, or that it was refused or failed.
 pub fn push_end(line: &mut Line, end: End)
     requires end { IsEnd end }
     requires room { HasRoom line.old 64 }

@@ -13,7 +13,7 @@ pub first_append_some : {B : Type 0} (xs ys : List B) (y : B) → first xs ≡ S
 first_append_some [] ys y some = cc
 first_append_some (x ∷ xs) ys y some = some
 
--- the item at i gives nothing: go on after it
+-- the item at i gives nothing: continue after it
 pub along_more : {A B : Type 0} (f : ℕ → A → List B) (xs : List A) (i : ℕ) (d : A) → i < length xs → first (f i (get_or xs i d)) ≡ None
     → first (along f i (drop i xs)) ≡ first (along f (i + 1) (drop (i + 1) xs))
 along_more f xs i d within none = rw (drop_more xs i d within) (first_append_none _ _ none)

@@ -22,7 +22,7 @@ numbered_below test n (k ∷ keys) =
       | inr other ↦ rw other (numbered_below test n keys)
     ]
 
--- where each item gives no number above its own, all stay below the end
+-- if each item gives no number above its own, all stay below the end
 pub along_below : {A K : Type 0} (test : K → Bool) (f : ℕ → A → List (K × ℕ)) (before : ℕ) → ((j : ℕ) (x : A) → IfSome (lookup test (f j x)) (λ n. n < before + j + 1))
     → (i : ℕ) (xs : List A) → IfSome (lookup test (along f i xs)) (λ n. n < before + i + length xs)
 along_below test f before each i [] = tt

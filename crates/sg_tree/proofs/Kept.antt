@@ -1,4 +1,4 @@
--- Where a list of faults is empty, each part of it is.
+-- If a list of faults is empty, each part of it is.
 use Rattle.std.proofs.Common.{◌≡◌, ℕ, ◌+◌, List, [], ◌∷◌, ◌++◌, None, refl}
 use Rattle.std.proofs.lemmas.List.Elements.{All-nil, All-cons}
 use Rattle.std.specs.List.{All}

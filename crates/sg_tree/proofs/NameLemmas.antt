@@ -49,7 +49,7 @@ lookup_append test (x ∷ xs) ys =
       | inr other ↦ rw other (lookup_append test xs ys)
     ]
 
--- one more under the next number, where the last is the only one
+-- one more under the next number, if the last is the only one
 pub given_here : (b : Bool) (n : ℕ) (old : Option ℕ) (rest : Option ℕ) → or_else (or_else old (cond b (Some n) None)) rest ≡ or_else old (cond b (Some n) rest)
 given_here true n old rest = or_else_assoc old (Some n) rest
 given_here false n old rest = or_else_assoc old None rest
@@ -81,7 +81,7 @@ pub numbered_from : {X A K : Type 0} (v : X → A) (keys : A → List K) (before
 numbered_from v keys before xs =
     along_from (λ i x. with_number i (keys (v x))) before 0 before xs (omega arith) ∙ sym (along_map v (λ i row. with_number i (keys row)) before xs)
 
--- a turn of a loop that has given numbers along a front of a list
+-- a turn of a loop that has given numbers along a prefix of a list
 pub along_front : {K A : Type 0} (test : K → Bool) (f : ℕ → A → List (K × ℕ)) (xs : List A) (i : ℕ) (d : A) (first old new : Option ℕ) → i < length xs → d ≡ get_or xs i d
     → old ≡ or_else first (lookup test (along f 0 (take i xs))) → new ≡ or_else old (lookup test (f i d)) → new ≡ or_else first (lookup test (along f 0 (take (i + 1) xs)))
 along_front test f xs i d first old new within is had step =

@@ -19,7 +19,7 @@ passed Less d rest other = refl
 passed Equal d rest other = absurd (false≢true (sym other))
 passed Greater d rest other = refl
 
--- the members behind the first, where that one is the one taken, and where it isn't
+-- the members after the first, if that one is the one taken, and if it isn't
 kept_at : (q : List ℕ) (o : Ordering) (e : Entry) (es left : List Entry) → (o ≡ Equal → same_key q (string_bytes e.0) ≡ false) → get_member q (members_view left) ≡ get_member q (members_view es)
     → get_member q (members_view (cond (is_eq o) es (e ∷ left))) ≡ get_member q (members_view (e ∷ es))
 kept_at q Less e es left far same = ap (λ d. match_ordering (slice_cmp nat_cmp q (string_bytes e.0)) d (Some (view e.1)) d) same

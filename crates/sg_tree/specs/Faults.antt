@@ -29,7 +29,7 @@ kind_words Limit = codes "over a limit"
 kind_words Function = codes "unknown function"
 kind_words Arguments = codes "bad arguments"
 
--- the kind, where its rule is broken
+-- the kind, if its rule is broken
 abbrev pub kind_if : Bool → Kind → List Kind
 kind_if b kind = if b then kind ∷ [] else []
 

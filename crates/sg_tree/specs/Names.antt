@@ -10,9 +10,11 @@ use Rattle.toml.specs.Data.{Data}
 abbrev pub Finds : Type 0
 Finds = List ℕ → Option ℕ
 
+-- an ordered pair of numbers: the two ends of a route
 abbrev pub Pair : Type 0
 Pair = ℕ × ℕ
 
+-- whether two pairs have the same first and the same second number
 abbrev pub pair_eq : Pair → Pair → Bool
 pair_eq p q = p.0 == q.0 && p.1 == q.1
 
@@ -37,7 +39,7 @@ numbered keys number rows = along (λ i row. with_number i (keys row)) number ro
 abbrev pub found_in : List (List ℕ × ℕ) → Finds
 found_in given name = lookup (bytes_eq name) given
 
--- these names were given these numbers, but for those that had one
+-- these names were given these numbers, except for those that had one
 abbrev pub Adds : List (List ℕ × ℕ) → Finds → Finds → Type 0
 Adds given old new = (q : List ℕ) → new q ≡ or_else (old q) (found_in given q)
 

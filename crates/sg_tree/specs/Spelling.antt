@@ -7,6 +7,7 @@ use Rattle.std.specs.List.{list_all}
 abbrev pub is_name_byte : ℕ → Bool
 is_name_byte byte = ((is_ascii_alphanumeric byte || byte == 95) || byte == 46) || byte == 45
 
+-- whether a text is a name: 1 to 64 bytes, each one that names may have
 unfoldable pub is_name : List ℕ → Bool
 is_name text = (not (length text == 0) && nat_le (length text) 64) && list_all is_name_byte text
 

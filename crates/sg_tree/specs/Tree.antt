@@ -9,15 +9,17 @@ use Rattle.toml.specs.Parse.{parse_document}
 unfoldable pub tree_of : List ℕ → Option Members
 tree_of bytes = if is_utf8 bytes then parse_document bytes else None
 
+-- the items of a TOML array, as a list
 abbrev pub list_of : Items → List Data
 list_of no_items = []
 list_of (item d ds) = d ∷ list_of ds
 
+-- the items of an array, or no items if there is no array
 abbrev pub items_or_none : Option Items → List Data
 items_or_none None = []
 items_or_none (Some ds) = list_of ds
 
--- the rows of a table: none where it is absent or no array
+-- the rows of a table: none if it is absent or no array
 unfoldable pub rows_at : List ℕ → Members → List Data
 rows_at name tree = items_or_none (option_and_then as_array (get_member name tree))
 
@@ -25,6 +27,7 @@ rows_at name tree = items_or_none (option_and_then as_array (get_member name tre
 abbrev pub text_at : List ℕ → Data → Option (List ℕ)
 text_at key row = option_and_then as_str (get key row)
 
+-- the text at a key of a row, or the empty text if there is none
 abbrev pub text_or_empty : List ℕ → Data → List ℕ
 text_or_empty key row = unwrap_or (text_at key row) []
 

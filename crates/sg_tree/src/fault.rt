@@ -2,7 +2,7 @@
 ghost use Rattle.std.specs.Prelude.{◌≡◌};
 ghost use Rattle.sg_tree.specs.Faults.{kind_words};
 
-/// Which rule a text breaks. At one place the earlier kind is told.
+/// Which rule a text breaks. At one place the earlier kind is reported.
 #[derive(Clone, Copy)]
 pub enum Kind {
     /// A key that must be there is missing.
@@ -26,7 +26,7 @@ pub enum Kind {
 }
 
 impl Kind {
-    /// The rule that is broken, in words.
+    /// Returns the rule that is broken, in words.
     pub fn words(self) -> &'static str
         ensures { result.now ≡ kind_words self }
     {

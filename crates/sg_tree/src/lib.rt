@@ -1,5 +1,5 @@
 //! Reads a TOML text into its tree, and finds there rows, keys and names; faults with their places.
-//! One enters by `read_tree`, and goes on by `rows_at` and `value_at`; `Fault` is a kind at a `Place`.
+//! One enters by `read_tree`, and then by `rows_at` and `value_at`; `Fault` is a kind at a `Place`.
 //! It stands on `sg_base`, and on toml and indexmap.
 #![tactic(auto)]
 

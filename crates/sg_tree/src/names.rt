@@ -12,7 +12,7 @@ use sg_base::Memory;
 use std::alloc::Global;
 use toml::Value;
 
-/// The number in the 32 bits that a space of names has for it; one that is greater is want of memory.
+/// Returns the number in the 32 bits that a space of names has for it; a greater one counts as out of memory.
 pub fn small_number(number: usize) -> Result<u32, Memory>
     ensures { IfOk result (λ small. small ≡ number) }
 {
@@ -120,7 +120,7 @@ pub fn add_names(
     Ok(())
 }
 
-/// The names at a key of rows, with the numbers of the rows from 0 on.
+/// Returns the names at a key of rows, with the numbers of the rows from 0 on.
 pub fn names_at(alloc: Global, key: &str, rows: &[Value]) -> Result<IndexMap<String, u32>, Memory>
     ensures { IfOk result
         (λ made. SameNames (get_by_text made)

@@ -16,7 +16,7 @@ pub enum NoTree {
     Memory,
 }
 
-/// The tree of some bytes.
+/// Returns the tree of some bytes.
 pub fn read_tree(alloc: Global, bytes: &[u8]) -> Result<Table, NoTree>
     ensures ok { IfOk result (λ t. tree_of bytes.now ≡ Some (table_view t)) }
     ensures bad { IsErrOf result NoTree.BadToml → tree_of bytes.now ≡ None }
@@ -33,14 +33,14 @@ pub fn read_tree(alloc: Global, bytes: &[u8]) -> Result<Table, NoTree>
     }
 }
 
-/// The value at a key of the tree.
+/// Returns the value at a key of the tree.
 pub fn value_at<'a>(tree: &'a Table, name: &str) -> Option<&'a Value>
     ensures { option_map (λ v. view v.now) result ≡ get_member name.now (table_view tree.now) }
 {
     tree.get(name)
 }
 
-/// The rows of a table: none where it is absent or no array.
+/// Returns the rows of a table: none if it is absent or no array.
 #[tactic(auto, using(crate::proofs::TreeLemmas::list_of_items), unfolding(crate::specs::Tree::rows_at))]
 pub fn rows_at<'a>(tree: &'a Table, name: &str) -> &'a [Value]
     ensures { map view result.now ≡ rows_at name.now (table_view tree.now) }
@@ -62,7 +62,7 @@ fn take_value(tree: &mut Table, name: &str) -> Option<Value>
     tree.remove(name)
 }
 
-// The items of an array: none where it is none.
+// Returns the items of an array: none if it isn't one.
 fn items_of(alloc: Global, value: Value) -> Vec<Value>
     ensures { map view result.items ≡ items_or_none (as_array (view value)) }
 {
@@ -72,7 +72,7 @@ fn items_of(alloc: Global, value: Value) -> Vec<Value>
     }
 }
 
-/// Takes the rows of a table out of the tree: none where it is absent or no array.
+/// Takes the rows of a table out of the tree: none if it is absent or no array.
 #[tactic(auto, unfolding(crate::specs::Tree::rows_at))]
 pub fn take_rows(alloc: Global, tree: &mut Table, name: &str) -> Vec<Value>
     ensures rows { map view result.items ≡ rows_at name.now (table_view tree.old) }
@@ -84,7 +84,7 @@ pub fn take_rows(alloc: Global, tree: &mut Table, name: &str) -> Vec<Value>
     }
 }
 
-/// The text at a key of a row.
+/// Returns the text at a key of a row.
 pub fn text_at<'a>(row: &'a Value, key: &str) -> Option<&'a str>
     ensures { option_copied result ≡ text_at key.now (view row.now) }
 {
@@ -94,7 +94,7 @@ pub fn text_at<'a>(row: &'a Value, key: &str) -> Option<&'a str>
     }
 }
 
-/// The text at a key of a row, and the empty text where there is none.
+/// Returns the text at a key of a row, and the empty text if there is no such key.
 pub fn text_or_empty<'a>(row: &'a Value, key: &str) -> &'a str
     ensures { result.now ≡ text_or_empty key.now (view row.now) }
 {

@@ -33,7 +33,7 @@ all_digits (b ∷ text) = elim (cases_Bool (is_ascii_digit b)) [
 pub digits_by_length : (text : List ℕ) → take (length (digits text)) text ≡ digits text
 digits_by_length text = grind (arith, common_steps)
 
--- one digit more of those that stand behind a number
+-- one more digit of those that stand after a number
 pub rest_at : (digits : List ℕ) (i : ℕ) → i < length digits → drop i digits ≡ get_or digits i 0 ∷ drop (i + 1) digits
 rest_at digits i below = drop-cons digits i 0 below ∙ ap (λ k. get_or digits i 0 ∷ drop k digits) (sym (add-one i))
 

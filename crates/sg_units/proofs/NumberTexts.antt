@@ -65,7 +65,7 @@ fraction_part (b ∷ text) = elim (cases_Bool (b == 46)) [
   | inr isnt ↦ rw isnt record { front = []; is = refl; holds = refl }
 ]
 
--- the digits behind an e and its sign
+-- the digits after an e and its sign
 marked_part : (text after : List ℕ) (b : ℕ) (sign : List ℕ) (negative : Bool) → (b ≡ 101) ⊎ (b ≡ 69) → IsSign negative sign → text ≡ b ∷ (sign ++ after)
     → Part (WritesExponent negative (digits after)) text (after_part text after)
 marked_part text after b sign negative e is_sign is = elim (cases_Bool (length (digits after) == 0)) [
@@ -157,7 +157,7 @@ e_tests b (inr capital) = rw capital (refl, refl, refl)
 digit_no_sign : (d : ℕ) → digit_value d < 10 → ((d == 43) ≡ false) × ((d == 45) ≡ false)
 digit_no_sign d small = let range = digit_from_value d small in (grind (arith, nat_tests), grind (arith, nat_tests))
 
--- behind an e and its sign stand the digits
+-- after an e and its sign stand the digits
 after_e_front : (negative : Bool) (b : ℕ) (sign ds rest : List ℕ) → (b ≡ 101) ⊎ (b ≡ 69) → IsSign negative sign → IsNumeral 10 ds → after_e (b ∷ (sign ++ (ds ++ rest))) ≡ ds ++ rest
 after_e_front true b sign ds rest e is numeral = rw (is, (e_tests b e).0) refl
 after_e_front false b sign ds rest e (inr is) numeral = rw (is, (e_tests b e).0) refl
@@ -175,7 +175,7 @@ unit_behind_exponent negative b ds text rest (e, (sign, is_sign, is), numeral) =
     in
     rw (whole, unit) (after_shorter rest)
 
--- behind the digits of the whole part
+-- after the digits of the whole part
 behind_exponent : (negative : Bool) (ds exponent rest : List ℕ) → WritesExponent negative ds exponent → length (unit_after (after_digits (exponent ++ rest))) ≤ length rest
 behind_exponent negative ds [] rest writes = omega (arith, unit_after_shorter (after_digits rest), after_shorter rest)
 behind_exponent negative ds (b ∷ exponent) rest writes =

@@ -41,7 +41,7 @@ value_by_steps n size d s p q read =
     let turned : d * s * 10 ^ p ≡ d * 10 ^ p * s = mul_assoc d s (10 ^ p) ∙ ap (λ x. d * x) (mul_comm s (10 ^ p)) ∙ sym (mul_assoc d (10 ^ p) s) in
     div-div-eq-div-mul (d * s * 10 ^ p) (10 ^ q) size.denominator ∙ ap (λ x. x / (10 ^ q * size.denominator)) turned ∙ rw (read.digits, read.times, read.power, read.places) refl
 
--- what is at most the last multiple but one is over m at most g, and what is above is more
+-- a number below (g + 1) m has a quotient by m of at most g, and any other a greater one
 within : (g m x : ℕ) → 1 ≤ m → x ≤ (g + 1) * m - 1 → x / m ≤ g
 within g m x some below =
     let room : m ≤ (g + 1) * m = omega (arith, mul-le-mul_right {m = 1} {n = g + 1} m (omega arith)) in

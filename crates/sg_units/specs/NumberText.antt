@@ -27,7 +27,7 @@ pub record Writes (n : Number) (text : List ℕ) : Type 0 where
   pub is_fraction : WritesFraction n.fraction fraction
   pub is_exponent : WritesExponent n.is_negative n.exponent exponent
 
--- the text is a number text, and its unit behind it; no longer front of the text is a number text
+-- the text is a number text, and its unit after it; no longer front of the text is a number text
 pub record IsLongestNumber (text : List ℕ) (n : Number) : Type 0 where
   pub number : List ℕ
   pub split : text ≡ number ++ n.unit

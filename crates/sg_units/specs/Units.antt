@@ -4,12 +4,15 @@ use Rattle.std.specs.Borrow.{Bor}
 use Rattle.std.specs.List.{find, list_all}
 use Rattle.sg_units.specs.declared.units.Ratio.{Ratio}
 
+-- the units that a reader knows: the name of each, with its size as a fraction
 abbrev pub Units : Type 0
 Units = List (List ℕ × Ratio)
 
+-- the fraction of a numerator and a denominator
 abbrev pub ratio : ℕ → ℕ → Ratio
 ratio numerator denominator = record { numerator = numerator; denominator = denominator }
 
+-- a unit size that is a whole number of the base unit
 abbrev pub whole : ℕ → Ratio
 whole size = ratio size 1
 

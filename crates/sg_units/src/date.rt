@@ -30,12 +30,12 @@ fn push_nine_digits(text: &mut ArrayString<64>, number: u32)
     text.push_str(digits);
 }
 
-/// A date or a duration in nanoseconds, as seconds with nine digits behind the point.
+/// Returns a date or a duration in nanoseconds, as seconds with nine digits after the point.
 pub fn date_text(ns: u128) -> ArrayString<64>
     requires { ns < 10 ^ 33 }
     ensures text { result.bytes ≡ date_of ns }
 
-    // The digits before and behind the point together write the nanoseconds.
+    // The digits before and after the point together write the nanoseconds.
     ensures value { (seconds : List ℕ) × (rest : List ℕ) × (result.bytes ≡ seconds ++ 46 ∷ rest)
         × (length rest ≡ 9) × (digits_value 10 (seconds ++ rest) ≡ ns) }
 {

@@ -1,6 +1,6 @@
 //! Amounts, speeds, bandwidths, times, factors and dates as texts. Nothing here takes memory.
-//! One enters by `read_amount`, `read_speed`, `read_bandwidth`, `read_time` and `read_factor`, which give a number in
-//! the least unit or an `AmountFault`, and by `date_text` the other way.
+//! `read_amount`, `read_speed`, `read_bandwidth`, `read_time` and `read_factor` return a number in the least unit or an
+//! `AmountFault`; `date_text` writes a date as text.
 //! It stands on `sg_base`, for its lists alone.
 #![tactic(auto)]
 

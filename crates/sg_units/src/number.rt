@@ -8,7 +8,7 @@ ghost use Rattle.sg_units.specs.Number.{digits, after_digits, after_point, after
 pub struct Number<'a> {
     /// The digits before the point.
     pub whole: &'a [u8],
-    /// The digits behind the point.
+    /// The digits after the point.
     pub fraction: &'a [u8],
     /// Whether the exponent has a minus.
     pub is_negative: bool,
@@ -24,7 +24,7 @@ fn digit_count(text: &[u8]) -> usize
     text.iter().take_while(|b| b.is_ascii_digit()).count()
 }
 
-/// The digits at the front of a text, and what stands behind them.
+/// Returns the digits at the front of a text, and what follows them.
 fn split_digits(text: &[u8]) -> (&[u8], &[u8])
     ensures digits { result.0.now ≡ digits text.now }
     ensures after { result.1.now ≡ after_digits text.now }
@@ -58,7 +58,7 @@ fn has_minus(text: &[u8]) -> bool
     matches!(text, [_, b'-', ..])
 }
 
-/// The digits behind a mark, and what follows them; with no digit there, the mark is no part of the number.
+/// Returns the digits after a mark, and what follows them; with no digit there, the mark is no part of the number.
 fn split_part<'a>(text: &'a [u8], after_mark: &'a [u8]) -> (&'a [u8], &'a [u8])
     ensures digits { result.0.now ≡ digits after_mark.now }
     ensures after { result.1.now ≡ after_part text.now after_mark.now }
@@ -76,7 +76,7 @@ impl<'a> Number<'a> {
     ghost use Rattle.sg_units.specs.Number.{number_of};
     ghost use Rattle.sg_units.specs.kept.Shown.{parts_of, HasDigits};
 
-    /// The number at the front of a text; with no digit there its whole part is empty.
+    /// Returns the number at the front of a text; with no digit there its whole part is empty.
     pub fn split(text: &'a [u8]) -> Number<'a>
         ensures parts { parts_of result ≡ number_of text.now }
         ensures digits { HasDigits result }

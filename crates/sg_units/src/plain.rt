@@ -2,7 +2,7 @@
 ghost use Rattle.std.specs.Prelude.{IfSome};
 ghost use Rattle.sg_units.specs.kept.Shown.{IsPlainNumber};
 
-/// The number that a text writes, where it is digits alone, of which there are few enough for 64 bits.
+/// Returns the number that a text writes, if it is digits alone, of which there are few enough for 64 bits.
 pub fn plain_number(text: &[u8]) -> Option<u64>
     ensures { IfSome result (IsPlainNumber text.now) }
 {

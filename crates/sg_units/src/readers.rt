@@ -70,7 +70,7 @@ fn places_of(number: &Number) -> u32
     }
 }
 
-/// The number times the size of its unit, rounded down.
+/// Returns the number times the size of its unit, rounded down.
 fn short_value(number: &Number, size: Ratio, greatest: u64) -> Result<u64, AmountFault>
     requires digits { HasDigits number.now }
     requires size { IsSize size }
@@ -106,7 +106,7 @@ fn amount_by(units: &[UnitRow], greatest: u64, text: &[u8]) -> Result<u64, Amoun
     }
 }
 
-// The same with no unit. Most amounts are digits alone, and need no more than these.
+// Does the same with no unit. Most amounts are digits alone, and need no more than these.
 fn amount_without_unit(greatest: u64, text: &[u8]) -> Result<u64, AmountFault>
     requires { greatest ≤ 10 ^ 18 }
     ensures value { result ≡ amount_by amount_units greatest text.now }

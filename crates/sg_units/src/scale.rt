@@ -3,7 +3,8 @@ ghost use Rattle.std.specs.Prelude.{◌≡◌, ◌≤◌, ◌<◌, ◌+◌, ◌*
 ghost use Rattle.std.specs.Str.Parse.{AllDigits, digits_value_after};
 ghost use Rattle.sg_units.specs.kept.Scaled.{if_at_most};
 
-/// The number that so few digits write. Most amounts have few, and arithmetic in 64 bits is several times as fast.
+/// Returns the number that these few digits write. Most amounts have few, and 64-bit arithmetic is several times as
+/// fast.
 fn read_few(digits: &[u8]) -> u64
     requires digits { AllDigits 10 digits.now }
     requires few { length digits.now ≤ 18 }
@@ -17,7 +18,7 @@ fn read_few(digits: &[u8]) -> u64
     value
 }
 
-/// The number that these digits write behind those of `number`.
+/// Returns the number that these digits write after those of `number`.
 pub fn read_after(number: u128, digits: &[u8]) -> u128
     requires digits { AllDigits 10 digits.now }
     requires bound { (number + 1) * 10 ^ length digits.now < 2 ^ 120 }
@@ -34,7 +35,7 @@ pub fn read_after(number: u128, digits: &[u8]) -> u128
     value
 }
 
-/// The number times 10 to a power, where that is at most so large.
+/// Returns the number times 10 to a power, if that is at most so large.
 fn raised(number: u128, power: u32, most: u64) -> Option<u64>
     requires { number < 10 ^ 36 }
     ensures { result ≡ if_at_most most (number * 10 ^ power) }
@@ -54,7 +55,7 @@ fn raised(number: u128, power: u32, most: u64) -> Option<u64>
     }
 }
 
-/// The number over 10 to a power, rounded down.
+/// Returns the number over 10 to a power, rounded down.
 fn lowered(number: u128, power: u32) -> u128
     ensures { result ≡ number / 10 ^ power }
 {
@@ -65,7 +66,7 @@ fn lowered(number: u128, power: u32) -> u128
     value
 }
 
-/// The number times 10 to `power` over 10 to `places`, rounded down, where that is at most so large.
+/// Returns the number times 10 to `power` over 10 to `places`, rounded down, if that is at most so large.
 pub fn scaled(number: u128, power: u32, places: u32, most: u64) -> Option<u64>
     requires { number < 10 ^ 36 }
     ensures { result ≡ if_at_most most (number * 10 ^ power / 10 ^ places) }

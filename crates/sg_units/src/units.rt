@@ -59,7 +59,7 @@ pub const TIME_UNITS: [UnitRow; 9] = [
     (b"w", 604_800_000_000_000, 1),
 ];
 
-/// The size of the unit of this name.
+/// Returns the size of the unit of this name.
 pub fn size_of(mut units: &[UnitRow], name: &[u8]) -> Option<Ratio>
     requires { IsTrue (are_sizes (rows units.now)) }
     ensures size { result ≡ size_of (rows units.entry.now) name.now }

@@ -1,4 +1,4 @@
--- Where the definition takes the words, each row has a first value that passed its parser.
+-- If the definition takes the words, each row has a first value that passed its parser.
 use Rattle.std.proofs.Common.{◌≡◌, ◌<◌, ◌&&◌, ◌||◌, ◌++◌, ℕ, List, [], ◌∷◌, Bool, true, false, length, Option, Some, None, refl, arith, not}
 use Rattle.std.specs.Prelude.{if◌then◌else◌, slice_get, find, nat_lt, ◌==◌}
 use Rattle.std.specs.List.{list_all}

@@ -8,7 +8,7 @@ use Rattle.clap.proofs.ValueTestLemmas.{accepts-Accepts, Accepts-accepts}
 use Rattle.sg_words.specs.kept.Ranged.{number_in}
 use Rattle.sg_words.proofs.Accepted.{both}
 
--- a number that `parse` reads, where it is in range
+-- a number that `parse` reads, if it is in range
 pub read_ok : (E : Type 0) (t : List ℕ) (r : Result ℕ E) (n least most : ℕ) → ParsesUnsigned 64 10 t r → r ≡ Ok n → (if nat_le least n && nat_le n most then Some n else None) ≡ number_in least most t
 read_ok E t r n least most h is = with_it (rw is at h)
   where

@@ -1,4 +1,4 @@
--- Where the definition takes the words, the command that is entered isn't `help`.
+-- If the definition takes the words, the command that is entered isn't `help`.
 use Rattle.std.proofs.Common.{◌≡◌, ◌&&◌, List, [], ◌∷◌, Bool, true, false, Option, Some, None, refl, not, codes}
 use Rattle.std.specs.Prelude.{if◌then◌else◌, fold, is_some}
 use Rattle.std.specs.Option.{option_map_or}

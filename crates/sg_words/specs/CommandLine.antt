@@ -19,12 +19,15 @@ name_rule id = record (new_rule id) { required = true; value_names = 1 }
 abbrev pub parsed_rule : Text → ValueParser → Rule
 parsed_rule id parser = record (name_rule id) { parser = Some parser }
 
+-- the argument of churn for the seed: 0 to 2^63 - 1
 abbrev pub seed_rule : Rule
 seed_rule = parsed_rule (codes "seed") (vp.Unsigned 0 9223372036854775807)
 
+-- the argument of churn for the number of actors: 2 to 4,096
 abbrev pub actors_rule : Rule
 actors_rule = parsed_rule (codes "actors") (vp.Unsigned 2 4096)
 
+-- the argument of churn for the number of steps: 0 to 1,000,000
 abbrev pub steps_rule : Rule
 steps_rule = parsed_rule (codes "steps") (vp.Unsigned 0 1000000)
 
@@ -33,9 +36,11 @@ abbrev pub number_rule : Text → ℕ → ℕ → Text → Rule
 number_rule id least most default =
     record (new_rule id) { long = Some id; parser = Some (vp.Unsigned least most); defaults = default ∷ []; value_names = 1 }
 
+-- the option for the number of worker threads: 1 to 64, by default 1
 abbrev pub workers_rule : Rule
 workers_rule = number_rule (codes "nthreads") 1 64 (codes "1")
 
+-- the option for the greatest number of events: 1 to 10^9, by default 1,000,000
 abbrev pub budget_rule : Rule
 budget_rule = number_rule (codes "budget") 1 1000000000 (codes "1000000")
 
@@ -47,15 +52,19 @@ with_common_options a = with_rule (with_rule a workers_rule) budget_rule
 abbrev pub with_options : App → App
 with_options a = with_rule (with_common_options a) (record (new_rule (codes "quiet")) { long = Some (codes "quiet"); action = Some SetTrue })
 
+-- the file names of a platform and a deployment, as arguments of a command
 abbrev pub with_parts : App → App
 with_parts a = with_rule (with_rule a (name_rule (codes "platform"))) (name_rule (codes "deployment"))
 
+-- the command `replay`: a platform, a deployment and a script, with all options
 abbrev pub replay_app : App
 replay_app = with_options (with_rule (with_parts (new_app (codes "replay"))) (name_rule (codes "script")))
 
+-- the command `run`: a platform and a deployment without a script, with all options
 abbrev pub run_app : App
 run_app = with_options (with_parts (new_app (codes "run")))
 
+-- the command `churn`: a seed, a number of actors and a number of steps
 abbrev pub churn_app : App
 churn_app = with_common_options (with_rule (with_rule (with_rule (new_app (codes "churn")) seed_rule) actors_rule) steps_rule)
 
@@ -66,10 +75,11 @@ bare_app = record {
   subs = [];
 }
 
+-- the whole program: its commands `replay`, `run` and `churn`
 abbrev pub program_app : App
 program_app = with_subcommand (with_subcommand (with_subcommand bare_app replay_app.top) run_app.top) churn_app.top
 
--- the kinds of refusal that the words may have, none where the definition accepts them
+-- the kinds of refusal that the words may have, none if the definition accepts them
 abbrev pub refusals : List Text → Kinds
 refusals words = fault_of program_app words
 
@@ -82,17 +92,18 @@ pub data Request : Type 0 where
   run : Text → Text → Request
   churn : ℕ → ℕ → ℕ → Request
 
+-- the job of an accepted command line: what to simulate, on how many threads, how far, and whether quietly
 pub record Asked : Type 0 where
   pub request : Request
   pub workers : ℕ
   pub budget : ℕ
   pub quiet : Bool
 
--- a function of one more value, where both are there
+-- a function of one more value, if both are there
 abbrev pub with_value : {X Y : Type 0} → Option (X → Y) → Option X → Option Y
 with_value make value = option_and_then (λ f. option_map f value) make
 
--- the number that an argument has, where its rule takes it
+-- the number that an argument has, if its rule takes it
 abbrev pub number_at : Rule → List Row → Option ℕ
 number_at rule rows =
     option_and_then (λ text. if value_passes rule text then Some (digits_value 10 (without_leading_plus text)) else None) (first_of rule.id rows)
@@ -101,10 +112,12 @@ number_at rule rows =
 abbrev pub parts_at : {X : Type 0} → (Text → Text → X) → List Row → Option X
 parts_at make rows = with_value (option_map make (first_of (codes "platform") rows)) (first_of (codes "deployment") rows)
 
+-- what a churn is asked to do, if its three numbers are there
 abbrev pub churn_at : List Row → Option Request
 churn_at rows = with_value (with_value (option_map
     (λ seed actors steps. churn seed actors steps) (number_at seed_rule rows)) (number_at actors_rule rows)) (number_at steps_rule rows)
 
+-- what the command of this name is asked to do, if its arguments are there
 abbrev pub request_at : Text → List Row → Option Request
 request_at name rows =
     if bytes_eq name (codes "replay") then with_value (parts_at (λ p d s. replay p d s) rows) (first_of (codes "script") rows)
@@ -112,6 +125,7 @@ request_at name rows =
     else if bytes_eq name (codes "churn") then churn_at rows
     else None
 
+-- whether the option `--quiet` was given
 abbrev pub is_quiet : List Row → Bool
 is_quiet rows = option_map_or (λ text. bytes_eq text (codes "true")) (first_of (codes "quiet") rows) false
 
@@ -121,7 +135,7 @@ asked_at command = with_value (with_value (option_map
     (λ request workers budget. record { request = request; workers = workers; budget = budget; quiet = is_quiet command.1 })
     (request_at command.0 command.1)) (number_at workers_rule command.1)) (number_at budget_rule command.1)
 
--- what the words ask for, where the definition accepts them
+-- what the words ask for, if the definition accepts them
 abbrev pub asked_of : List Text → Option Asked
 asked_of words = option_and_then asked_at (subcommand_of program_app words)
 

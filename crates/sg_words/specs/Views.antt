@@ -32,8 +32,8 @@ job_view job = record { request = command_view job.command; workers = job.worker
 abbrev pub IsHelp : ErrorKind → Type 0
 IsHelp kind = (kind ≡ DisplayHelp) ⊎ (kind ≡ DisplayVersion)
 
--- Where no kind of refusal is there the answer is the job that was asked for, else a refusal of one of the kinds; or
--- memory was wanting.
+-- If there is no kind of refusal, the answer is the job that was asked for, else a refusal of one of the kinds; or
+-- memory ran out.
 abbrev pub Answers : Kinds → Option line.Asked → Result Job WordsFault → Type 0
 Answers kinds asked (Ok job) = (kinds ≡ []) × (asked ≡ Some (job_view job))
 Answers kinds asked (Err (Help text)) = IsAmong DisplayHelp kinds ⊎ IsAmong DisplayVersion kinds

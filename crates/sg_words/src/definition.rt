@@ -19,7 +19,7 @@ fn name_arg<'a>(alloc: Global, id: &'a str, shown: &'a str, help: &'a str) -> Ar
         .help(help)
 }
 
-// A number that must be given.
+// Returns a number that must be given.
 fn number_arg<'a>(
     alloc: Global,
     id: &'a str,
@@ -85,7 +85,7 @@ fn quiet_arg<'a>(alloc: Global) -> Arg<'a>
         .help(help::QUIET)
 }
 
-// The command with one more argument.
+// Returns the command with one more argument.
 fn with_arg<'a>(command: Command<'a>, arg: Arg<'a>) -> Result<Command<'a>, AllocError>
     requires arg { arg.global ≡ false }
     requires command { IsLocal command }
@@ -94,7 +94,7 @@ fn with_arg<'a>(command: Command<'a>, arg: Arg<'a>) -> Result<Command<'a>, Alloc
     command.arg(arg)
 }
 
-// The command with the names of the platform and of the deployment.
+// Returns the command with the names of the platform and of the deployment.
 fn with_parts<'a>(alloc: Global, command: Command<'a>) -> Result<Command<'a>, AllocError>
     requires { IsLocal command }
     ensures { Builds (with_parts (app_of command.entry)) result }
@@ -109,7 +109,7 @@ fn with_parts<'a>(alloc: Global, command: Command<'a>) -> Result<Command<'a>, Al
     )
 }
 
-// The command with the options that each command has.
+// Returns the command with the options that each command has.
 fn with_common_options<'a>(alloc: Global, command: Command<'a>) -> Result<Command<'a>, AllocError>
     requires { IsLocal command }
     ensures { Builds (with_common_options (app_of command.entry)) result }
@@ -118,7 +118,7 @@ fn with_common_options<'a>(alloc: Global, command: Command<'a>) -> Result<Comman
     with_arg(command, budget_arg(alloc))
 }
 
-// The command with the options of one that prints a line for each action.
+// Returns the command with the options of one that prints a line for each action.
 fn with_options<'a>(alloc: Global, command: Command<'a>) -> Result<Command<'a>, AllocError>
     requires { IsLocal command }
     ensures { Builds (with_options (app_of command.entry)) result }
@@ -173,7 +173,7 @@ fn bare<'a>(alloc: Global) -> Result<Command<'a>, AllocError>
     Ok(command)
 }
 
-// The command with one more subcommand.
+// Returns the command with one more subcommand.
 fn with_command<'a>(command: Command<'a>, sub: Command<'a>) -> Result<Command<'a>, AllocError>
     requires { IsLocal sub }
     ensures { IfOk result (λ c. app_of c
@@ -182,7 +182,7 @@ fn with_command<'a>(command: Command<'a>, sub: Command<'a>) -> Result<Command<'a
     command.subcommand(sub)
 }
 
-/// The command line.
+/// Returns the command line.
 pub fn program<'a>(alloc: Global) -> Result<Command<'a>, AllocError>
     ensures { IfOk result (λ c. app_of c ≡ program_app) }
 {

@@ -11,7 +11,7 @@ use std::alloc::{AllocError, AllocFailed};
 pub enum WordsFault {
     /// Help or the version was asked for: the text.
     Help(Text),
-    /// The words were refused: why, and the text for the user.
+    /// The command line is invalid: why, and the text for the user.
     Bad(ErrorKind, Text),
     /// There was no memory.
     Memory,

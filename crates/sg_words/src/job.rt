@@ -4,7 +4,7 @@ ghost use Rattle.sg_words.specs.Ranges.{AreChurnNumbers, IsInRange, IsInRange-pr
 
 use sg_base::Text;
 
-/// What the program is to do, with the names of the parts where it has any.
+/// What the program is to do, with the names of the parts if it has any.
 #[derive(Drop)]
 pub enum Command {
     /// To replay a script.

@@ -115,7 +115,7 @@ fn asked_at<'a>(name: &str, matches: &ArgMatches<'a>) -> Option<Asked<'a>>
     })
 }
 
-/// What the command that was given is asked to do.
+/// Returns what the command that was given is asked to do.
 pub(crate) fn asked_in<'a>(matches: &ArgMatches<'a>) -> Option<Asked<'a>>
     ensures { option_map asked_view result
         ≡ option_and_then asked_at (subcommand_rows_of matches.now) }

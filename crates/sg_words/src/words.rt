@@ -13,7 +13,7 @@ use clap::{ArgMatches, Error};
 use sg_base::{Memory, Text};
 use std::alloc::Global;
 
-// The values of the words, where the definition accepts them.
+// Returns the values of the words, if the definition accepts them.
 fn parsed<'a>(alloc: Global, words: &'a [String]) -> Result<ArgMatches<'a>, Error>
     ensures kinds { FailsBy (fault_of program_app (map string_bytes words.entry.now)) result }
     ensures matches { IfOk result (λ m. subcommand_rows_of m
@@ -22,7 +22,7 @@ fn parsed<'a>(alloc: Global, words: &'a [String]) -> Result<ArgMatches<'a>, Erro
     program(alloc)?.try_get_matches_from(words)
 }
 
-// What the error of a parse is told as.
+// Makes the fault of a failed parse.
 fn fault_from(alloc: Global, error: Error) -> Result<WordsFault, Memory>
     ensures { IfOk result (IsFaultOf (kind_of error)) }
 {
@@ -38,12 +38,12 @@ fn fault_from(alloc: Global, error: Error) -> Result<WordsFault, Memory>
     }
 }
 
-/// The job that the words ask for, the first of which is the program's name.
+/// Reads the job that the words ask for, the first of which is the program's name.
 ///
 /// # Errors
 ///
-/// `Help` where help or the version is asked for, `Bad` where the words are refused, each with the text for the
-/// user; and `Memory`.
+/// `Help` if help or the version is asked for, `Bad` if the command line is invalid, each with the text for the user;
+/// and `Memory`.
 pub fn read_words(alloc: Global, words: &[String]) -> Result<Job, WordsFault>
     ensures { Answers (refusals (map string_bytes words.now))
         (asked_of (map string_bytes words.now)) result }

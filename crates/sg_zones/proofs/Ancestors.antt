@@ -10,7 +10,7 @@ use Rattle.std.proofs.lemmas.Simd.{map-map}
 use Rattle.sg_base.specs.declared.ids.ZoneId.{ZoneId}
 use Rattle.sg_rows.specs.declared.rows.Routing.TheVariants.{Full}
 use Rattle.sg_rows.specs.declared.rows.ZoneRow.{ZoneRow}
-use Rattle.sg_zones.specs.Paths.{ancestor, ancestors_of, parent}
+use Rattle.sg_zones.specs.Paths.{ancestor, ancestors_of, parent_zone}
 
 -- so many steps up, and then so many more
 pub ancestor_sum : (a b : ℕ) (zones : List ZoneRow) (zone : ZoneId) → ancestor (a + b) zones zone ≡ option_and_then (ancestor b zones) (ancestor a zones zone)
@@ -20,7 +20,7 @@ ancestor_sum zero b zones zone =
     ap (λ n. ancestor n zones zone) e
 ancestor_sum (suc a) b zones zone =
     let e : suc a + b ≡ suc (a + b) = omega arith in
-    ap (λ n. ancestor n zones zone) e ∙ go (parent zones zone) (λ above. ancestor_sum a b zones above)
+    ap (λ n. ancestor n zones zone) e ∙ go (parent_zone zones zone) (λ above. ancestor_sum a b zones above)
   where
     go : (o : Option ZoneId) → ((above : ZoneId) → ancestor (a + b) zones above ≡ option_and_then (ancestor b zones) (ancestor a zones above))
         → option_and_then (ancestor (a + b) zones) o ≡ option_and_then (ancestor b zones) (option_and_then (ancestor a zones) o)
@@ -68,9 +68,9 @@ twice_is steps zones some =
     go None = refl
     go (Some zone) = look_is steps zones zone some
 
-one_up : (zones : List ZoneRow) (zone : ZoneId) → ancestor 1 zones zone ≡ parent zones zone
+one_up : (zones : List ZoneRow) (zone : ZoneId) → ancestor 1 zones zone ≡ parent_zone zones zone
 unfolding ancestor
-one_up zones zone = go (parent zones zone)
+one_up zones zone = go (parent_zone zones zone)
   where
     go : (o : Option ZoneId) → option_and_then (λ above. Some above) o ≡ o
     go None = refl

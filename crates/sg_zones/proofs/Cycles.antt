@@ -12,7 +12,7 @@ use Rattle.sg_base.specs.declared.ids.ZoneId.{ZoneId}
 use Rattle.sg_rows.specs.Platform.{IsPlatform, Platform}
 use Rattle.sg_rows.specs.declared.rows.ZoneRow.{ZoneRow}
 use Rattle.sg_zones.specs.Laws.{CyclesNeverEnd}
-use Rattle.sg_zones.specs.Paths.{ancestor, parent, path}
+use Rattle.sg_zones.specs.Paths.{ancestor, parent_zone, path}
 use Rattle.sg_zones.proofs.Ancestors.{ancestor_sum, past, split_at}
 use Rattle.sg_zones.proofs.GoodTree.{HasParents, exists_on}
 use Rattle.sg_zones.proofs.TreeLemmas.{AboveIs, IsDepth, depth_found, depth_once, path_front, path_length}
@@ -37,12 +37,12 @@ parents_exist p kept zone above is = go (slice_get p.zones zone.0) refl is
 -- as many steps up as a zone is deep lead past the root, and more do too
 ended : (d : ℕ) (zones : List ZoneRow) (zone : ZoneId) → IsDepth (suc d) zones zone → ancestor (suc d) zones zone ≡ None
 unfolding ancestor
-ended zero zones zone h = go (parent zones zone) h
+ended zero zones zone h = go (parent_zone zones zone) h
   where
     go : (o : Option ZoneId) → AboveIs (IsDepth 0 zones) 0 o → option_and_then (ancestor 0 zones) o ≡ None
     go None h = refl
     go (Some above) h = absurd h
-ended (suc d) zones zone h = go (parent zones zone) h (λ above k. ended d zones above k)
+ended (suc d) zones zone h = go (parent_zone zones zone) h (λ above k. ended d zones above k)
   where
     go : (o : Option ZoneId) → AboveIs (IsDepth (suc d) zones) (suc d) o → ((above : ZoneId) → IsDepth (suc d) zones above → ancestor (suc d) zones above ≡ None)
         → option_and_then (ancestor (suc d) zones) o ≡ None

@@ -9,7 +9,7 @@ use Rattle.sg_rows.specs.declared.rows.ZoneRow.{ZoneRow}
 use Rattle.sg_base.specs.declared.ids.ZoneId.{ZoneId}
 use Rattle.sg_zones.specs.declared.fault.ZoneFault.{ZoneFault}
 use Rattle.sg_zones.specs.declared.fault.ZoneFault.TheVariants.{ParentCycle, TooDeep}
-use Rattle.sg_zones.specs.Paths.{ancestor, ancestors_of, parent, path, paths_of}
+use Rattle.sg_zones.specs.Paths.{ancestor, ancestors_of, parent_zone, path, paths_of}
 use Rattle.sg_zones.specs.Faults.{first_along, fault_if, roots, root_fault, ancestor_fault, tree_fault}
 use Rattle.sg_zones.proofs.TreeLemmas.{AboveIs, IsDepth, depth_found, path_length, path_last, split, inner_of}
 
@@ -102,7 +102,7 @@ two_roots n (suc i) (suc j) (z ∷ zones) less few h k = go (is_none z.parent) (
     go true (r ∷ rs) h = refl
     go false rs h = h
 
-pub root_once : (zones : List ZoneRow) (a b : ZoneId) → tree_fault zones ≡ None → a.0 < length zones → b.0 < length zones → parent zones a ≡ None → parent zones b ≡ None → a.0 ≡ b.0
+pub root_once : (zones : List ZoneRow) (a b : ZoneId) → tree_fault zones ≡ None → a.0 < length zones → b.0 < length zones → parent_zone zones a ≡ None → parent_zone zones b ≡ None → a.0 ≡ b.0
 root_once zones a b good there here up over =
     let one = both_none (root_fault (roots 1 zones)) (option_or (first_along (ancestor_fault ParentCycle) 0 (ancestors_of 1024 zones)) (first_along (ancestor_fault TooDeep) 0 (ancestors_of 16 zones))) good in
     let only = only_one (roots 1 zones) one.0 in
@@ -112,14 +112,14 @@ root_once zones a b good there here up over =
 
 -- the zone above a zone exists
 abbrev pub HasParents : List ZoneRow → Type 0
-HasParents zones = (zone above : ZoneId) → parent zones zone ≡ Some above → above.0 < length zones
+HasParents zones = (zone above : ZoneId) → parent_zone zones zone ≡ Some above → above.0 < length zones
 
 exists_inner : (d k : ℕ) (zones : List ZoneRow) (zone x : ZoneId) → HasParents zones → IsDepth (suc d) zones zone → k < d → get_or (path (suc d) zones zone) k x ≡ x
     → ((above : ZoneId) → above.0 < length zones → IsDepth d zones above → get_or (path d zones above) k x ≡ x → x.0 < length zones) → x.0 < length zones
 unfolding path
-exists_inner d k zones zone x parents is few at more = go (parent zones zone) refl is at more (λ above i. path_length d zones above i)
+exists_inner d k zones zone x parents is few at more = go (parent_zone zones zone) refl is at more (λ above i. path_length d zones above i)
   where
-    go : (o : Option ZoneId) → parent zones zone ≡ o → AboveIs (IsDepth d zones) d o → get_or (option_map_or (path d zones) o [] ++ zone ∷ []) k x ≡ x
+    go : (o : Option ZoneId) → parent_zone zones zone ≡ o → AboveIs (IsDepth d zones) d o → get_or (option_map_or (path d zones) o [] ++ zone ∷ []) k x ≡ x
         → ((above : ZoneId) → above.0 < length zones → IsDepth d zones above → get_or (path d zones above) k x ≡ x → x.0 < length zones)
         → ((above : ZoneId) → IsDepth d zones above → length (path d zones above) ≡ d) → x.0 < length zones
     go None up h at more len = absurd (omega arith)
@@ -153,8 +153,8 @@ any_at (y ∷ ys) x h = go (y.0 == x.0) refl h (λ k. any_at ys x k)
     go false e h more = let r = more h in (suc r.0, omega (arith, r.1), r.2)
 
 -- the first zone of a path has no zone above it
-pub first_root : (zones : List ZoneRow) (x : ZoneId) → IsDepth 1 zones x → parent zones x ≡ None
-first_root zones x is = go (parent zones x) is
+pub first_root : (zones : List ZoneRow) (x : ZoneId) → IsDepth 1 zones x → parent_zone zones x ≡ None
+first_root zones x is = go (parent_zone zones x) is
   where
     go : (o : Option ZoneId) → AboveIs (IsDepth 0 zones) 0 o → o ≡ None
     go None h = refl

@@ -1,4 +1,4 @@
--- The faults rise, and the first is told.
+-- The faults rise, and the first is reported.
 use Rattle.std.proofs.Common.{◌≡◌, ℕ, ◌+◌, ◌<◌, ◌≤◌, ◌⊎◌, inl, inr, Bool, true, false, cond, List, [], ◌∷◌, ◌++◌, Option, None, Some, map, refl, sym, ◌∙◌, ap, arith}
 use Rattle.std.specs.Option.{option_or}
 use Rattle.std.specs.Prelude.{is_none, is_some}
@@ -10,7 +10,7 @@ use Rattle.sg_tree.specs.Along.{along, first}
 use Rattle.sg_zones.specs.AllFaults.{TellsLeast, IsBefore, IsRising, faults_along, gateway_faults, kind_number, as_list, place_of, root_faults, row_faults, tree_faults}
 use Rattle.sg_zones.specs.Faults.{child_zone_fault, ancestor_fault, first_along, spoke_gateway_fault, gateway_fault, zone_route_gateway_fault, place, root_fault, roots, route_fault, row_fault, spoke_fault, fault_if, tree_fault, zone_route_fault}
 use Rattle.sg_zones.specs.Paths.{ancestors_of}
-use Rattle.sg_zones.specs.Tree.{Tree, tree_of}
+use Rattle.sg_zones.specs.Tree.{Tree, zone_tree}
 use Rattle.sg_zones.specs.declared.fault.ZoneFault.{ZoneFault}
 use Rattle.sg_zones.specs.declared.fault.ZoneFault.TheVariants.{ParentCycle, TooDeep, TwoRoots}
 use Rattle.sg_zones.proofs.Each.{Each, each_append, each_mono, each_cross}
@@ -25,7 +25,7 @@ first-as_list : (o : Option ZoneFault) → first (as_list o) ≡ o
 first-as_list None = refl
 first-as_list (Some fault) = refl
 
--- where the first of two lists is told by the one, and that of the other by the other
+-- the first of two lists together, by the first of each
 first_of_both : (xs ys : List ZoneFault) (a b : Option ZoneFault) → first xs ≡ a → first ys ≡ b → first (xs ++ ys) ≡ option_or a b
 first_of_both xs ys a b e f = first-append xs ys ∙ ap (λ o. option_or o (first ys)) e ∙ ap (λ o. option_or a o) f
 
@@ -95,7 +95,7 @@ record Rise (kind table from : ℕ) (fs : List ZoneFault) : Type 0 where
   rise : IsRising fs
   each : Each (IsIn kind table from) fs
 
--- what is made along rows rises, where that of each row does
+-- what is made along rows rises, if that of each row does
 along_rises : {X : Type 0} (kind table : ℕ) (f : ℕ → X → List ZoneFault) → ((i : ℕ) (x : X) → IsRising (f i x)) → ((i : ℕ) (x : X) → Each (IsOf kind table (i + 1)) (f i x))
     → (i : ℕ) (xs : List X) → Rise kind table (i + 1) (along f i xs)
 along_rises kind table f rise each i [] = record { rise = tt; each = tt }
@@ -217,7 +217,7 @@ last_rise c r z w rc rr rz rw = (
         by_table 1 6 5 r (z ++ w) rr (by_table 1 6 6 z w rz rw.rise (later 1 6 6 7 w (omega arith) rw))
         (each_append (IsLater 6 5) z w (later 1 6 5 6 z (omega arith) rz) (later 1 6 5 7 w (omega arith) rw))
 
--- two lists of the kind before, and what rises behind them
+-- two lists of the kind before, and what rises after them
 rows_rise : (g s rest : List ZoneFault) → Rise 5 6 1 g → Rise 5 7 1 s → IsRising rest × Each (IsFrom 6) rest
     → IsRising (g ++ (s ++ rest)) × Each (IsFrom 5) (g ++ (s ++ rest))
 rows_rise g s rest rg rs (rising, six) = (
@@ -254,8 +254,8 @@ row_faults_rise t p =
 pub tells_least : (p : Platform) → TellsLeast p
 tells_least p =
     let t = tree_rises p.zones in
-    let r = row_faults_rise (tree_of p) p in
+    let r = row_faults_rise (zone_tree p) p in
     record {
-      first = sym (first_of_both (tree_faults p.zones) (row_faults (tree_of p) p) (tree_fault p.zones) (row_fault (tree_of p) p) (first-tree_faults p.zones) (first-row_faults (tree_of p) p));
-      rise = below_from 4 (tree_faults p.zones) (row_faults (tree_of p) p) t.0 t.1 r.0 r.1;
+      first = sym (first_of_both (tree_faults p.zones) (row_faults (zone_tree p) p) (tree_fault p.zones) (row_fault (zone_tree p) p) (first-tree_faults p.zones) (first-row_faults (zone_tree p) p));
+      rise = below_from 4 (tree_faults p.zones) (row_faults (zone_tree p) p) t.0 t.1 r.0 r.1;
     }

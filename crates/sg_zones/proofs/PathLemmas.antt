@@ -3,10 +3,10 @@ use Rattle.std.proofs.Common.{◌≡◌, ◌<◌, ◌-◌, ◌++◌, ◌∷◌, 
 use Rattle.std.specs.Option.{option_map_or}
 use Rattle.sg_base.specs.declared.ids.ZoneId.{ZoneId}
 use Rattle.sg_rows.specs.declared.rows.ZoneRow.{ZoneRow}
-use Rattle.sg_zones.specs.Paths.{path, parent}
+use Rattle.sg_zones.specs.Paths.{path, parent_zone}
 
 -- a path through one level at least
-pub path_step : (levels : ℕ) (zones : List ZoneRow) (zone : ZoneId) → 0 < levels → path levels zones zone ≡ option_map_or (path (levels - 1) zones) (parent zones zone) [] ++ zone ∷ []
+pub path_step : (levels : ℕ) (zones : List ZoneRow) (zone : ZoneId) → 0 < levels → path levels zones zone ≡ option_map_or (path (levels - 1) zones) (parent_zone zones zone) [] ++ zone ∷ []
 unfolding path
 path_step zero zones zone some = absurd (omega arith)
 path_step (suc levels) zones zone some =
@@ -19,7 +19,7 @@ unfolding path
 path_zero levels zones zone none = rw none refl
 
 -- what is written for a zone with a parent
-pub path_through : (levels : ℕ) (zones : List ZoneRow) (zone above : ZoneId) (old mid new : List ZoneId) → 0 < levels → parent zones zone ≡ Some above
+pub path_through : (levels : ℕ) (zones : List ZoneRow) (zone above : ZoneId) (old mid new : List ZoneId) → 0 < levels → parent_zone zones zone ≡ Some above
     → mid ≡ old ++ path (levels - 1) zones above → new ≡ mid ++ zone ∷ [] → new ≡ old ++ path levels zones zone
 path_through levels zones zone above old mid new some is front last =
     last ∙ ap (λ xs. xs ++ zone ∷ []) front ∙ append_assoc old (path (levels - 1) zones above) (zone ∷ [])
@@ -29,7 +29,7 @@ path_through levels zones zone above old mid new some is front last =
 pub path_short : (levels : ℕ) (zones : List ZoneRow) (zone : ZoneId) → length (path levels zones zone) ≤ levels
 unfolding path
 path_short zero zones zone = omega arith
-path_short (suc levels) zones zone = go (parent zones zone) (λ above. path_short levels zones above)
+path_short (suc levels) zones zone = go (parent_zone zones zone) (λ above. path_short levels zones above)
   where
     go : (o : Option ZoneId) → ((above : ZoneId) → length (path levels zones above) ≤ levels) → length (option_map_or (path levels zones) o [] ++ zone ∷ []) ≤ suc levels
     go None h = omega arith

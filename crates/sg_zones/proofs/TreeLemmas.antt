@@ -4,7 +4,7 @@ use Rattle.std.specs.Option.{option_map_or}
 use Rattle.std.specs.Prelude.{option_and_then}
 use Rattle.sg_rows.specs.declared.rows.ZoneRow.{ZoneRow}
 use Rattle.sg_base.specs.declared.ids.ZoneId.{ZoneId}
-use Rattle.sg_zones.specs.Paths.{ancestor, parent, path}
+use Rattle.sg_zones.specs.Paths.{ancestor, parent_zone, path}
 
 -- what holds of the zone above, or that there is none and so many levels are left
 abbrev pub AboveIs : (ZoneId → Type 0) → ℕ → Option ZoneId → Type 0
@@ -14,13 +14,13 @@ AboveIs P d (Some above) = P above
 -- the zone has this depth
 abbrev pub IsDepth : ℕ → List ZoneRow → ZoneId → Type 0
 IsDepth zero zones zone = ⊥
-IsDepth (suc d) zones zone = AboveIs (IsDepth d zones) d (parent zones zone)
+IsDepth (suc d) zones zone = AboveIs (IsDepth d zones) d (parent_zone zones zone)
 
 -- a zone that isn't so many steps below another has a depth
 pub depth_found : (steps : ℕ) (zones : List ZoneRow) (zone : ZoneId) → ancestor steps zones zone ≡ None → (d : ℕ) × (d < steps) × IsDepth (suc d) zones zone
 unfolding ancestor
 depth_found zero zones zone h = absurd (cc)
-depth_found (suc steps) zones zone h = go (parent zones zone) h (λ above k. depth_found steps zones above k)
+depth_found (suc steps) zones zone h = go (parent_zone zones zone) h (λ above k. depth_found steps zones above k)
   where
     go : (o : Option ZoneId) → option_and_then (ancestor steps zones) o ≡ None → ((above : ZoneId) → ancestor steps zones above ≡ None → (d : ℕ) × (d < steps) × IsDepth (suc d) zones above)
         → (d : ℕ) × (d < suc steps) × AboveIs (IsDepth d zones) d o
@@ -32,7 +32,7 @@ pub path_deep : (d levels : ℕ) (zones : List ZoneRow) (zone : ZoneId) → IsDe
 unfolding path
 path_deep zero levels zones zone h few = absurd h
 path_deep (suc d) zero zones zone h few = absurd (omega arith)
-path_deep (suc d) (suc levels) zones zone h few = go (parent zones zone) h (λ above k. path_deep d levels zones above k (omega arith))
+path_deep (suc d) (suc levels) zones zone h few = go (parent_zone zones zone) h (λ above k. path_deep d levels zones above k (omega arith))
   where
     go : (o : Option ZoneId) → AboveIs (IsDepth d zones) d o → ((above : ZoneId) → IsDepth d zones above → path levels zones above ≡ path d zones above)
         → option_map_or (path levels zones) o [] ++ zone ∷ [] ≡ option_map_or (path d zones) o [] ++ zone ∷ []
@@ -42,7 +42,7 @@ path_deep (suc d) (suc levels) zones zone h few = go (parent zones zone) h (λ a
 pub path_length : (d : ℕ) (zones : List ZoneRow) (zone : ZoneId) → IsDepth d zones zone → length (path d zones zone) ≡ d
 unfolding path
 path_length zero zones zone h = absurd h
-path_length (suc d) zones zone h = go (parent zones zone) h (λ above k. path_length d zones above k)
+path_length (suc d) zones zone h = go (parent_zone zones zone) h (λ above k. path_length d zones above k)
   where
     go : (o : Option ZoneId) → AboveIs (IsDepth d zones) d o → ((above : ZoneId) → IsDepth d zones above → length (path d zones above) ≡ d)
         → length (option_map_or (path d zones) o [] ++ zone ∷ []) ≡ suc d
@@ -71,7 +71,7 @@ take_whole [] (suc k) e = refl
 take_whole (y ∷ xs) zero e = absurd (omega arith)
 take_whole (y ∷ xs) (suc k) e = ap (λ r. y ∷ r) (take_whole xs k (omega arith))
 
--- each zone on a path has the front of that path as its own path
+-- each zone on a path has the prefix of that path as its own path
 pub record IsFront (k : ℕ) (zones : List ZoneRow) (zone : ZoneId) (whole : List ZoneId) : Type 0 where
   pub depth : IsDepth (suc k) zones zone
   pub front : path (suc k) zones zone ≡ take (suc k) whole
@@ -88,7 +88,7 @@ split (suc k) (suc d) few = go (split k d (omega arith))
 
 pub path_last : (d : ℕ) (zones : List ZoneRow) (zone x : ZoneId) → IsDepth (suc d) zones zone → get_or (path (suc d) zones zone) d x ≡ zone
 unfolding path
-path_last d zones zone x h = go (parent zones zone) h (λ above k. path_length d zones above k)
+path_last d zones zone x h = go (parent_zone zones zone) h (λ above k. path_length d zones above k)
   where
     go : (o : Option ZoneId) → AboveIs (IsDepth d zones) d o → ((above : ZoneId) → IsDepth d zones above → length (path d zones above) ≡ d)
         → get_or (option_map_or (path d zones) o [] ++ zone ∷ []) d x ≡ zone
@@ -108,7 +108,7 @@ front_whole d k zones zone x h e at =
 front_inner : (d k : ℕ) (zones : List ZoneRow) (zone x : ZoneId) → IsDepth (suc d) zones zone → k < d → get_or (path (suc d) zones zone) k x ≡ x
     → ((above : ZoneId) → IsDepth d zones above → get_or (path d zones above) k x ≡ x → IsFront k zones x (path d zones above)) → IsFront k zones x (path (suc d) zones zone)
 unfolding path
-front_inner d k zones zone x h few at more = go (parent zones zone) h at more (λ above i. path_length d zones above i)
+front_inner d k zones zone x h few at more = go (parent_zone zones zone) h at more (λ above i. path_length d zones above i)
   where
     go : (o : Option ZoneId) → AboveIs (IsDepth d zones) d o → get_or (option_map_or (path d zones) o [] ++ zone ∷ []) k x ≡ x
         → ((above : ZoneId) → IsDepth d zones above → get_or (path d zones above) k x ≡ x → IsFront k zones x (path d zones above))
@@ -133,7 +133,7 @@ path_front (suc d) k zones zone x h few at = go (split k d few) (λ above i insi
 pub depth_once : (d e : ℕ) (zones : List ZoneRow) (zone : ZoneId) → IsDepth d zones zone → IsDepth e zones zone → d ≡ e
 depth_once zero e zones zone h k = absurd h
 depth_once (suc d) zero zones zone h k = absurd k
-depth_once (suc d) (suc e) zones zone h k = go (parent zones zone) h k (λ above i j. depth_once d e zones above i j)
+depth_once (suc d) (suc e) zones zone h k = go (parent_zone zones zone) h k (λ above i j. depth_once d e zones above i j)
   where
     go : (o : Option ZoneId) → AboveIs (IsDepth d zones) d o → AboveIs (IsDepth e zones) e o → ((above : ZoneId) → IsDepth d zones above → IsDepth e zones above → d ≡ e) → suc d ≡ suc e
     go None h k more = omega arith

@@ -14,8 +14,8 @@ use Rattle.sg_rows.specs.declared.rows.RouterRow.{RouterRow}
 use Rattle.sg_rows.specs.declared.rows.ZoneRow.{ZoneRow}
 use Rattle.sg_zones.specs.Faults.{row_fault, tree_fault, zone_fault}
 use Rattle.sg_zones.specs.Laws.{DepthByStepsUp, HoldsByStepsUp}
-use Rattle.sg_zones.specs.Paths.{ancestor, parent, path}
-use Rattle.sg_zones.specs.Tree.{depth, home, path_in, tree_of}
+use Rattle.sg_zones.specs.Paths.{ancestor, parent_zone, path}
+use Rattle.sg_zones.specs.Tree.{depth, home, path_in, zone_tree}
 use Rattle.sg_zones.proofs.Ancestors.{split_at}
 use Rattle.sg_zones.proofs.GoodTree.{HasDepth, both_none, depth_here, path_at}
 use Rattle.sg_zones.proofs.TreeLemmas.{AboveIs, IsDepth, path_deep, path_length}
@@ -54,7 +54,7 @@ SomeUp zones from to = (steps : ℕ) × (ancestor steps zones from ≡ Some to)
 on_path : (levels : ℕ) (zones : List ZoneRow) (zone x : ZoneId) → is_among x (path levels zones zone) ≡ true → SomeUp zones zone x
 unfolding path ancestor
 on_path zero zones zone x h = absurd (cc)
-on_path (suc levels) zones zone x h = go (parent zones zone) refl (λ above k. on_path levels zones above x k) h
+on_path (suc levels) zones zone x h = go (parent_zone zones zone) refl (λ above k. on_path levels zones above x k) h
   where
     here : (front : List ZoneId) → (is_among x front ≡ true → SomeUp zones zone x) → is_among x (front ++ zone ∷ []) ≡ true → SomeUp zones zone x
     here front more among = split (either (is_among x front) (is_among x (zone ∷ [])) (sym (list_any-append (λ z. z.0 == x.0) front (zone ∷ [])) ∙ among))
@@ -67,7 +67,7 @@ on_path (suc levels) zones zone x h = go (parent zones zone) refl (λ above k. o
             last (inl e) = (0, ap (λ z. Some z) (zone_is zone x e))
             last (inr e) = absurd (cc)
 
-    go : (o : Option ZoneId) → parent zones zone ≡ o → ((above : ZoneId) → is_among x (path levels zones above) ≡ true → SomeUp zones above x)
+    go : (o : Option ZoneId) → parent_zone zones zone ≡ o → ((above : ZoneId) → is_among x (path levels zones above) ≡ true → SomeUp zones above x)
         → is_among x (option_map_or (path levels zones) o [] ++ zone ∷ []) ≡ true → SomeUp zones zone x
     go None up more among = here [] (λ k. absurd (cc)) among
     go (Some above) up more among =
@@ -78,15 +78,15 @@ up_on_path : (steps d : ℕ) (zones : List ZoneRow) (zone x : ZoneId) → IsDept
 unfolding path ancestor
 up_on_path zero d zones zone x deep up =
     let same : zone ≡ x = cc in
-    let P : ZoneId → Type 0 = λ z. is_among z (option_map_or (path d zones) (parent zones zone) [] ++ zone ∷ []) ≡ true in
-    subst P same (list_any-append (λ z. z.0 == zone.0) (option_map_or (path d zones) (parent zones zone) []) (zone ∷ [])
-    ∙ or_right (is_among zone (option_map_or (path d zones) (parent zones zone) [])) (is_among zone (zone ∷ [])) (or_left (zone.0 == zone.0) false (same_zone zone)))
-up_on_path (suc steps) zero zones zone x deep up = go (parent zones zone) deep up
+    let P : ZoneId → Type 0 = λ z. is_among z (option_map_or (path d zones) (parent_zone zones zone) [] ++ zone ∷ []) ≡ true in
+    subst P same (list_any-append (λ z. z.0 == zone.0) (option_map_or (path d zones) (parent_zone zones zone) []) (zone ∷ [])
+    ∙ or_right (is_among zone (option_map_or (path d zones) (parent_zone zones zone) [])) (is_among zone (zone ∷ [])) (or_left (zone.0 == zone.0) false (same_zone zone)))
+up_on_path (suc steps) zero zones zone x deep up = go (parent_zone zones zone) deep up
   where
     go : (o : Option ZoneId) → AboveIs (IsDepth 0 zones) 0 o → option_and_then (ancestor steps zones) o ≡ Some x → is_among x (option_map_or (path 0 zones) o [] ++ zone ∷ []) ≡ true
     go None h e = absurd (cc)
     go (Some above) h e = absurd h
-up_on_path (suc steps) (suc d) zones zone x deep up = go (parent zones zone) deep up (λ above h e. up_on_path steps d zones above x h e)
+up_on_path (suc steps) (suc d) zones zone x deep up = go (parent_zone zones zone) deep up (λ above h e. up_on_path steps d zones above x h e)
   where
     go : (o : Option ZoneId) → AboveIs (IsDepth (suc d) zones) (suc d) o → option_and_then (ancestor steps zones) o ≡ Some x
         → ((above : ZoneId) → IsDepth (suc d) zones above → ancestor steps zones above ≡ Some x → is_among x (path (suc d) zones above) ≡ true)
@@ -99,24 +99,24 @@ up_on_path (suc steps) (suc d) zones zone x deep up = go (parent zones zone) dee
 -- ---- up to the root
 
 abbrev RootUp : List ZoneRow → ZoneId → ℕ → Type 0
-RootUp zones zone steps = (root : ZoneId) × (ancestor steps zones zone ≡ Some root) × (parent zones root ≡ None)
+RootUp zones zone steps = (root : ZoneId) × (ancestor steps zones zone ≡ Some root) × (parent_zone zones root ≡ None)
 
 root_up : (d : ℕ) (zones : List ZoneRow) (zone : ZoneId) → IsDepth (suc d) zones zone → RootUp zones zone d
 unfolding ancestor
-root_up zero zones zone deep = (zone, refl, go (parent zones zone) deep)
+root_up zero zones zone deep = (zone, refl, go (parent_zone zones zone) deep)
   where
     go : (o : Option ZoneId) → AboveIs (IsDepth 0 zones) 0 o → o ≡ None
     go None h = refl
     go (Some above) h = absurd h
-root_up (suc d) zones zone deep = go (parent zones zone) refl deep (λ above h. root_up d zones above h)
+root_up (suc d) zones zone deep = go (parent_zone zones zone) refl deep (λ above h. root_up d zones above h)
   where
-    go : (o : Option ZoneId) → parent zones zone ≡ o → AboveIs (IsDepth (suc d) zones) (suc d) o → ((above : ZoneId) → IsDepth (suc d) zones above → RootUp zones above d) → RootUp zones zone (suc d)
+    go : (o : Option ZoneId) → parent_zone zones zone ≡ o → AboveIs (IsDepth (suc d) zones) (suc d) o → ((above : ZoneId) → IsDepth (suc d) zones above → RootUp zones above d) → RootUp zones zone (suc d)
     go None up h more = absurd (omega (arith, h))
     go (Some above) up h more = let r = more above h in (r.0, ap (λ o. option_and_then (ancestor d zones) o) up ∙ r.1, r.2)
 
 -- ---- the zone of a point exists
 
-pub home_exists : (p : Platform) → IsPlatform p → (point : PointId) → point.0 < length (tree_of p).homes → (home (tree_of p) point).0 < length p.zones
+pub home_exists : (p : Platform) → IsPlatform p → (point : PointId) → point.0 < length (zone_tree p).homes → (home (zone_tree p) point).0 < length p.zones
 home_exists p kept point there = go (split_at point.0 (length p.hosts))
   where
     hosts : List ZoneId
@@ -151,15 +151,15 @@ home_exists p kept point there = go (split_at point.0 (length p.hosts))
 -- ---- the laws
 
 good_tree : (p : Platform) → zone_fault p ≡ None → tree_fault p.zones ≡ None
-good_tree p none = (both_none (tree_fault p.zones) (row_fault (tree_of p) p) none).0
+good_tree p none = (both_none (tree_fault p.zones) (row_fault (zone_tree p) p) none).0
 
 -- the path of a zone that exists, through as many levels as it is deep
-path_here : (p : Platform) (zone : ZoneId) → zone.0 < length p.zones → (d : HasDepth p.zones zone) → path_in (tree_of p) zone ≡ path (suc d.depth) p.zones zone
+path_here : (p : Platform) (zone : ZoneId) → zone.0 < length p.zones → (d : HasDepth p.zones zone) → path_in (zone_tree p) zone ≡ path (suc d.depth) p.zones zone
 path_here p zone inside d = let s = d.shallow in path_at p.zones zone inside ∙ path_deep (suc d.depth) 16 p.zones zone d.is (omega arith)
 
 pub holds_by_steps_up : (p : Platform) → IsPlatform p → zone_fault p ≡ None → HoldsByStepsUp p
 holds_by_steps_up p kept none zone point there =
-    let own : ZoneId = home (tree_of p) point in
+    let own : ZoneId = home (zone_tree p) point in
     let inside = home_exists p kept point there in
     let d = depth_here p.zones own (good_tree p none) inside in
     let e = path_here p own inside d in (
@@ -171,5 +171,5 @@ pub depth_by_steps_up : (p : Platform) → zone_fault p ≡ None → DepthByStep
 depth_by_steps_up p none zone inside =
     let d = depth_here p.zones zone (good_tree p none) inside in
     let r = root_up d.depth p.zones zone d.is in
-    let n : depth (tree_of p) zone ≡ suc d.depth = ap length (path_here p zone inside d) ∙ path_length (suc d.depth) p.zones zone d.is in
+    let n : depth (zone_tree p) zone ≡ suc d.depth = ap length (path_here p zone inside d) ∙ path_length (suc d.depth) p.zones zone d.is in
     record { steps = d.depth; up = record { root = r.0; leads = r.1; top = r.2 }; depth = omega (arith, n) }

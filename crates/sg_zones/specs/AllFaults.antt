@@ -9,22 +9,22 @@ use Rattle.sg_tree.specs.declared.fault.Place.{Place}
 use Rattle.sg_zones.specs.Faults.{place, roots, ancestor_fault, gateway_fault, spoke_gateway_fault, child_zone_fault, route_fault, zone_route_fault, spoke_fault, zone_fault}
 use Rattle.sg_zones.specs.FaultWords.{zone_place}
 use Rattle.sg_zones.specs.Paths.{ancestors_of}
-use Rattle.sg_zones.specs.Tree.{Tree, tree_of}
+use Rattle.sg_zones.specs.Tree.{Tree, zone_tree}
 use Rattle.sg_zones.specs.declared.fault.ZoneFault.{ZoneFault}
 use Rattle.sg_zones.specs.declared.fault.ZoneFault.TheVariants.{NoRoot, TwoRoots, ParentCycle, TooDeep, GatewayOutside, WrongRouting, Memory}
 
 -- ---- all faults
 
--- the fault, where there is one
+-- the fault, if there is one
 abbrev pub as_list : Option ZoneFault → List ZoneFault
 as_list None = []
 as_list (Some fault) = fault ∷ []
 
--- those along rows, of each of which one is told at most
+-- those along rows, at most one of each
 abbrev pub faults_along : {X : Type 0} → (ℕ → X → Option ZoneFault) → List X → List ZoneFault
 faults_along told rows = along (λ row x. as_list (told row x)) 0 rows
 
--- no root, or each root but the first
+-- no root, or each root except the first
 abbrev pub root_faults : List ℕ → List ZoneFault
 root_faults [] = NoRoot (place 1 0 0) ∷ []
 root_faults (root ∷ rest) = map (λ row. TwoRoots (place 1 row 2)) rest
@@ -49,7 +49,7 @@ row_faults t p =
     ++ faults_along (spoke_fault t) p.spokes))))
 
 abbrev pub zone_faults : Platform → List ZoneFault
-zone_faults p = tree_faults p.zones ++ row_faults (tree_of p) p
+zone_faults p = tree_faults p.zones ++ row_faults (zone_tree p) p
 
 -- ---- their order
 
@@ -77,12 +77,12 @@ numbers_of f = kind_number f ∷ (place_of f).table ∷ (place_of f).row ∷ (pl
 abbrev pub IsBefore : ZoneFault → ZoneFault → Type 0
 IsBefore f g = IsBelow (numbers_of f) (numbers_of g)
 
--- each is before all those behind it
+-- each is before all those after it
 abbrev pub IsRising : List ZoneFault → Type 0
 IsRising [] = ⊤
 IsRising (f ∷ fs) = AllByRecursion (IsBefore f) fs × IsRising fs
 
--- of all faults the least is told
+-- of all faults the least is reported
 pub record TellsLeast (p : Platform) : Type 0 where
   pub first : zone_fault p ≡ first (zone_faults p)
   pub rise : IsRising (zone_faults p)

@@ -14,8 +14,10 @@ words_and_place (GatewayOutside at) = (codes "gateway outside", Some at)
 words_and_place (WrongRouting at) = (codes "wrong routing", Some at)
 words_and_place Memory = ([], None)
 
+-- what is wrong with the zones, in words
 abbrev pub zone_words : ZoneFault → List ℕ
 zone_words fault = (words_and_place fault).0
 
+-- where the fault of the zones is; none: the machine is out of memory
 abbrev pub zone_place : ZoneFault → Option Place
 zone_place fault = (words_and_place fault).1

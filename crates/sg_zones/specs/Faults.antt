@@ -15,24 +15,26 @@ use Rattle.sg_rows.specs.declared.rows.ZoneRow.{ZoneRow}
 use Rattle.sg_tree.specs.Along.{first}
 use Rattle.sg_tree.specs.declared.fault.Place.{Place}
 use Rattle.sg_zones.specs.Paths.{ancestors_of}
-use Rattle.sg_zones.specs.Tree.{Tree, tree_of, home, holds, routing_in}
+use Rattle.sg_zones.specs.Tree.{Tree, zone_tree, home, holds, routing_in}
 use Rattle.sg_zones.specs.declared.fault.ZoneFault.{ZoneFault}
 use Rattle.sg_zones.specs.declared.fault.ZoneFault.TheVariants.{NoRoot, TwoRoots, ParentCycle, TooDeep, GatewayOutside, WrongRouting}
 
+-- where a fault is: its table, its row and its key, each numbered from 1 on, 0 for none
 abbrev pub place : ℕ → ℕ → ℕ → Place
 place table row key = record { table = table; row = row; key = key }
 
--- the first fault that is told along the rows, which are numbered from this number on
+-- the first fault along the rows, which are numbered from this number on
 abbrev pub first_along : {X : Type 0} → (ℕ → X → Option ZoneFault) → ℕ → List X → Option ZoneFault
 first_along told row [] = None
 first_along told row (x ∷ xs) = option_or (told row x) (first_along told (row + 1) xs)
 
+-- this fault if the condition holds, else none
 abbrev pub fault_if : Bool → ZoneFault → Option ZoneFault
 fault_if b fault = if b then Some fault else None
 
 -- ---- the tree
 
--- the rows of zones without a parent, where the first of these rows has this number
+-- the rows of zones without a parent, if the first of these rows has this number
 abbrev pub roots : ℕ → List ZoneRow → List ℕ
 roots row [] = []
 roots row (zone ∷ zones) = if is_none zone.parent then row ∷ roots (row + 1) zones else roots (row + 1) zones
@@ -57,22 +59,27 @@ child_holds t (Zone zone) point = holds t zone point
 abbrev pub gateway_fault : Tree → Child → PointId → Place → Option ZoneFault
 gateway_fault t end gateway at = fault_if (not (child_holds t end gateway)) (GatewayOutside at)
 
+-- the fault of a zone_route, one of whose gateways is outside the child at that end
 abbrev pub zone_route_gateway_fault : Tree → ℕ → ZoneRouteRow → Option ZoneFault
 zone_route_gateway_fault t row r = option_or (gateway_fault t r.src r.gw_src (place 6 (row + 1) 3)) (gateway_fault t r.dst r.gw_dst (place 6 (row + 1) 4))
 
+-- the fault of a spoke whose gateway is outside its child
 abbrev pub spoke_gateway_fault : Tree → ℕ → SpokeRow → Option ZoneFault
 spoke_gateway_fault t row s = gateway_fault t s.child s.gateway (place 7 (row + 1) 3)
 
 -- ---- routing
 
+-- whether a routing is Full: local routes are those that rows declare
 abbrev pub is_full : Routing → Bool
 is_full Full = true
 is_full other = false
 
+-- whether a routing is Star: local routes go up one spoke and down another
 abbrev pub is_star : Routing → Bool
 is_star Star = true
 is_star other = false
 
+-- whether a routing is Dijkstra: local routes are shortest paths over the declared ones
 abbrev pub is_dijkstra : Routing → Bool
 is_dijkstra Dijkstra = true
 is_dijkstra other = false
@@ -87,6 +94,7 @@ abbrev pub in_one_full : Tree → Option ZoneId → Option ZoneId → Bool
 in_one_full t (Some a) (Some b) = a.0 == b.0 && is_full (routing_in t a)
 in_one_full t a b = false
 
+-- whether a child of a zone is a host or router, and not a zone
 abbrev pub is_point : Child → Bool
 is_point (Point point) = true
 is_point (Zone zone) = false
@@ -125,6 +133,7 @@ tree_fault zones =
     (option_or (first_along (ancestor_fault ParentCycle) 0 (ancestors_of 1024 zones))
     (first_along (ancestor_fault TooDeep) 0 (ancestors_of 16 zones)))
 
+-- the first fault of the rows: gateways outside first, then routing that doesn't fit
 abbrev pub row_fault : Tree → Platform → Option ZoneFault
 row_fault t p =
     option_or (first_along (zone_route_gateway_fault t) 0 p.zone_routes)
@@ -134,9 +143,10 @@ row_fault t p =
     (option_or (first_along (zone_route_fault t) 0 p.zone_routes)
     (first_along (spoke_fault t) 0 p.spokes)))))
 
+-- the first fault of the zones of a platform: those of the tree come before those of the rows
 abbrev pub zone_fault : Platform → Option ZoneFault
-zone_fault p = option_or (tree_fault p.zones) (row_fault (tree_of p) p)
+zone_fault p = option_or (tree_fault p.zones) (row_fault (zone_tree p) p)
 
 -- the tree of the rows, or their first fault
 abbrev pub zones_of : Platform → Result Tree ZoneFault
-zones_of p = option_map_or Err (zone_fault p) (Ok (tree_of p))
+zones_of p = option_map_or Err (zone_fault p) (Ok (zone_tree p))

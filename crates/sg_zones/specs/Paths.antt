@@ -6,22 +6,23 @@ use Rattle.sg_base.specs.declared.ids.ZoneId.{ZoneId}
 use Rattle.sg_rows.specs.declared.rows.ZoneRow.{ZoneRow}
 
 -- the zone above this one; the root has none
-abbrev pub parent : List ZoneRow → ZoneId → Option ZoneId
-parent zones zone = option_and_then (λ row. row.parent) (slice_get zones zone.0)
+abbrev pub parent_zone : List ZoneRow → ZoneId → Option ZoneId
+parent_zone zones zone = option_and_then (λ row. row.parent) (slice_get zones zone.0)
 
--- the zone so many steps up, where the way up is so long
+-- the zone so many steps up, if the path up is so long
 unfoldable pub ancestor : ℕ → List ZoneRow → ZoneId → Option ZoneId
 ancestor zero zones zone = Some zone
-ancestor (suc steps) zones zone = option_and_then (ancestor steps zones) (parent zones zone)
+ancestor (suc steps) zones zone = option_and_then (ancestor steps zones) (parent_zone zones zone)
 
 -- the zones from the root down to this one, of which there are so many at most
 unfoldable pub path : ℕ → List ZoneRow → ZoneId → List ZoneId
 path zero zones zone = []
-path (suc levels) zones zone = option_map_or (path levels zones) (parent zones zone) [] ++ zone ∷ []
+path (suc levels) zones zone = option_map_or (path levels zones) (parent_zone zones zone) [] ++ zone ∷ []
 
--- of each zone
+-- of each zone the one so many steps up
 abbrev pub ancestors_of : ℕ → List ZoneRow → List (Option ZoneId)
 ancestors_of steps zones = map (λ i. ancestor steps zones (record { 0 = i })) (range_with_len 0 (length zones))
 
+-- of each zone the path down to it from the root, of at most 16 zones
 abbrev pub paths_of : List ZoneRow → List (List ZoneId)
 paths_of zones = map (λ i. path 16 zones (record { 0 = i })) (range_with_len 0 (length zones))

@@ -15,18 +15,20 @@ pub record Tree : Type 0 where
   pub paths : List (List ZoneId)
   pub homes : List ZoneId
 
-abbrev pub tree_of : Platform → Tree
-tree_of p = record {
+-- the parents, routings and paths of the zones of a platform, and the zone of each host and router
+abbrev pub zone_tree : Platform → Tree
+zone_tree p = record {
   parents = map (λ row. row.parent) p.zones;
   routings = map (λ row. row.routing) p.zones;
   paths = paths_of p.zones;
   homes = map (λ row. row.zone) p.hosts ++ map (λ row. row.zone) p.routers;
 }
 
--- a zone that isn't there has routing Full and an empty path; a point that isn't there stands in the first zone
+-- the routing of a zone; one that isn't there has routing Full
 abbrev pub routing_in : Tree → ZoneId → Routing
 routing_in t zone = slice_index_or t.routings zone.0 Full
 
+-- the zones from the root down to this one, empty if it isn't there
 abbrev pub path_in : Tree → ZoneId → List ZoneId
 path_in t zone = slice_index_or t.paths zone.0 []
 
@@ -34,7 +36,7 @@ path_in t zone = slice_index_or t.paths zone.0 []
 abbrev pub depth : Tree → ZoneId → ℕ
 depth t zone = length (path_in t zone)
 
--- the zone that a point stands in
+-- the zone that a point stands in; one that isn't there stands in the first zone
 abbrev pub home : Tree → PointId → ZoneId
 home t point = slice_index_or t.homes point.0 (record { 0 = 0 })
 

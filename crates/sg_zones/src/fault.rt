@@ -18,13 +18,13 @@ pub enum ZoneFault {
     /// Going up from the zone never reaches the root.
     #[error("zone cycle")]
     ParentCycle(Place),
-    /// The zone's depth is above 16, where the root has depth 1.
+    /// The zone's depth is above 16; the root has depth 1.
     #[error("zones too deep")]
     TooDeep(Place),
     /// A gateway isn't a point of the end that it stands for.
     #[error("gateway outside")]
     GatewayOutside(Place),
-    /// The routing of the zone isn't that which the row wants, or the row's ends aren't children of it.
+    /// The routing of the zone isn't that which the row needs, or the row's ends aren't children of it.
     #[error("wrong routing")]
     WrongRouting(Place),
     #[error("out of memory")]
@@ -32,7 +32,7 @@ pub enum ZoneFault {
 }
 
 impl ZoneFault {
-    /// What is wrong, in words; of want of memory no word.
+    /// Returns in words what is wrong; nothing if memory ran out.
     pub fn words(&self) -> &'static str
         ensures { result.now ≡ zone_words self.now }
     {
@@ -47,7 +47,7 @@ impl ZoneFault {
         }
     }
 
-    /// Where it stands.
+    /// Returns where it stands.
     pub fn place(&self) -> Option<Place>
         ensures { result ≡ zone_place self.now }
     {
@@ -71,7 +71,7 @@ impl From<sg_base::Memory> for ZoneFault {
     }
 }
 
-/// The place of a key in the row of this index.
+/// Returns the place of a key in the row of this index.
 pub(crate) fn place(table: u32, index: usize, key: u32) -> Place
     requires { index < 2 ^ 32 - 1 }
     ensures { result ≡ record { table = table; row = index + 1; key = key } }

@@ -6,7 +6,7 @@ use crate::fault::{ZoneFault, place};
 use crate::zones::Zones;
 use sg_rows::{SpokeRow, ZoneRouteRow};
 
-/// That a gateway of a zone_route isn't held by its end.
+/// Reports that a gateway of a zone_route isn't held by its end.
 fn zone_route_gateway_fault(zones: &Zones, i: usize, row: &ZoneRouteRow) -> Option<ZoneFault>
     requires { i < 262144 }
     ensures { result ≡ zone_route_gateway_fault zones.now i row.now }
@@ -20,7 +20,7 @@ fn zone_route_gateway_fault(zones: &Zones, i: usize, row: &ZoneRouteRow) -> Opti
     None
 }
 
-/// That the gateway of a spoke isn't held by its child.
+/// Reports that the gateway of a spoke isn't held by its child.
 fn spoke_gateway_fault(zones: &Zones, i: usize, row: &SpokeRow) -> Option<ZoneFault>
     requires { i < 262144 }
     ensures { result ≡ spoke_gateway_fault zones.now i row.now }
@@ -31,7 +31,7 @@ fn spoke_gateway_fault(zones: &Zones, i: usize, row: &SpokeRow) -> Option<ZoneFa
     None
 }
 
-/// The first zone_route with a gateway outside.
+/// Returns the first zone_route with a gateway outside.
 pub(crate) fn first_gateways(zones: &Zones, rows: &[ZoneRouteRow]) -> Option<ZoneFault>
     requires { length rows.now ≤ 262144 }
     ensures { result ≡ first_along (zone_route_gateway_fault zones.now) 0 rows.now }
@@ -44,7 +44,7 @@ pub(crate) fn first_gateways(zones: &Zones, rows: &[ZoneRouteRow]) -> Option<Zon
     None
 }
 
-/// The first spoke with a gateway outside.
+/// Returns the first spoke with a gateway outside.
 pub(crate) fn first_gateway(zones: &Zones, rows: &[SpokeRow]) -> Option<ZoneFault>
     requires { length rows.now ≤ 262144 }
     ensures { result ≡ first_along (spoke_gateway_fault zones.now) 0 rows.now }

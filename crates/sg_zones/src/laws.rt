@@ -14,15 +14,15 @@ pub fn cycles_never_end(platform: &PlatformText)
     let _zones = platform.zones();
 }
 
-/// Of all faults of the rows the one that is told has the least kind, and within it the least place.
+/// The fault that is reported of the rows has the least kind of all, and within it the least place.
 pub fn least_fault_is_told(platform: &PlatformText)
     ensures { TellsLeast platform.now }
 {
     let _zones = platform.zones();
 }
 
-/// A zone holds a point where some steps up from the point's zone lead to it, and is one deeper than the steps from it
-/// up to the root. No count of levels is in this.
+/// A zone holds a point if some steps up from the point's zone lead to it, and is one deeper than the steps from it up
+/// to the root. No count of levels is in this.
 pub fn tree_goes_up(platform: &PlatformText)
     requires { zone_fault platform.now ≡ None }
     ensures holds { HoldsByStepsUp platform.now }

@@ -1,6 +1,6 @@
 //! Of each zone the zone so many steps up, and the zones from the root down to it.
 ghost use Rattle.std.specs.Prelude.{◌≡◌, ◌≤◌, ◌++◌, ◌^◌, length, IfOk, OnOk, None, map, option_and_then, slice_index_or};
-ghost use Rattle.sg_zones.specs.Paths.{ancestors_of, parent, path, paths_of};
+ghost use Rattle.sg_zones.specs.Paths.{ancestors_of, parent_zone, path, paths_of};
 
 use sg_base::{Memory, ZoneId};
 use sg_rows::ZoneRow;
@@ -42,9 +42,9 @@ impl Path {
     }
 }
 
-/// The parent of a zone.
+/// Returns the parent of a zone.
 fn parent(zones: &[ZoneRow], zone: ZoneId) -> Option<ZoneId>
-    ensures { result ≡ parent zones.now zone }
+    ensures { result ≡ parent_zone zones.now zone }
 {
     match zones.get(zone.0 as usize) {
         Some(row) => row.parent,
@@ -52,7 +52,7 @@ fn parent(zones: &[ZoneRow], zone: ZoneId) -> Option<ZoneId>
     }
 }
 
-/// The parent of each zone.
+/// Returns the parent of each zone.
 pub(crate) fn parents_of(alloc: Global, zones: &[ZoneRow]) -> Result<Vec<Option<ZoneId>>, Memory>
     ensures { IfOk result (λ made. made.items ≡ map (λ row. row.parent) zones.now) }
 {
@@ -63,7 +63,7 @@ pub(crate) fn parents_of(alloc: Global, zones: &[ZoneRow]) -> Result<Vec<Option<
     Ok(made)
 }
 
-/// What stands in the list for this zone.
+/// Returns what stands in the list for this zone.
 fn look_up(ancestors: &[Option<ZoneId>], zone: ZoneId) -> Option<ZoneId>
     ensures { result ≡ slice_index_or ancestors.now zone.0 None }
 {
@@ -73,7 +73,7 @@ fn look_up(ancestors: &[Option<ZoneId>], zone: ZoneId) -> Option<ZoneId>
     }
 }
 
-/// Of each zone the ancestor of its ancestor.
+/// Returns for each zone the ancestor of its ancestor.
 fn twice(alloc: Global, ancestors: &[Option<ZoneId>]) -> Result<Vec<Option<ZoneId>>, Memory>
     ensures { IfOk result (λ made. made.items
         ≡ map (option_and_then (λ zone. slice_index_or ancestors.now zone.0 None)) ancestors.now) }
@@ -88,7 +88,7 @@ fn twice(alloc: Global, ancestors: &[Option<ZoneId>]) -> Result<Vec<Option<ZoneI
     Ok(made)
 }
 
-/// Of each zone its ancestor after `2 ^ doublings` steps up.
+/// Returns for each zone its ancestor after `2 ^ doublings` steps up.
 #[tactic(auto, using(crate::proofs::Ancestors::parents_are, crate::proofs::Ancestors::ancestors_many))]
 pub(crate) fn ancestors_of(
     alloc: Global,
@@ -131,7 +131,7 @@ fn push_path(
     }
 }
 
-/// The path down to each zone.
+/// Returns the path down to each zone.
 #[tactic(auto, using(crate::proofs::PathLemmas::path_short))]
 pub(crate) fn paths_of(alloc: Global, zones: &[ZoneRow]) -> Result<Vec<Path>, Memory>
     requires { length zones.now ≤ 1024 }

@@ -16,7 +16,7 @@ fn is_point(child: Child) -> bool
     }
 }
 
-/// That a zone stands in a Dijkstra zone.
+/// Reports that a zone stands in a Dijkstra zone.
 fn child_zone_fault(zones: &Zones, i: usize, row: &ZoneRow) -> Option<ZoneFault>
     requires { i < 262144 }
     ensures { result ≡ child_zone_fault zones.now i row.now }
@@ -27,7 +27,7 @@ fn child_zone_fault(zones: &Zones, i: usize, row: &ZoneRow) -> Option<ZoneFault>
     None
 }
 
-/// That the ends of a route don't stand in one Full or Dijkstra zone.
+/// Reports that the ends of a route don't stand in one Full or Dijkstra zone.
 fn route_fault(zones: &Zones, i: usize, row: &RouteRow) -> Option<ZoneFault>
     requires { i < 262144 }
     ensures { result ≡ route_fault zones.now i row.now }
@@ -38,7 +38,7 @@ fn route_fault(zones: &Zones, i: usize, row: &RouteRow) -> Option<ZoneFault>
     Some(ZoneFault::WrongRouting(place(5, i, 1)))
 }
 
-/// That the ends of a zone_route are no children of one Full zone, or both points.
+/// Reports that the ends of a zone_route are no children of one Full zone, or both points.
 fn zone_route_fault(zones: &Zones, i: usize, row: &ZoneRouteRow) -> Option<ZoneFault>
     requires { i < 262144 }
     ensures { result ≡ zone_route_fault zones.now i row.now }
@@ -50,7 +50,7 @@ fn zone_route_fault(zones: &Zones, i: usize, row: &ZoneRouteRow) -> Option<ZoneF
     None
 }
 
-/// That the zone of a spoke isn't Star, or the child isn't its child.
+/// Reports that the zone of a spoke isn't Star, or the child isn't its child.
 fn spoke_fault(zones: &Zones, i: usize, row: &SpokeRow) -> Option<ZoneFault>
     requires { i < 262144 }
     ensures { result ≡ spoke_fault zones.now i row.now }
@@ -61,7 +61,7 @@ fn spoke_fault(zones: &Zones, i: usize, row: &SpokeRow) -> Option<ZoneFault>
     None
 }
 
-/// The first zone in a Dijkstra zone.
+/// Returns the first zone in a Dijkstra zone.
 pub(crate) fn first_child_zone(zones: &Zones, rows: &[ZoneRow]) -> Option<ZoneFault>
     requires { length rows.now ≤ 262144 }
     ensures { result ≡ first_along (child_zone_fault zones.now) 0 rows.now }
@@ -74,7 +74,7 @@ pub(crate) fn first_child_zone(zones: &Zones, rows: &[ZoneRow]) -> Option<ZoneFa
     None
 }
 
-/// The first route in no Full or Dijkstra zone.
+/// Returns the first route in no Full or Dijkstra zone.
 pub(crate) fn first_route(zones: &Zones, rows: &[RouteRow]) -> Option<ZoneFault>
     requires { length rows.now ≤ 262144 }
     ensures { result ≡ first_along (route_fault zones.now) 0 rows.now }
@@ -87,7 +87,7 @@ pub(crate) fn first_route(zones: &Zones, rows: &[RouteRow]) -> Option<ZoneFault>
     None
 }
 
-/// The first zone_route in no Full zone.
+/// Returns the first zone_route in no Full zone.
 pub(crate) fn first_zone_route(zones: &Zones, rows: &[ZoneRouteRow]) -> Option<ZoneFault>
     requires { length rows.now ≤ 262144 }
     ensures { result ≡ first_along (zone_route_fault zones.now) 0 rows.now }
@@ -100,7 +100,7 @@ pub(crate) fn first_zone_route(zones: &Zones, rows: &[ZoneRouteRow]) -> Option<Z
     None
 }
 
-/// The first spoke in no Star zone.
+/// Returns the first spoke in no Star zone.
 pub(crate) fn first_spoke(zones: &Zones, rows: &[SpokeRow]) -> Option<ZoneFault>
     requires { length rows.now ≤ 262144 }
     ensures { result ≡ first_along (spoke_fault zones.now) 0 rows.now }

@@ -10,7 +10,7 @@ use sg_rows::ZoneRow;
 use sg_tree::Place;
 use std::alloc::Global;
 
-/// That there is no root, or a second one.
+/// Reports that there is no root, or a second one.
 fn root_fault(zones: &[ZoneRow]) -> Option<ZoneFault>
     requires { length zones.now ≤ 1024 }
     ensures { result ≡ root_fault (roots 1 zones.now) }
@@ -34,7 +34,7 @@ fn root_fault(zones: &[ZoneRow]) -> Option<ZoneFault>
     }))
 }
 
-/// That going up from a zone never reaches the root.
+/// Reports that going up from a zone never reaches the root.
 fn cycle_at(i: usize, ancestor: &Option<ZoneId>) -> Option<ZoneFault>
     requires { i < 1024 }
     ensures { result ≡ ancestor_fault ParentCycle i ancestor.now }
@@ -45,7 +45,7 @@ fn cycle_at(i: usize, ancestor: &Option<ZoneId>) -> Option<ZoneFault>
     }
 }
 
-/// That a zone is too deep.
+/// Reports that a zone is too deep.
 fn deep_at(i: usize, ancestor: &Option<ZoneId>) -> Option<ZoneFault>
     requires { i < 1024 }
     ensures { result ≡ ancestor_fault TooDeep i ancestor.now }
@@ -56,7 +56,7 @@ fn deep_at(i: usize, ancestor: &Option<ZoneId>) -> Option<ZoneFault>
     }
 }
 
-/// The first zone that never reaches the root.
+/// Returns the first zone that never reaches the root.
 fn first_cycle(ancestors: &[Option<ZoneId>]) -> Option<ZoneFault>
     requires { length ancestors.now ≤ 1024 }
     ensures { result ≡ first_along (ancestor_fault ParentCycle) 0 ancestors.now }
@@ -69,7 +69,7 @@ fn first_cycle(ancestors: &[Option<ZoneId>]) -> Option<ZoneFault>
     None
 }
 
-/// The first zone that is too deep.
+/// Returns the first zone that is too deep.
 fn first_deep(ancestors: &[Option<ZoneId>]) -> Option<ZoneFault>
     requires { length ancestors.now ≤ 1024 }
     ensures { result ≡ first_along (ancestor_fault TooDeep) 0 ancestors.now }
@@ -82,7 +82,7 @@ fn first_deep(ancestors: &[Option<ZoneId>]) -> Option<ZoneFault>
     None
 }
 
-/// The first fault of the tree itself.
+/// Returns the first fault of the tree itself.
 pub(crate) fn tree_fault(alloc: Global, zones: &[ZoneRow]) -> Result<Option<ZoneFault>, Memory>
     requires { length zones.now ≤ 1024 }
     ensures { IfOk result (λ fault. fault ≡ tree_fault zones.now) }

@@ -2,7 +2,7 @@
 ghost use Rattle.std.specs.Prelude.{◌≡◌, ◌≢◌, ◌≤◌, ◌++◌, ◌==◌, false, length, map, not, slice_index_or, None, Err, IfOk};
 ghost use Rattle.std.specs.Option.{option_map_or};
 ghost use Rattle.sg_zones.specs.Faults.{child_holds, in_one_full, in_one_routed, is_dijkstra, is_full, is_star, row_fault, zone_above, zones_of};
-ghost use Rattle.sg_zones.specs.Tree.{depth, holds, home, path_in, routing_in, tree_of};
+ghost use Rattle.sg_zones.specs.Tree.{depth, holds, home, path_in, routing_in, zone_tree};
 ghost use Rattle.sg_zones.specs.declared.fault.ZoneFault.TheVariants.{Memory};
 
 use crate::fault::ZoneFault;
@@ -15,7 +15,7 @@ use sg_rows::{HostRow, PlatformText, RouterRow, Routing, ZoneRow};
 use std::alloc::Global;
 use std::marker::Model;
 
-/// The zone tree of a platform. No call but `build` and `copy` takes memory.
+/// The zone tree of a platform. No call except `build` and `copy` takes memory.
 #[derive(Drop)]
 pub struct Zones {
     parents: Vec<Option<ZoneId>>,
@@ -37,7 +37,7 @@ impl Model for Zones {
     } };
 }
 
-/// The routing of each zone.
+/// Returns the routing of each zone.
 fn routings_of(alloc: Global, zones: &[ZoneRow]) -> Result<Vec<Routing>, NoMemory>
     ensures { IfOk result (λ made. made.items ≡ map (λ row. row.routing) zones.now) }
 {
@@ -48,7 +48,7 @@ fn routings_of(alloc: Global, zones: &[ZoneRow]) -> Result<Vec<Routing>, NoMemor
     Ok(made)
 }
 
-/// The zone of each point.
+/// Returns the zone of each point.
 fn homes_of(
     alloc: Global,
     hosts: &[HostRow],
@@ -68,7 +68,7 @@ fn homes_of(
     Ok(homes)
 }
 
-/// The paths once more.
+/// Copies the paths.
 fn paths_again(alloc: Global, paths: &[Path]) -> Result<Vec<Path>, NoMemory>
     ensures { IfOk result (λ made. made.items ≡ paths.now) }
 {
@@ -79,7 +79,7 @@ fn paths_again(alloc: Global, paths: &[Path]) -> Result<Vec<Path>, NoMemory>
     Ok(made)
 }
 
-/// The first fault of the rows that name zones, in a tree that has none itself.
+/// Returns the first fault of the rows that name zones, in a tree that has none itself.
 fn row_fault(zones: &Zones, platform: &PlatformText) -> Option<ZoneFault>
     ensures { result ≡ row_fault zones.now platform.now }
 {
@@ -102,9 +102,9 @@ fn row_fault(zones: &Zones, platform: &PlatformText) -> Option<ZoneFault>
 }
 
 impl Zones {
-    /// The tree of the rows, whether they are good or not.
+    /// Returns the tree of the rows, whether they are good or not.
     fn of(alloc: Global, platform: &PlatformText) -> Result<Zones, NoMemory>
-        ensures { IfOk result (λ zones. zones ≡ tree_of platform.now) }
+        ensures { IfOk result (λ zones. zones ≡ zone_tree platform.now) }
     {
         Ok(Zones {
             parents: parents_of(alloc, platform.zones())?,
@@ -114,11 +114,11 @@ impl Zones {
         })
     }
 
-    /// The zone tree of a platform, in about n log n steps of its n rows.
+    /// Makes the zone tree of a platform, in about n log n steps of its n rows.
     ///
     /// # Errors
     ///
-    /// The fault of least kind, and within it of least place, or want of memory.
+    /// The fault of least kind, and within it of least place, or out of memory.
     #[tactic(auto, using(crate::proofs::FaultLemmas::zones_bad, crate::proofs::FaultLemmas::zones_wrong, crate::proofs::FaultLemmas::zones_good))]
     pub fn build(alloc: Global, platform: &PlatformText) -> Result<Zones, ZoneFault>
         ensures { result ≢ Err Memory → result ≡ zones_of platform.now }
@@ -135,11 +135,11 @@ impl Zones {
         }
     }
 
-    /// The same tree once more.
+    /// Copies the tree.
     ///
     /// # Errors
     ///
-    /// Want of memory.
+    /// Out of memory.
     pub fn copy(&self, alloc: Global) -> Result<Zones, NoMemory>
         ensures { IfOk result (λ zones. zones ≡ self.now) }
     {
@@ -151,7 +151,7 @@ impl Zones {
         })
     }
 
-    /// The zone above this one; none above the root.
+    /// Returns the zone above this one; none above the root.
     pub fn parent(&self, zone: ZoneId) -> Option<ZoneId>
         ensures { result ≡ slice_index_or self.now.parents zone.0 None }
     {
@@ -161,7 +161,7 @@ impl Zones {
         }
     }
 
-    /// How the zone finds the routes between its children.
+    /// Returns how the zone finds the routes between its children.
     pub fn routing(&self, zone: ZoneId) -> Routing
         ensures { result ≡ routing_in self.now zone }
     {
@@ -171,7 +171,7 @@ impl Zones {
         }
     }
 
-    /// The zones from the root down to this one, both among them.
+    /// Returns the zones from the root down to this one, both among them.
     pub fn path(&self, zone: ZoneId) -> &[ZoneId]
         ensures path { result.now ≡ path_in self.now zone }
         ensures depth { length result.now ≤ 16 }
@@ -182,14 +182,14 @@ impl Zones {
         }
     }
 
-    /// How many zones stand on the path down to this one: the root has depth 1.
+    /// Returns how many zones stand on the path down to this one: the root has depth 1.
     pub fn depth(&self, zone: ZoneId) -> u32
         ensures { result ≡ depth self.now zone }
     {
         self.path(zone).len() as u32
     }
 
-    /// The zone that a point stands in.
+    /// Returns the zone that a point stands in.
     pub fn home(&self, point: PointId) -> ZoneId
         ensures { result ≡ home self.now point }
     {
@@ -199,7 +199,7 @@ impl Zones {
         }
     }
 
-    /// Whether the point stands in the zone or in one below it.
+    /// Returns whether the point stands in the zone or in one below it.
     pub fn holds(&self, zone: ZoneId, point: PointId) -> bool
         ensures { result ≡ holds self.now zone point }
     {
@@ -208,7 +208,7 @@ impl Zones {
             .any(|above| above.0 == zone.0)
     }
 
-    /// Whether the child holds the point: a point holds itself alone.
+    /// Returns whether the child holds the point: a point holds itself alone.
     pub(crate) fn child_holds(&self, child: Child, point: PointId) -> bool
         ensures { result ≡ child_holds self.now child point }
     {
@@ -218,7 +218,7 @@ impl Zones {
         }
     }
 
-    /// Whether the zone is Full.
+    /// Returns whether the zone is Full.
     pub(crate) fn is_full(&self, zone: ZoneId) -> bool
         ensures { result ≡ is_full (routing_in self.now zone) }
     {
@@ -228,7 +228,7 @@ impl Zones {
         }
     }
 
-    /// Whether the zone is Star.
+    /// Returns whether the zone is Star.
     pub(crate) fn is_star(&self, zone: ZoneId) -> bool
         ensures { result ≡ is_star (routing_in self.now zone) }
     {
@@ -238,7 +238,7 @@ impl Zones {
         }
     }
 
-    /// Whether there is such a zone, and it is Dijkstra.
+    /// Returns whether there is such a zone, and it is Dijkstra.
     pub(crate) fn is_in_dijkstra(&self, zone: Option<ZoneId>) -> bool
         ensures { result
             ≡ option_map_or (λ above. is_dijkstra (routing_in self.now above)) zone false }
@@ -249,7 +249,7 @@ impl Zones {
         }
     }
 
-    /// Whether the zone is Dijkstra.
+    /// Returns whether the zone is Dijkstra.
     fn is_dijkstra(&self, zone: ZoneId) -> bool
         ensures { result ≡ is_dijkstra (routing_in self.now zone) }
     {
@@ -259,7 +259,7 @@ impl Zones {
         }
     }
 
-    /// Whether the zone has routes between points.
+    /// Returns whether the zone has routes between points.
     fn has_routes(&self, zone: ZoneId) -> bool
         ensures { result ≡ not (is_star (routing_in self.now zone)) }
     {
@@ -269,14 +269,14 @@ impl Zones {
         }
     }
 
-    /// Whether both are the same zone, and it has routes between points.
+    /// Returns whether both are the same zone, and it has routes between points.
     pub(crate) fn in_one_routed(&self, a: ZoneId, b: ZoneId) -> bool
         ensures { result ≡ in_one_routed self.now a b }
     {
         a.0 == b.0 && self.has_routes(a)
     }
 
-    /// Whether both are the same zone, and it is Full.
+    /// Returns whether both are the same zone, and it is Full.
     pub(crate) fn in_one_full(&self, a: Option<ZoneId>, b: Option<ZoneId>) -> bool
         ensures { result ≡ in_one_full self.now a b }
     {
@@ -286,7 +286,7 @@ impl Zones {
         }
     }
 
-    /// The zone whose child this is; the root is no child.
+    /// Returns the zone whose child this is; the root is no child.
     pub(crate) fn zone_above(&self, child: Child) -> Option<ZoneId>
         ensures { result ≡ zone_above self.now child }
     {
@@ -296,7 +296,7 @@ impl Zones {
         }
     }
 
-    /// Whether this is a child of the zone.
+    /// Returns whether this is a child of the zone.
     pub(crate) fn is_child_of(&self, zone: ZoneId, child: Child) -> bool
         ensures { result
             ≡ option_map_or (λ above. above.0 == zone.0) (zone_above self.now child) false }

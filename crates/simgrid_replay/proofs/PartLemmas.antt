@@ -8,7 +8,7 @@ use Rattle.sg_edge.specs.Sources.{Source}
 use Rattle.sg_edge.specs.declared.files.Part.{Part}
 use Rattle.sg_edge.specs.declared.files.Part.TheVariants as part
 use Rattle.sg_words.specs.CommandLine.{Request}
-use Rattle.simgrid_replay.specs.PartSources.{IsNamedBy, name_of}
+use Rattle.simgrid_replay.specs.PartSources.{IsNamedBy, source_name}
 use Rattle.sg_engine.specs.declared.setup.Setup.{Setup}
 use Rattle.sg_rows.specs.Deployment.{Deployed}
 use Rattle.sg_platform.specs.DeploymentOf.{deployment_of}
@@ -66,7 +66,7 @@ takes_none most old new same = subst (λ (v : PartView). TakesUpTo most old v) (
     before-nil (Some rest) = refl
 
 pub nameless_by : (request : Request) (part : Part) (view : PartView) → view.name ≡ None → IsNamedBy request part view
-nameless_by request part view is = by_name (name_of request part)
+nameless_by request part view is = by_name (source_name request part)
   where
     by_name : (name : Option (List ℕ)) → IfSome name (λ n. IsNamed n view)
     by_name None = tt
@@ -74,7 +74,7 @@ nameless_by request part view is = by_name (name_of request part)
 
 -- a part that keeps its name is named as before
 pub named_on : (request : Request) (part : Part) (old new : PartView) → new.name ≡ old.name → IsNamedBy request part old → IsNamedBy request part new
-named_on request part old new same named = subst (λ (told : Option (List ℕ)). IfSome (name_of request part) (λ name. IfSome told (λ n. n ≡ name))) (sym same) named
+named_on request part old new same named = subst (λ (told : Option (List ℕ)). IfSome (source_name request part) (λ name. IfSome told (λ n. n ≡ name))) (sym same) named
 
 -- each part is one of the three
 pub named_parts : (request : Request) (views : Part → PartView) → IsNamedBy request part.Platform (views part.Platform) → IsNamedBy request part.Deployment (views part.Deployment) → IsNamedBy request part.Script (views part.Script)

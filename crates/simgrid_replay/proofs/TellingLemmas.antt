@@ -8,7 +8,7 @@ use Rattle.sg_engine.proofs.Fronts.{fronts_err, fronts_out}
 use Rattle.sg_engine.specs.Gains.{GainsFronts}
 use Rattle.simgrid_replay.specs.Outcome.{one_text}
 
--- a front of the text is there, and the other stream is as it was
+-- a prefix of the text is there, and the other stream is as it was
 pub told_front : (to : Stream) (text : List ℕ) (how : Status) (old new : Stream → Option (List ℕ)) → GainsFront text (old to) (new to) → SameBut to old new →
     GainsFronts (one_text to text how).out (one_text to text how).err old new
 told_front Out text how old new front same = fronts_out text [] old new front (same Err (λ e. cc))

@@ -18,7 +18,7 @@ use Rattle.sg_engine.specs.declared.show.Show.{Show}
 use Rattle.sg_engine.specs.Output.{Output, run_output}
 use Rattle.simgrid_replay.specs.declared.refusal.Refusal.{Refusal}
 use Rattle.simgrid_replay.specs.declared.refusal.Refusal.TheVariants as R
-use Rattle.simgrid_replay.specs.Outcome.{Outcome, IsWhole, Prints, is_cut, is_refusal, of_run, run_on, or_refused, status_of, one_text, refusal_outcome}
+use Rattle.simgrid_replay.specs.Outcome.{Outcome, IsWhole, Prints, cuts_output_short, is_refusal, of_run, run_on, or_refused, status_of, one_text, refusal_outcome}
 use Rattle.std.specs.Prelude.{IsErr, MatchBool}
 use Rattle.std.proofs.lemmas.List.{length-drop}
 use Rattle.simgrid_replay.specs.Contexts.{TakesContexts, TakesFirst, starts_in}
@@ -34,7 +34,7 @@ use Rattle.sg_engine.specs.declared.setup.Setup.{Setup}
 use Rattle.sg_rows.specs.Platform.{Platform as Loaded}
 use Rattle.simgrid_replay.specs.Requests.{has_parts, has_script, show_of}
 
--- fronts of nothing are fronts of anything
+-- prefixes of nothing are prefixes of anything
 fronts_nothing : (out err : List ℕ) (old new : Stream → Option (List ℕ)) → GainsFronts [] [] old new → GainsFronts out err old new
 fronts_nothing out err old new f = record {
   out_done = [];
@@ -66,7 +66,7 @@ prints_nothing want S.Budget old new p = absurd (let e : S.Memory ≡ S.Budget =
 prints_nothing want S.Route old new p = absurd (let e : S.Memory ≡ S.Route = p.0 in cc)
 prints_nothing want S.ReadFault old new p = absurd (let e : S.Memory ≡ S.ReadFault = p.0 in cc)
 
--- a refusal is told as the definition has it, or memory was wanting
+-- a refusal is reported as the definition has it, or memory ran out
 pub refusal_prints : {X : Type 0} (after : Result X Refusal → Outcome) (given : Result X Refusal) (why : Refusal) (how : Status) (old new : Stream → Option (List ℕ)) → ((r : Refusal) → after (C.Err r) ≡ refusal_outcome r) → (◌≢◌ {A = Result X Refusal} (C.Err why) (C.Err R.Memory) → C.Err why ≡ given) → Prints (refusal_outcome why) how old new → Prints (after given) how old new
 refusal_prints after given R.Memory how old new is known p = prints_nothing (after given) how old new p
 refusal_prints after given (R.Platform fault) how old new is known p = rw (sym (known (λ e. cc)), is (R.Platform fault)) p
@@ -154,7 +154,7 @@ run_prints_on job contexts on script budget show source how code old new scripte
     (run_prints (run_output on.platform on.deployment script budget contexts show source) how code old new is ends)
 
 -- a run is cut off as its call is
-cut_as : (how : Ended) → run_cut how ≡ is_cut (status_of how)
+cut_as : (how : Ended) → run_cut how ≡ cuts_output_short (status_of how)
 cut_as E.Completed = refl
 cut_as E.Deadlock = refl
 cut_as E.Starved = refl
@@ -166,7 +166,7 @@ cut_as E.ReadFault = refl
 cut_as E.WriteFault = refl
 cut_as E.Memory = refl
 
--- what a run leaves of the crew is what its call leaves
+-- what a run leaves in the pool is what its call leaves
 pub run_leaves_on : (job : Asked) (contexts : ℕ) (on : Setting) (script : Bool) (budget : ℕ) (show : Show) (source : Source) (how : Ended) (code : Status) (crew left : ℕ) →
     script ≡ has_script job.request → budget ≡ job.budget → show ≡ show_of job.request job.quiet → code ≡ status_of how →
     RunTakes (run_output on.platform on.deployment script budget contexts show source).contexts how crew left →
@@ -174,7 +174,7 @@ pub run_leaves_on : (job : Asked) (contexts : ℕ) (on : Setting) (script : Bool
 run_leaves_on job contexts on script budget show source how code crew left scripted counted shown is leaves =
     subst (λ (o : Output). LeavesContexts o.contexts code crew left) (as_job job contexts on script budget show source scripted counted shown)
     (subst (λ (cut : Bool). MatchBool cut (crew ≤ left + (run_output on.platform on.deployment script budget contexts show source).contexts) (crew ≡ left + (run_output on.platform on.deployment script budget contexts show source).contexts))
-    (cut_as how ∙ sym (ap is_cut is)) leaves)
+    (cut_as how ∙ sym (ap cuts_output_short is)) leaves)
 
 -- the same of the work
 pub run_counts_on : (job : Asked) (contexts : ℕ) (on : Setting) (script : Bool) (budget : ℕ) (show : Show) (source : Source) (start count : ℕ) →
@@ -201,7 +201,7 @@ seats_run on how code old new is first = record {
   left = first.left;
 }
 
--- where there is no run nobody takes a context
+-- if there is no run no actor takes a context
 pub none_taken : {A : Type 0} (given : Result Setting Refusal) (why : Refusal) (how : Status) (crew : List A) →
     (◌≢◌ {A = Result Setting Refusal} (C.Err why) (C.Err R.Memory) → C.Err why ≡ given) → (why ≡ R.Memory → how ≡ S.Memory) → TakesFirst given how crew crew
 none_taken given why how crew known memory = record {
@@ -226,12 +226,12 @@ refusal_none R.ReadPlatform = refl
 refusal_none R.ReadDeployment = refl
 refusal_none R.Memory = refl
 
--- and all of the crew is left
+-- and the whole pool remains
 pub refusal_leaves : (after : Result Setting Refusal → Outcome) (given : Result Setting Refusal) (why : Refusal) (how : Status) (crew : ℕ) → ((r : Refusal) → after (C.Err r) ≡ refusal_outcome r) →
     (◌≢◌ {A = Result Setting Refusal} (C.Err why) (C.Err R.Memory) → C.Err why ≡ given) → (why ≡ R.Memory → how ≡ S.Memory) → LeavesContexts (after given).contexts how crew crew
 refusal_leaves after given why how crew is known memory =
-    leaves_all (is_cut how) (after given).contexts crew
-    (λ uncut. ap (λ (r : Result Setting Refusal). (after r).contexts) (sym (known (λ e. absurd (let cut : true ≡ false = sym (ap is_cut (memory (cc))) ∙ uncut in cc)))) ∙ ap (λ (o : Outcome). o.contexts) (is why) ∙ refusal_none why)
+    leaves_all (cuts_output_short how) (after given).contexts crew
+    (λ uncut. ap (λ (r : Result Setting Refusal). (after r).contexts) (sym (known (λ e. absurd (let cut : true ≡ false = sym (ap cuts_output_short (memory (cc))) ∙ uncut in cc)))) ∙ ap (λ (o : Outcome). o.contexts) (is why) ∙ refusal_none why)
 
 -- as many are taken as aren't left
 left_number : {A : Type 0} (taken : ℕ) (old new : List A) → taken ≤ length old → new ≡ drop taken old → length old ≡ length new + taken
@@ -244,8 +244,8 @@ pub takes_contexts : {A : Type 0} (given : Result Setting Refusal) (want : Outco
     LeavesContexts want.contexts how (length old) (length new) → TakesContexts want how old new
 takes_contexts given want how old new first leaves = record {
   taken = first.taken;
-  most = few (is_cut how) leaves;
-  all = λ uncut. exact (is_cut how) uncut leaves;
+  most = few (cuts_output_short how) leaves;
+  all = λ uncut. exact (cuts_output_short how) uncut leaves;
   left = first.left;
 }
   where
@@ -260,7 +260,7 @@ takes_contexts given want how old new first leaves = record {
     exact true uncut is = absurd (cc uncut)
     exact false uncut is = let n = number in omega (arith, n, is)
 
--- what a run comes to is what the definition says where nothing is refused
+-- what a run comes to is what the definition says if nothing is refused
 pub setting_prints : (job : Asked) (contexts : ℕ) (s : Source) (given : Result Setting Refusal) (on : Setting) (code : Status) (old new : Stream → Option (List ℕ)) → given ≡ Ok on →
     Prints (run_on job contexts s on) code old new → Prints (or_refused job contexts s given) code old new
 setting_prints job contexts s given on code old new is prints = subst (λ (r : Result Setting Refusal). Prints (or_refused job contexts s r) code old new) (sym is) prints
@@ -294,7 +294,7 @@ platform_decides result on old new is = record {
   behind = λ p gives err. absurd (not_refused (platform_given p) on (sym (is p gives)) err);
 }
 
--- a platform and a deployment that weren't broken before the script was begun aren't behind it
+-- a platform and a deployment that weren't broken before the script was begun aren't after it
 pub none_broken : {X : Type 0} (mid new : Part → PartView) → new Platform ≡ mid Platform → new Deployment ≡ mid Deployment →
     (mid Platform).stage ≢ Broken → (mid Deployment).stage ≢ Broken → IsTextBroken new → X
 none_broken mid new same also platform deployment (inl broken) = absurd (platform (ap (λ (v : PartView). v.stage) (sym same) ∙ broken))
@@ -318,11 +318,11 @@ partless (line.replay p d s) none = absurd (cc none)
 partless (line.run p d) none = refl
 partless (line.churn seed actors steps) none = refl
 
--- a part that goes on telling its bytes does so wherever it is the same
+-- a part whose contents stay known keeps them known wherever it is the same
 tells_as : (old mid new : PartView) → new ≡ mid → KeepsTelling old mid → KeepsTelling old new
 tells_as old mid new same tells = subst (λ (v : PartView). KeepsTelling old v) (sym same) tells
 
--- what goes on telling before a part is begun and behind it goes on telling
+-- what stays known before a part is begun and after it stays known
 pub telling_before : (old mid new : Part → PartView) → ((part : Part) → KeepsTelling (old part) (mid part)) → mid Script ≡ old Script → KeepsTelling (mid Script) (new Script) →
     ((part : Part) → part ≢ Script → new part ≡ mid part) → (part : Part) → KeepsTelling (old part) (new part)
 telling_before old mid new tells same script others Platform = tells_as (old Platform) (mid Platform) (new Platform) (others Platform (λ e. cc)) (tells Platform)
@@ -344,7 +344,7 @@ unrefused_spares how old new not = record {
   deployment = λ is. absurd (let e : true ≡ false = sym (ap is_refusal is) ∙ not in cc);
 }
 
--- where no write failed, the outcome is there whole, or memory was wanting
+-- if no write failed, the outcome is there whole, or memory ran out
 whole_or_memory : (want : Outcome) (how : Status) (had faults : ℕ) (broke : Type 0) (old new : Stream → Option (List ℕ)) → Prints want how old new →
     HasCause (how ≡ S.WriteFault) (how ≡ S.ReadFault) had faults broke → faults ≡ 0 → (how ≡ S.Memory) ⊎ IsWhole want how old new
 whole_or_memory want S.WriteFault had faults broke old new prints cause none = absurd (let some = cause.write refl in omega (arith, some, none))
@@ -360,7 +360,7 @@ whole_or_memory want S.Budget had faults broke old new prints cause none = inr p
 whole_or_memory want S.Route had faults broke old new prints cause none = inr prints
 whole_or_memory want S.ReadFault had faults broke old new prints cause none = inr prints
 
--- without want of memory it is there whole
+-- if memory doesn't run out it is there whole
 pub whole_of : (want : Outcome) (how : Status) (had faults : ℕ) (broke : Type 0) (old new : Stream → Option (List ℕ)) → Prints want how old new →
     HasCause (how ≡ S.WriteFault) (how ≡ S.ReadFault) had faults broke → faults ≡ 0 → how ≢ S.Memory → IsWhole want how old new
 whole_of want how had faults broke old new prints cause none some = all (whole_or_memory want how had faults broke old new prints cause none)
@@ -369,7 +369,7 @@ whole_of want how had faults broke old new prints cause none some = all (whole_o
     all (inl memory) = absurd (some memory)
     all (inr whole) = whole
 
--- what completes by the definition says so, or that memory was wanting
+-- what completes by the definition says so, or that memory ran out
 pub completed_of : (want : Outcome) (how : Status) (had faults : ℕ) (broke : Type 0) (old new : Stream → Option (List ℕ)) → Prints want how old new →
     HasCause (how ≡ S.WriteFault) (how ≡ S.ReadFault) had faults broke → faults ≡ 0 → want.status ≡ S.Completed → (how ≡ S.Completed) ⊎ (how ≡ S.Memory)
 completed_of want how had faults broke old new prints cause none done = told (whole_or_memory want how had faults broke old new prints cause none)

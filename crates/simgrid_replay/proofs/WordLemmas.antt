@@ -1,4 +1,4 @@
--- What is told of words that ask for no run.
+-- What is printed for words that ask for no run.
 use Rattle.std.proofs.Common.{◌≡◌, ◌≢◌, inl, refl, subst, ℕ, List, [], ◌∷◌, Option, Some, Result, Ok}
 use Rattle.std.proofs.Common as C
 use Rattle.clap.specs.Words.{Kinds}
@@ -14,7 +14,7 @@ use Rattle.simgrid_replay.specs.Outcome.{Prints, one_text}
 use Rattle.simgrid_replay.specs.Outcome.{ReportsWords}
 use Rattle.simgrid_replay.proofs.TopLemmas.{prints_nothing}
 
--- memory was wanting for the text
+-- memory ran out for the text
 pub tells_nothing : (kinds : Kinds) (how : Status) (old new : Stream → Option (List ℕ)) → kinds ≢ [] → Prints (one_text Err [] S.Memory) how old new → ReportsWords kinds how old new
 tells_nothing [] how old new some prints = absurd (some refl)
 tells_nothing (kind ∷ more) how old new some prints = record {

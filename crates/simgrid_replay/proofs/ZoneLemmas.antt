@@ -1,10 +1,10 @@
--- What zones that were built tell of the platform.
+-- What zones that were built say of the platform.
 use Rattle.std.proofs.Common.{◌≡◌, ◌≢◌, refl, Option, None, Some, Result, Ok, sym, ap}
 use Rattle.std.proofs.Common as C
 use Rattle.std.specs.Option.{option_map_or}
 use Rattle.sg_rows.specs.Platform.{Platform}
 use Rattle.sg_zones.specs.Faults.{zone_fault, zones_of}
-use Rattle.sg_zones.specs.Tree.{Tree, tree_of}
+use Rattle.sg_zones.specs.Tree.{Tree, zone_tree}
 use Rattle.sg_zones.specs.declared.fault.ZoneFault.{ZoneFault}
 use Rattle.simgrid_replay.specs.Settings.{or_zone_fault}
 use Rattle.simgrid_replay.specs.declared.refusal.Refusal.{Refusal}
@@ -15,13 +15,13 @@ built_by None tree zones is = cc is
 built_by (Some fault) tree zones is = absurd (cc is)
 
 -- zones without a fault are the tree of the platform
-pub zones_are : (platform : Platform) (zones : Tree) → Ok zones ≡ zones_of platform → zones ≡ tree_of platform
-zones_are platform zones is = built_by (zone_fault platform) (tree_of platform) zones is
+pub zones_are : (platform : Platform) (zones : Tree) → Ok zones ≡ zones_of platform → zones ≡ zone_tree platform
+zones_are platform zones is = built_by (zone_fault platform) (zone_tree platform) zones is
 
 pub no_zone_fault : (platform : Platform) (zones : Tree) → Ok zones ≡ zones_of platform → Ok platform ≡ or_zone_fault platform (zones_of platform)
 no_zone_fault platform zones is = ap (or_zone_fault platform) is
 
--- where the zones have no fault nothing but memory is wanting
+-- if the zones have no fault, only memory can run out
 pub only_memory : (platform : Platform) (tree : Tree) (result : Result Platform Refusal) (why : Refusal) → zones_of platform ≡ Ok tree → result ≡ C.Err why →
     (◌≢◌ {A = Result Platform Refusal} result (C.Err R.Memory) → result ≡ or_zone_fault platform (zones_of platform)) → ¬ (why ≡ R.Memory) → ⊥
 only_memory platform tree result why zones is given other =

@@ -1,4 +1,4 @@
--- What a call has come to where no write failed.
+-- The result of a call if no write failed.
 use Rattle.std.specs.Prelude.{◌≡◌, ◌≢◌, ◌⊎◌, ℕ, List, Option}
 use Rattle.sg_base.specs.declared.status.Status.{Status}
 use Rattle.sg_base.specs.declared.status.Status.TheVariants as status
@@ -8,8 +8,8 @@ use Rattle.sg_edge.specs.Cause.{HasCause}
 use Rattle.sg_edge.specs.Files.{PartView, SomeBroke}
 use Rattle.simgrid_replay.specs.Outcome.{Outcome, IsWhole, Prints}
 
--- Where no write failed and memory was there, all that the definition has was written, with its status; and a run that
--- completes by the definition says so, or that memory was wanting.
+-- If no write failed and there was memory, all that the definition has was written, with its status; and a run that
+-- completes by the definition says so, or that memory ran out.
 pub record IsWholeIfSound (want : Outcome) (how : Status) (faults : ℕ) (old new : Stream → Option (List ℕ)) : Type 0 where
   pub whole : faults ≡ 0 → how ≢ status.Memory → IsWhole want how old new
   pub completed : faults ≡ 0 → want.status ≡ status.Completed → (how ≡ status.Completed) ⊎ (how ≡ status.Memory)

@@ -21,8 +21,8 @@ use Rattle.simgrid_replay.specs.Requests.{has_script, show_of}
 use Rattle.simgrid_replay.specs.declared.refusal.Refusal.{Refusal}
 use Rattle.simgrid_replay.specs.declared.refusal.Refusal.TheVariants as refusal
 
--- What is written, and the status; how many contexts the actors of the run take, the work: how many looks its fillings may
--- take; and the need: how many bytes of the script its Asks need.
+-- What is written, and the status; how many contexts the actors of the run take; the work: how many visits its solver
+-- may make; and the need: how many bytes of the script its fetches need.
 pub record Outcome : Type 0 where
   pub out : List ℕ
   pub err : List ℕ
@@ -31,6 +31,7 @@ pub record Outcome : Type 0 where
   pub work : ℕ
   pub need : ℕ
 
+-- the exit status for each way in which a run ends
 abbrev pub status_of : Ended → Status
 status_of ended.Completed = status.Completed
 status_of ended.Deadlock = status.Deadlock
@@ -52,6 +53,7 @@ one_text stream.Err text how = record { out = []; err = text; status = how; cont
 abbrev pub fault_outcome : List ℕ → List ℕ → Option Place → Status → Outcome
 fault_outcome part words place how = one_text stream.Err (refusal_line part words place) how
 
+-- the outcome of a refused job: its message on Err, empty if out of memory, and its status
 abbrev pub refusal_outcome : Refusal → Outcome
 refusal_outcome (refusal.Platform fault) = fault_outcome (codes "platform") (fault_words fault) (option_map (λ rule. rule.place) fault) status.Platform
 refusal_outcome (refusal.Zones fault) = fault_outcome (codes "platform") (zone_words fault) (zone_place fault) status.Platform
@@ -62,6 +64,7 @@ refusal_outcome refusal.ReadPlatform = one_text stream.Err (codes "cannot read t
 refusal_outcome refusal.ReadDeployment = one_text stream.Err (codes "cannot read the deployment\n") status.ReadFault
 refusal_outcome refusal.Memory = one_text stream.Err [] status.Memory
 
+-- the outcome of a run: its texts, the status for its end, and what it used
 abbrev pub of_run : Output → Outcome
 of_run run = record { out = run.out; err = run.err; status = status_of run.ended; contexts = run.contexts; work = run.work; need = run.need }
 
@@ -70,21 +73,22 @@ abbrev pub run_on : Asked → ℕ → Source → Setting → Outcome
 run_on job contexts script on =
     of_run (run_output on.platform on.deployment (has_script job.request) job.budget contexts (show_of job.request job.quiet) script)
 
+-- the outcome of a run that was set up, or of the first refusal
 abbrev pub or_refused : Asked → ℕ → Source → Result Setting Refusal → Outcome
 or_refused job contexts script (Ok on) = run_on job contexts script on
 or_refused job contexts script (Err why) = refusal_outcome why
 
--- What a job comes to with so many contexts, by what the three parts gave: the platform, the deployment, the run; the
--- first that ends the call decides.
+-- The outcome of a job with so many contexts, by what the three input streams gave: the platform, the deployment, the
+-- run; the first that ends the call decides.
 abbrev pub outcome : Asked → ℕ → Source → Source → Source → Outcome
 outcome job contexts platform deployment script =
     or_refused job contexts script (setting job.request contexts platform deployment)
 
--- a failed write or want of memory cuts the call off
-abbrev pub is_cut : Status → Bool
-is_cut status.WriteFault = true
-is_cut status.Memory = true
-is_cut other = false
+-- a failed write or running out of memory cuts the call off
+abbrev pub cuts_output_short : Status → Bool
+cuts_output_short status.WriteFault = true
+cuts_output_short status.Memory = true
+cuts_output_short other = false
 
 -- the words, the platform or the deployment are refused
 abbrev pub is_refusal : Status → Bool
@@ -97,11 +101,11 @@ is_refusal other = false
 abbrev pub IsWhole : Outcome → Status → (Stream → Option (List ℕ)) → (Stream → Option (List ℕ)) → Type 0
 IsWhole want how old new = (want.status ≡ how) × GainsAll want.out want.err old new
 
--- the outcome is there whole, or it was cut off and fronts of its texts are there
+-- the outcome is there whole, or it was cut off and prefixes of its texts are there
 abbrev pub Prints : Outcome → Status → (Stream → Option (List ℕ)) → (Stream → Option (List ℕ)) → Type 0
-Prints want how old new = MatchBool (is_cut how) (GainsFronts want.out want.err old new) (IsWhole want how old new)
+Prints want how old new = MatchBool (cuts_output_short how) (GainsFronts want.out want.err old new) (IsWhole want how old new)
 
--- A text was told for one of these kinds: help and the version on Out, with the status of success; any other on Err.
+-- A text was printed for one of these kinds: help and the version on Out, with the status of success; any other on Err.
 pub record ReportsWords (kinds : Kinds) (how : Status) (old new : Stream → Option (List ℕ)) : Type 0 where
   pub kind : ErrorKind
   pub among : IsAmong kind kinds

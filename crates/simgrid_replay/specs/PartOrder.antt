@@ -18,7 +18,7 @@ pub record AreBounded (old new : Part → PartView) : Type 0 where
   pub platform : TakesUpTo (greatest_text + 1) (old part.Platform) (new part.Platform)
   pub deployment : TakesUpTo (greatest_text + 1) (old part.Deployment) (new part.Deployment)
 
--- No part is begun behind one that can't be read or is refused, and no script where the request has none.
+-- No part is begun after one that can't be read or is refused, and no script if the request has none.
 pub record AreInOrder (request : Request) (contexts : ℕ) (old new : Part → PartView) : Type 0 where
   pub platform_first : (new part.Platform).stage ≡ Broken → SameFrom part.Deployment old new
   pub deployment_first : (new part.Deployment).stage ≡ Broken → SameFrom part.Script old new
@@ -26,8 +26,8 @@ pub record AreInOrder (request : Request) (contexts : ℕ) (old new : Part → P
   pub refused_first : (p d : Source) → TextsGive request old new p d → IsErr (setting request contexts p d) → SameFrom part.Script old new
   pub unscripted : has_script request ≡ false → SameFrom part.Script old new
 
--- What a call has done to the parts: each is begun under its name, one that tells its bytes still does, and nothing is
--- read where the request has no parts.
+-- What a call has done to the input streams: each is begun under its name, one with known contents keeps them known,
+-- and nothing is read if the request has no input.
 pub record TakesParts {F : Type 0} (shows : F → Part → PartView) (request : Request) (contexts : ℕ) (old new : F) : Type 0 where
   pub named : (which : Part) → IsNamedBy request which (shows new which)
   pub bounded : AreBounded (shows old) (shows new)
@@ -39,7 +39,7 @@ pub record TakesParts {F : Type 0} (shows : F → Part → PartView) (request : 
 abbrev pub IsTextBroken : (Part → PartView) → Type 0
 IsTextBroken view = ((view part.Platform).stage ≡ Broken) ⊎ ((view part.Deployment).stage ≡ Broken)
 
--- nothing was done behind the platform or the deployment whose refusal the status tells
+-- nothing was done after the platform or the deployment if the status is that of its refusal
 pub record SparesRest (how : Status) (old new : Part → PartView) : Type 0 where
   pub platform : how ≡ status.Platform → SameFrom part.Deployment old new
   pub deployment : how ≡ status.Deployment → SameFrom part.Script old new

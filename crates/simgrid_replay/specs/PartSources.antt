@@ -19,12 +19,12 @@ pub record AskFor (words : List Text) (asked : Asked) : Type 0 where
 abbrev pub request_of : Job → Request
 request_of job = command_view job.command
 
--- this is what the platform and the deployment gave, where the request has them
+-- this is what the platform and the deployment gave, if the request has them
 pub record TextsGive (request : Request) (old new : Part → PartView) (p d : Source) : Type 0 where
   pub platform : IsTrue (has_parts request) → Gives (old part.Platform) (new part.Platform) p
   pub deployment : IsTrue (has_parts request) → Gives (old part.Deployment) (new part.Deployment) d
 
--- this is what the script gave, where the request has one
+-- this is what the script gave, if the request has one
 abbrev pub ScriptGives : Request → (Part → PartView) → (Part → PartView) → Source → Type 0
 ScriptGives request old new s = IsTrue (has_script request) → Gives (old part.Script) (new part.Script) s
 
@@ -37,16 +37,16 @@ pub record PartsGive (request : Request) (old new : Part → PartView) (p d s : 
 abbrev pub ForJob : List Text → (Part → PartView) → (Part → PartView) → (Asked → Source → Source → Source → Type 0) → Type 0
 ForJob words old new P = (job : Asked) → AskFor words job → (p d s : Source) → PartsGive job.request old new p d s → P job p d s
 
--- the name that the words have for a part, where they have one
-abbrev pub name_of : Request → Part → Option (List ℕ)
-name_of (replay p d s) part.Platform = Some p
-name_of (replay p d s) part.Deployment = Some d
-name_of (replay p d s) part.Script = Some s
-name_of (run p d) part.Platform = Some p
-name_of (run p d) part.Deployment = Some d
-name_of (run p d) part.Script = None
-name_of (churn seed actors steps) part = None
+-- the name that the words have for a part, if they have one
+abbrev pub source_name : Request → Part → Option (List ℕ)
+source_name (replay p d s) part.Platform = Some p
+source_name (replay p d s) part.Deployment = Some d
+source_name (replay p d s) part.Script = Some s
+source_name (run p d) part.Platform = Some p
+source_name (run p d) part.Deployment = Some d
+source_name (run p d) part.Script = None
+source_name (churn seed actors steps) part = None
 
--- where the part tells the name under which it was begun, it is the one that the words have for it
+-- if the name under which the part was begun is known, it is the one that the words have for it
 abbrev pub IsNamedBy : Request → Part → PartView → Type 0
-IsNamedBy request part view = IfSome (name_of request part) (λ name. IsNamed name view)
+IsNamedBy request part view = IfSome (source_name request part) (λ name. IsNamed name view)

@@ -1,4 +1,4 @@
--- The lines that tell why a platform or a deployment is refused.
+-- The lines that report why a platform or a deployment is refused.
 use Rattle.std.specs.Prelude.{ℕ, List, ◌++◌, Option, Some, None, codes, decimal}
 use Rattle.sg_tree.specs.Faults.{kind_words}
 use Rattle.sg_tree.specs.declared.fault.Fault.{Fault}
@@ -15,7 +15,7 @@ refusal_line part words None = part ++ (codes ": " ++ (words ++ codes "\n"))
 refusal_line part words (Some place) =
     part ++ (codes ": " ++ (words ++ (codes " (table " ++ (decimal place.table ++ (codes ", row " ++ (decimal place.row ++ (codes ", key " ++ (decimal place.key ++ codes ")\n"))))))))
 
--- the row of an actor that replays where there is no script
+-- the row of an actor that replays if there is no script
 abbrev pub replay_line : ℕ → List ℕ
 replay_line row = codes "deployment: replay actor under run (row " ++ (decimal row ++ codes ")\n")
 

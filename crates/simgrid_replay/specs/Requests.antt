@@ -14,7 +14,7 @@ abbrev pub has_script : Request → Bool
 has_script (replay platform deployment script) = true
 has_script other = false
 
--- of a churn a summary is shown
+-- what is shown of a run; of a churn a summary
 abbrev pub show_of : Request → Bool → Show
 show_of (churn seed actors steps) quiet = show.Summary
 show_of other quiet = if quiet then show.Quiet else show.All

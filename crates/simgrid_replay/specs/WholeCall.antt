@@ -1,4 +1,4 @@
--- What the whole call takes for a job, and what it does where words are refused.
+-- What the whole call takes for a job, and what it does if the command line is invalid.
 use Rattle.std.specs.Prelude.{◌≡◌, ◌+◌, ◌≤◌, ℕ, List, Option}
 use Rattle.sg_base.specs.declared.status.Status.{Status}
 use Rattle.sg_edge.specs.declared.files.Part.{Part}
@@ -9,15 +9,16 @@ use Rattle.clap.specs.Words.{Kinds}
 use Rattle.simgrid_replay.specs.Contexts.{TakesContexts}
 use Rattle.simgrid_replay.specs.Outcome.{Outcome, ReportsWords}
 
--- The looks counted are no more than the work of the outcome; of the script at most 4,095 bytes more were taken than the
--- Asks of the run need; and of the crew as many contexts as the outcome takes, or no more where the call was cut off.
+-- The visits counted are no more than the work of the outcome; of the script at most 4,095 bytes more were taken than
+-- the fetches of the run need; and of the context pool as many contexts as the outcome takes, or no more if the call
+-- was cut off.
 pub record TakesForJob {A : Type 0} (want : Outcome) (how : Status) (start count : ℕ) (before after : Part → PartView) (had has : List A) : Type 0 where
   pub counts : count ≤ start + want.work
   pub needed : IsReadOnDemand want.need before after
   pub taken : TakesContexts want how had has
 
--- Help, the version, or what is wrong with the words was told: no part is begun, nobody takes a context, and nothing is
--- looked at.
+-- Help, the version, or what is wrong with the words was printed: no part is begun, no actor takes a context, and no
+-- use is visited.
 pub record RefusesWords {F A : Type 0} (kinds : Kinds) (how : Status) (old new : Stream → Option (List ℕ)) (before after : F) (had has : List A) (start count : ℕ) : Type 0 where
   pub told : ReportsWords kinds how old new
   pub untouched : after ≡ before

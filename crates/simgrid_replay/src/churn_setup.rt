@@ -15,7 +15,7 @@ use sg_engine::Setup;
 use sg_rows::PlatformText;
 use std::alloc::Global;
 
-// The platform of a churn with its routes. It has no zone fault.
+// Returns the platform of a churn with its routes. It has no zone fault.
 fn routed(
     alloc: Global,
     platform: PlatformText,
@@ -35,7 +35,7 @@ fn routed(
     }
 }
 
-/// What a churn of so many actors and so many steps of each runs, where there is a context for each actor.
+/// Returns what a churn of so many actors and so many steps of each runs, if there is a context for each actor.
 pub fn churn_setup(
     alloc: Global,
     seed: u64,

@@ -20,15 +20,15 @@ use std::process::ExitCode;
 use std::sync::ledger::Ledger;
 use std::thread::Threads;
 
-/// What the program tells the system of its status.
+/// Returns the exit code of a status.
 pub fn exit_code(status: Status) -> ExitCode
     ensures { exit_status result ≡ status_code status }
 {
     ExitCode::from(status.code())
 }
 
-/// What the program tells the system in the end: as it was told, or that a write failed, where what waited to be
-/// written couldn't be.
+/// Returns the exit code at the end of the program: this one, or that of a failed write if the waiting output couldn't
+/// be written.
 pub fn last_code(told: ExitCode, finished: Result<(), Failed>) -> ExitCode
     ensures written { OnOk finished (exit_status result ≡ exit_status told) }
     ensures failed { OnErr finished (exit_status result ≡ status_code Status.WriteFault) }
@@ -39,8 +39,8 @@ pub fn last_code(told: ExitCode, finished: Result<(), Failed>) -> ExitCode
     }
 }
 
-/// Does what the words ask for, as `simgrid` does, and tells the exit status: that of the definition where the parts told
-/// what they gave, and always that of a status for whose causes it stands.
+/// Does what the words ask for, as `simgrid` does, and returns the exit status: that of the definition if the contents
+/// of the input streams are known, and always that of a status for whose causes it stands.
 pub fn exit_of<R: Threads + Sync, F: Files, O: Sinks, L: Ledger>(
     host: &Host<'_, R>,
     words: &[String],

@@ -14,21 +14,21 @@ fn is_replay(function: &Function) -> bool
     matches!(function, Function::Replay)
 }
 
-// The place of the first actor that replays, from 0 on.
+// Returns the place of the first actor that replays, from 0 on.
 fn first_replay(actors: &[ActorRow]) -> Option<usize>
     ensures { result ≡ position replays actors.now }
 {
     actors.iter().position(|actor| is_replay(&actor.function))
 }
 
-// How many actors begin with the run.
+// Returns how many actors begin with the run.
 fn started(actors: &[ActorRow]) -> usize
     ensures { result ≡ count_by starts actors.now }
 {
     actors.iter().filter(|actor| actor.start).count()
 }
 
-/// The deployment, where there is a context for each actor that begins with the run.
+/// Returns the deployment, if there is a context for each actor that begins with the run.
 pub fn with_contexts(deployment: Deployment, contexts: usize) -> Result<Deployment, Refusal>
     ensures given { result ≡ or_few_contexts contexts deployment }
     ensures same { IfOk result (λ d. (d ≡ deployment) × (started_number d ≤ contexts)) }
@@ -42,7 +42,7 @@ pub fn with_contexts(deployment: Deployment, contexts: usize) -> Result<Deployme
     }
 }
 
-/// The deployment, where it suits a run with a script or without, and so many contexts.
+/// Returns the deployment, if it suits a run with a script or without, and so many contexts.
 pub fn fitting(deployment: Deployment, script: bool, contexts: usize) -> Result<Deployment, Refusal>
     ensures given { result ≡ fitting_spec script contexts deployment }
     ensures same { IfOk result (λ d. (d ≡ deployment) × (started_number d ≤ contexts)) }

@@ -21,7 +21,7 @@ use sg_words::{Command, Job};
 use std::sync::ledger::Ledger;
 use std::thread::Threads;
 
-// What is shown of a job's run.
+// Returns what is shown of a job's run.
 fn show(job: &Job) -> Show
     ensures { result ≡ show_of (request_of job.now) job.now.quiet }
 {
@@ -32,7 +32,7 @@ fn show(job: &Job) -> Show
     }
 }
 
-// The terms of a job's run.
+// Returns the terms of a job's run.
 fn terms_for(job: &Job) -> Terms
     ensures workers { result.workers ≡ job.now.workers }
     ensures budget { result.budget ≡ job.now.budget }
@@ -45,7 +45,7 @@ fn terms_for(job: &Job) -> Terms
     }
 }
 
-// Begins the script of a replay. One that can't be begun is told by the Ask that needs it.
+// Begins the script of a replay. A script that can't be begun is reported to the fetch that needs it.
 fn begin_script<F: Files>(job: &Job, files: &mut F)
     requires { (F.shows files.old Part.Script).stage ≡ Fresh }
     ensures begun { IsTrue (has_script (request_of job.now))
@@ -74,7 +74,7 @@ pub struct JobSetup<'a> {
     pub setup: Setup,
 }
 
-/// Begins the script of a job, where it has one, and runs its setup.
+/// Begins the script of a job, if it has one, and runs its setup.
 pub fn run_job<R: Threads + Sync, F: Files, O: Sinks, L: Ledger>(
     host: &Host<'_, R>,
     on: JobSetup<'_>,

@@ -52,7 +52,7 @@ fn deployment_of(alloc: Global, text: &[u8], platform: &PlatformText) -> Result<
     }
 }
 
-/// The platform, with its routes.
+/// Loads the platform, with its routes.
 pub fn load_platform<F: Files>(
     alloc: Global,
     files: &mut F,
@@ -80,7 +80,7 @@ pub fn load_platform<F: Files>(
     }
 }
 
-/// The deployment, on this platform.
+/// Loads the deployment, on this platform.
 pub fn load_deployment<F: Files>(
     alloc: Global,
     files: &mut F,

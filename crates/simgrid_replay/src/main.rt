@@ -1,7 +1,7 @@
 //! SimGrid's S4U simulation kernel and trace replay, in whole numbers, as a program.
-//! One enters by `simgrid`, the whole call, over any files and streams: it reads the words, has what they ask for read
-//! or made, and runs it. `main` calls it over the real ones.
-//! It stands on `sg_words` for the job, `sg_platform`, `sg_zones` and `sg_churn` for what it is of, `sg_engine` for the
+//! One enters by `simgrid`, the whole call, over any files and streams: it reads the command line, reads or makes the
+//! input of the job, and runs it. `main` calls it over the real ones.
+//! It stands on `sg_words` for the job, `sg_platform`, `sg_zones` and `sg_churn` for its input, `sg_engine` for the
 //! run; and for its tests on `sg_job_cases`, `sg_job_tables` and `sg_change_tables`.
 #![tactic(auto)]
 
@@ -54,8 +54,8 @@ fn collected(alloc: Global, args: Args) -> Result<Vec<String>, AllocError>
     args.collect(alloc)
 }
 
-// All words of the command line in their order. Where one is no text they are refused as a whole,
-// like no words at all.
+// Returns all words of the command line in their order. If one isn't text, they are refused as a whole, like no words
+// at all.
 fn words_of(alloc: Global, args: io::Result<Args>) -> Result<Vec<String>, Memory>
     ensures whole { IfOk args (λ args. IfOk result (λ words. words.items ≡ into_iter_items args)) }
     ensures none { IfErr args (λ _. IfOk result (λ words. words.items ≡ [])) }
@@ -75,12 +75,12 @@ fn words_of(alloc: Global, args: io::Result<Args>) -> Result<Vec<String>, Memory
     }
 }
 
-// Whether each line is to go out as it comes: who feeds the script over standard input may wait for it.
+// Returns whether each line is written as it comes: whoever feeds the script over standard input may wait for it.
 fn is_live(words: &[String]) -> bool {
     words.iter().any(|word| word.as_str() == "-")
 }
 
-// The program over the real files and streams, with a counter of its own.
+// Runs the program over the real files and streams, with a counter of its own.
 fn start<R: Threads + Sync, L: Ledger>(
     rt: &R,
     host: HostRuntime,
@@ -111,7 +111,7 @@ fn start<R: Threads + Sync, L: Ledger>(
     last_code(told, out.finish())
 }
 
-// The program with the words of its command line, and contexts of both kinds in turn.
+// Runs the program with the words of its command line, and contexts of both kinds in turn.
 fn program<R: Threads + Sync>(rt: &R, host: HostRuntime) -> Result<ExitCode, Memory>
     ensures { IfOk result (λ code. IsExit (exit_status code)) }
 {
@@ -130,7 +130,7 @@ fn program<R: Threads + Sync>(rt: &R, host: HostRuntime) -> Result<ExitCode, Mem
     Ok(start::<R, Brand>(rt, host, &words, out, &mut crew, Blank::new(1)))
 }
 
-// What the system is told at the end: want of memory too, before there was a call.
+// Returns the exit code at the end, even if memory ran out before there was a call.
 fn told(ended: Result<ExitCode, Memory>) -> ExitCode
     ensures ended { IfOk ended (λ code. exit_status result ≡ exit_status code) }
     ensures memory { IfErr ended (λ _. exit_status result ≡ status_code Status.Memory) }
@@ -141,7 +141,7 @@ fn told(ended: Result<ExitCode, Memory>) -> ExitCode
     }
 }
 
-// The whole program: `main` can have no contract.
+// Runs the whole program: `main` can have no contract.
 fn whole<R: Threads + Sync>(rt: &R, host: HostRuntime) -> ExitCode
     ensures { IsExit (exit_status result) }
 {

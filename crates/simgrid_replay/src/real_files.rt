@@ -19,7 +19,7 @@ enum Origin {
     Input,
 }
 
-// Whether a part of this name is standard input: the script alone may be.
+// Returns whether a part of this name is standard input: the script alone may be.
 fn is_input(part: Part, name: &str) -> bool
     ensures { result ≡ is_input_spec part name.now }
 {
@@ -32,7 +32,7 @@ fn is_input(part: Part, name: &str) -> bool
 impl Origin {
     ghost use Rattle.simgrid_replay.specs.kept.RealFiles.{comes_from_input, is_input};
 
-    // What a part of this name is read from.
+    // Opens what a part of this name is read from.
     fn open(rt: &HostRuntime, part: Part, name: &str) -> Result<Origin, Failed>
         ensures { IfOk result (λ origin. comes_from_input origin ≡ is_input part name.now) }
     {
@@ -57,7 +57,7 @@ fn read_from<R: Read>(from: &mut R, buf: &mut [u8]) -> Result<usize, Failed>
     }
 }
 
-// The stage of a part after a read.
+// Returns the stage of a part after a read.
 fn stage_after(got: Result<usize, Failed>) -> Stage
     ensures read { IfOk got (λ n. result ≡ (if n == 0 then Over else Begun)) }
     ensures failed { OnErr got (result ≡ Broken) }
@@ -136,7 +136,7 @@ pub struct RealFiles {
 impl RealFiles {
     ghost use Rattle.simgrid_replay.specs.kept.RealFiles.{real_files};
 
-    /// Three parts that nobody has opened.
+    /// Makes three parts that aren't opened yet.
     pub fn new(rt: HostRuntime) -> RealFiles
         ensures { (part : Part) → (real_files result part).stage ≡ Fresh }
     {

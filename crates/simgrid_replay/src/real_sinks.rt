@@ -1,4 +1,5 @@
-//! The real outputs: calls are passed on to std, in front of which lines wait, and no contract can say what they hold.
+//! The real outputs: calls are passed on to std, lines wait in a buffer before it, and no contract can say what they
+//! hold.
 ghost use Rattle.std.specs.Prelude.{◌≡◌, ◌<◌, ◌≤◌, length, IfOk, IsErr, IsTrue, None};
 ghost use Rattle.std.specs.Io.KnownBytes.{WriteAppends};
 ghost use Rattle.sg_edge.specs.Sinks.{one_if};
@@ -7,7 +8,7 @@ use sg_base::Memory;
 use sg_edge::{Failed, Sinks, Stream};
 use std::io::{BufWriter, IsTerminal, Stdout, Write};
 
-/// The bytes of the buffer in front of standard output.
+/// The bytes of the buffer for standard output.
 const ROOM: usize = 8192;
 
 // Passes a piece on to a writer, which takes a byte or fails.
@@ -32,12 +33,12 @@ pub struct RealSinks {
 }
 
 impl RealSinks {
-    /// Two streams on which no write has failed. With `at_once`, or where standard output is a terminal, each write goes
-    /// out as it comes, since a buffer without room keeps nothing.
+    /// Makes two streams on which no write has failed. With `at_once`, or if standard output is a terminal, each write
+    /// goes out as it comes, since a buffer without room keeps nothing.
     ///
     /// # Errors
     ///
-    /// No memory for the buffer.
+    /// Out of memory for the buffer.
     pub fn new(rt: HostRuntime, at_once: bool) -> Result<RealSinks, Memory>
         ensures { IfOk result (λ sinks. one_if sinks.broken ≡ 0) }
     {
@@ -69,7 +70,7 @@ impl RealSinks {
         }
     }
 
-    /// Writes what waits. Where a write has failed before, nothing more is written.
+    /// Writes what waits. If a write has failed before, nothing more is written.
     ///
     /// # Errors
     ///

@@ -1,4 +1,4 @@
-//! Why a platform or a deployment isn't there, and the lines that tell it.
+//! Why a platform or a deployment isn't there, and the lines that report it.
 ghost use Rattle.std.specs.Prelude.{◌≡◌, IfOk, codes, option_map, string_bytes};
 ghost use Rattle.sg_zones.specs.FaultWords.{zone_words, zone_place};
 ghost use Rattle.simgrid_replay.specs.RefusalLines.{fault_words as fault_words_spec, refusal_line as refusal_line_spec, replay_line as replay_line_spec, contexts_line as contexts_line_spec};
@@ -49,7 +49,7 @@ fn refusal_line(
     }
 }
 
-/// What is wrong with a text, in words.
+/// Returns what is wrong with a text, in words.
 fn fault_words(fault: Option<Fault>) -> &'static str
     ensures { result.now ≡ fault_words_spec fault }
 {
@@ -68,7 +68,7 @@ fn place_of(fault: Option<Fault>) -> Option<Place>
     }
 }
 
-/// The line that tells a platform's fault, with its newline.
+/// Returns the line that reports a platform's fault, with its newline.
 pub fn platform_line(alloc: Global, fault: Option<Fault>) -> Result<String, Memory>
     ensures { IfOk result (λ line. string_bytes line ≡ refusal_line_spec (codes "platform")
         (fault_words_spec fault) (option_map (λ rule. rule.place) fault)) }
@@ -76,7 +76,7 @@ pub fn platform_line(alloc: Global, fault: Option<Fault>) -> Result<String, Memo
     refusal_line(alloc, "platform", fault_words(fault), place_of(fault))
 }
 
-/// The line that tells a fault of a platform's zones, with its newline.
+/// Returns the line that reports a fault of a platform's zones, with its newline.
 pub fn zone_line(alloc: Global, fault: &ZoneFault) -> Result<String, Memory>
     ensures { IfOk result (λ line. string_bytes line ≡ refusal_line_spec (codes "platform")
         (zone_words fault.now) (zone_place fault.now)) }
@@ -84,7 +84,7 @@ pub fn zone_line(alloc: Global, fault: &ZoneFault) -> Result<String, Memory>
     refusal_line(alloc, "platform", fault.words(), fault.place())
 }
 
-/// The line that tells a deployment's fault, with its newline.
+/// Returns the line that reports a deployment's fault, with its newline.
 pub fn deployment_line(alloc: Global, fault: Option<Fault>) -> Result<String, Memory>
     ensures { IfOk result (λ line. string_bytes line ≡ refusal_line_spec (codes "deployment")
         (fault_words_spec fault) (option_map (λ rule. rule.place) fault)) }
@@ -92,7 +92,7 @@ pub fn deployment_line(alloc: Global, fault: Option<Fault>) -> Result<String, Me
     refusal_line(alloc, "deployment", fault_words(fault), place_of(fault))
 }
 
-/// The line that tells of an actor that replays where there is no script, with its newline.
+/// Returns the line that reports an actor that replays without a script, with its newline.
 pub fn replay_line(alloc: Global, row: u32) -> Result<String, Memory>
     ensures { IfOk result (λ line. string_bytes line ≡ replay_line_spec row) }
 {
@@ -102,7 +102,7 @@ pub fn replay_line(alloc: Global, row: u32) -> Result<String, Memory>
     }
 }
 
-/// The line that tells that there are too few contexts, with its newline.
+/// Returns the line that reports that there are too few contexts, with its newline.
 pub fn contexts_line(alloc: Global, actors: usize, contexts: usize) -> Result<String, Memory>
     ensures { IfOk result (λ line. string_bytes line ≡ contexts_line_spec actors contexts) }
 {

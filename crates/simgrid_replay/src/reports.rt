@@ -4,7 +4,7 @@ ghost use Rattle.clap.specs.Words.{Kinds};
 ghost use Rattle.sg_words.specs.CommandLine.{Asked};
 ghost use Rattle.sg_words.specs.Views.{Answers};
 ghost use Rattle.simgrid_replay.specs.kept.Reading.{IsCallCause, IsOfPlatform, IsReadFault};
-ghost use Rattle.simgrid_replay.specs.Outcome.{one_text, refusal_outcome, status_of, is_cut, is_refusal, Prints};
+ghost use Rattle.simgrid_replay.specs.Outcome.{one_text, refusal_outcome, status_of, cuts_output_short, is_refusal, Prints};
 ghost use Rattle.simgrid_replay.specs.Outcome.{ReportsWords};
 
 use crate::refusal::{
@@ -18,13 +18,13 @@ use std::alloc::Global;
 
 // Writes a text, with which a call of this status ends.
 fn say<O: Sinks>(to: Stream, text: &str, status: Status, out: &mut O) -> Status
-    requires status { is_cut status ≡ false }
+    requires status { cuts_output_short status ≡ false }
     requires sound { O.faults out.old ≡ 0 }
     ensures prints { Prints (one_text to text.now status) result
         (O.contents out.old) (O.contents out.new) }
     ensures cause { IsCallCause result (O.faults out.old) (O.faults out.new)
         (status ≡ Status.ReadFault) }
-    ensures status { (result ≡ status) ⊎ IsTrue (is_cut result) }
+    ensures status { (result ≡ status) ⊎ IsTrue (cuts_output_short result) }
 {
     match write_all(out, to, text.as_bytes()) {
         Ok(()) => status,
@@ -34,14 +34,14 @@ fn say<O: Sinks>(to: Stream, text: &str, status: Status, out: &mut O) -> Status
 
 // Writes a line on Err that took memory.
 fn say_made<O: Sinks>(line: Result<String, Memory>, status: Status, out: &mut O) -> Status
-    requires status { is_cut status ≡ false }
+    requires status { cuts_output_short status ≡ false }
     requires sound { O.faults out.old ≡ 0 }
     ensures prints { (want : List ℕ) → IfOk line (λ text. string_bytes text ≡ want)
         → Prints (one_text Stream.Err want status) result
         (O.contents out.old) (O.contents out.new) }
     ensures cause { IsCallCause result (O.faults out.old) (O.faults out.new)
         (status ≡ Status.ReadFault) }
-    ensures status { (result ≡ status) ⊎ IsTrue (is_cut result) }
+    ensures status { (result ≡ status) ⊎ IsTrue (cuts_output_short result) }
 {
     match line {
         Ok(line) => say(Stream::Err, line.as_str(), status, out),
@@ -49,7 +49,7 @@ fn say_made<O: Sinks>(line: Result<String, Memory>, status: Status, out: &mut O)
     }
 }
 
-/// Tells words that ask for no run: help and the version on Out, any other text on Err.
+/// Prints the text for words that ask for no run: help and the version on Out, any other text on Err.
 pub fn report_words<O: Sinks>(fault: WordsFault, out: &mut O) -> Status
     requires { O.faults out.old ≡ 0 }
     ensures tells { (kinds : Kinds) (asked : Option Asked) → Answers kinds asked (Err fault)
@@ -113,7 +113,7 @@ pub fn refuse<O: Sinks>(alloc: Global, refusal: Refusal, out: &mut O) -> Status
     }
 }
 
-/// The status of a run that ended so.
+/// Returns the status of a run that ended so.
 pub fn status(ended: Ended) -> Status
     ensures is { result ≡ status_of ended }
     ensures unrefused { is_refusal result ≡ false }

@@ -34,7 +34,7 @@ impl Model for RoutedPlatform {
 }
 
 impl RoutedPlatform {
-    /// The platform, where its zones have no fault.
+    /// Makes the platform, if its zones have no fault.
     #[tactic(auto, using(crate::proofs::ZoneLemmas::zones_are, crate::proofs::ZoneLemmas::no_zone_fault))]
     pub fn new(alloc: Global, platform: PlatformText) -> Result<RoutedPlatform, Refusal>
         ensures { result ≢ Err Refusal.Memory
@@ -51,14 +51,14 @@ impl RoutedPlatform {
         }
     }
 
-    /// The platform alone.
+    /// Returns the platform alone.
     pub fn platform(&self) -> &PlatformText
         ensures { result.now ≡ self.now }
     {
         &self.platform
     }
 
-    /// What a run of this deployment is of, with a script or without.
+    /// Returns what a run of this deployment is of, with a script or without.
     pub fn with(self, deployment: Deployment, script: bool) -> Setup
         requires { IsDeployedOn self deployment }
         ensures platform { result.platform ≡ self }

@@ -90,7 +90,7 @@ fn read_setup<F: Files>(
     }
 }
 
-/// What a job runs, with so many contexts for its actors. The script isn't begun yet.
+/// Returns what a job runs, with so many contexts for its actors. The script isn't begun yet.
 pub fn prepare<F: Files>(
     alloc: Global,
     files: &mut F,

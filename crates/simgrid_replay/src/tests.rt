@@ -23,7 +23,7 @@ use std::sync::ledger::{Blank, Ledger};
 use std::test::Fail;
 use std::thread::Threads;
 
-// A blank context of the kind that a case has at this place.
+// Makes a blank context of the kind that a case has at this place.
 fn context(alloc: Global, case: &Case, place: u32) -> Result<Box<dyn Actor + Send>, Memory> {
     match case.kinds.at(place) {
         Kind::Plain => Ok(Box::new(alloc, PlainContext::new(alloc))?),
@@ -32,7 +32,7 @@ fn context(alloc: Global, case: &Case, place: u32) -> Result<Box<dyn Actor + Sen
     }
 }
 
-// The crew, all of whom are found to be blank.
+// Returns the context pool if all its contexts are blank.
 fn blank_crew(crew: Vec<Box<dyn Actor + Send>>) -> Result<Vec<Box<dyn Actor + Send>>, Memory>
     ensures { IfOk result (λ crew. All (λ b. mind b ≡ None) crew.items) }
 {
@@ -43,7 +43,7 @@ fn blank_crew(crew: Vec<Box<dyn Actor + Send>>) -> Result<Vec<Box<dyn Actor + Se
     }
 }
 
-// The crew of a case.
+// Makes the context pool of a case.
 fn crew_of(alloc: Global, case: &Case) -> Result<Vec<Box<dyn Actor + Send>>, Memory>
     ensures { IfOk result (λ crew. All (λ b. mind b ≡ None) crew.items) }
 {
@@ -54,7 +54,7 @@ fn crew_of(alloc: Global, case: &Case) -> Result<Vec<Box<dyn Actor + Send>>, Mem
     blank_crew(crew)
 }
 
-// The exit status of a job, which counts its own looks.
+// Returns the exit status of a job, which counts its own visits.
 fn code_of<R: Threads + Sync, F: Files, O: Sinks, L: Ledger>(
     host: &Host<'_, R>,
     words: &[String],
@@ -74,7 +74,7 @@ fn code_of<R: Threads + Sync, F: Files, O: Sinks, L: Ledger>(
     simgrid(host.rt, host.alloc, words, files, out, crew, &mut steps).code()
 }
 
-// Does the job of a case with this crew.
+// Does the job of a case with these contexts.
 fn done_by<R: Threads + Sync>(
     rt: &R,
     alloc: Global,
@@ -103,7 +103,7 @@ fn done<R: Threads + Sync>(rt: &R, alloc: Global, case: &Case) -> Result<Done, F
     done_by(rt, alloc, case, &mut crew)
 }
 
-// The exit status of the job of a case over parts and streams that never fail.
+// Returns the exit status of the job of a case over parts and streams that never fail.
 fn over_sure_parts<R: Threads + Sync>(rt: &R, alloc: Global, case: &Case) -> Result<u8, Memory> {
     let words = case.command_line(alloc)?;
     let mut files = SureFiles::new(alloc, &case.platform, &case.deployment, &case.script)?;
@@ -208,7 +208,7 @@ impl Actor for Numbered {
     }
 }
 
-// A crew of contexts with the numbers 1, 10, 100 and 1,000.
+// Makes contexts with the numbers 1, 10, 100 and 1,000.
 fn numbered_crew(alloc: Global, sum: &Arc<AtomicU64>) -> Result<Vec<Box<dyn Actor + Send>>, Fail> {
     let mut crew: Vec<Box<dyn Actor + Send>> = Vec::new(alloc);
     for number in [1, 10, 100, 1000] {
@@ -219,7 +219,7 @@ fn numbered_crew(alloc: Global, sum: &Arc<AtomicU64>) -> Result<Vec<Box<dyn Acto
     Ok(crew)
 }
 
-// A job in which two actors begin, and one of them creates a third.
+// Makes a job in which two actors begin, and one of them creates a third.
 fn creating_job(alloc: Global) -> Result<Case, Fail> {
     let mut case = Case::new(alloc)?;
     case.take(alloc, "job", "p replay p d s")?;
@@ -228,7 +228,7 @@ fn creating_job(alloc: Global) -> Result<Case, Fail> {
     Ok(case)
 }
 
-// The exit status of that job by numbered contexts, and how many of them are left.
+// Returns the exit status of that job by numbered contexts, and how many of them are left.
 fn numbered_run<R: Threads + Sync>(
     rt: &R,
     alloc: Global,

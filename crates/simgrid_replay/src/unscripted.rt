@@ -1,4 +1,4 @@
-//! A run of the engine without a script over an actor that replays: the program refuses one, and no job comes to it.
+//! A run of the engine without a script over an actor that replays: the program refuses one, and no job leads to it.
 ghost use Rattle.std.specs.Prelude.{◌≡◌, ◌≢◌, ◌<◌, ◌≤◌, IfOk, IsTrue};
 ghost use Rattle.sg_edge.specs.declared.files.Stage.TheVariants.{Fresh};
 ghost use Rattle.sg_route.specs.Roads.{roads_of};
@@ -25,7 +25,7 @@ host = [{id = 'h1', zone = 'z', speed = '1Gf'}]
 
 const DEPLOYMENT: &[u8] = b"actor = [{name = 'p0', host = 'h1', function = 'replay'}]";
 
-// The routes of a platform.
+// Returns the routes of a platform.
 fn router(alloc: Global, platform: &PlatformText) -> Result<Router, Memory>
     ensures { IfOk result (λ router. router ≡ roads_of platform.now) }
 {
@@ -35,7 +35,7 @@ fn router(alloc: Global, platform: &PlatformText) -> Result<Router, Memory>
     }
 }
 
-// A setup of one actor and no script.
+// Makes a setup of one actor and no script.
 fn setup(alloc: Global) -> Result<Setup, Memory> {
     let platform = match read_platform(alloc, PLATFORM) {
         Ok(platform) => platform,
@@ -48,7 +48,7 @@ fn setup(alloc: Global) -> Result<Setup, Memory> {
     }
 }
 
-// Whether a crew of so many contexts has one for each actor.
+// Returns whether so many contexts are one for each actor.
 fn are_enough(deployment: &Deployment, contexts: usize) -> bool
     ensures { IsTrue result → started_number deployment.now ≤ contexts }
 {
@@ -58,7 +58,7 @@ fn are_enough(deployment: &Deployment, contexts: usize) -> bool
     true
 }
 
-// A run of five events that counts its own steps.
+// Makes a run of five events that counts its own steps.
 fn run_counted<R: Threads + Sync + Abort, F: Files, O: Sinks, L: Ledger>(
     rt: &R,
     alloc: Global,
@@ -91,7 +91,7 @@ fn run_counted<R: Threads + Sync + Abort, F: Files, O: Sinks, L: Ledger>(
     )
 }
 
-// A script part that was begun.
+// Makes a script part that was begun.
 fn begun(alloc: Global) -> Result<MemFiles, Fail>
     ensures { IfOk result (λ files. files.script.stage ≢ Fresh) }
 {
@@ -102,14 +102,14 @@ fn begun(alloc: Global) -> Result<MemFiles, Fail>
     }
 }
 
-// A crew of one context.
+// Makes a context pool of one context.
 fn crew_of_one(alloc: Global) -> Result<Vec<Box<dyn Actor + Send>>, Memory> {
     let mut crew: Vec<Box<dyn Actor + Send>> = Vec::new(alloc);
     crew.push(Box::new(alloc, PlainContext::new(alloc))?)?;
     Ok(crew)
 }
 
-// How a run of this setup by this crew ends, and what it writes.
+// Returns how a run of this setup with these contexts ends, and what it writes.
 fn ended_by<R: Threads + Sync + Abort>(
     rt: &R,
     alloc: Global,
@@ -130,7 +130,7 @@ fn ended_by<R: Threads + Sync + Abort>(
     Ok((ended, out))
 }
 
-// How the run ends, and what it writes.
+// Returns how the run ends, and what it writes.
 fn ended<R: Threads + Sync + Abort>(rt: &R, alloc: Global) -> Result<(Ended, MemSinks), Fail> {
     let mut setup = setup(alloc)?;
     let mut crew = crew_of_one(alloc)?;

@@ -61,11 +61,11 @@ fn do_job<R: Threads + Sync, F: Files, O: Sinks, L: Ledger>(
 
 /// Does what the words ask for: the whole program.
 ///
-/// `words` are the words of the command line, the program's name first. The platform, the deployment and the script
-/// are taken from `files` in this order, as far as the command has them, each only once the one before it was
-/// accepted; the script is read while the run goes on, and less than a piece of 4,096 bytes further than its Asks need.
-/// Each actor that begins takes the next context of the `crew`, and they take their turns on as many threads as the words
-/// say. Lines go to `out`, and `steps` counts the looks of the fillings, which are no more than the work of the run.
+/// `words` are the words of the command line, the program's name first. The platform, the deployment and the script are
+/// taken from `files` in this order, as far as the command has them, each only once the one before it was accepted; the
+/// script is read during the run, and less than a piece of 4,096 bytes further than its fetches need. Each actor that
+/// begins takes the next context of `crew`, the context pool, and they take their turns on as many threads as the words
+/// say. Lines are written to `out`, and `steps` counts the solver's visits, which are no more than the work of the run.
 pub fn simgrid<R: Threads + Sync, F: Files, O: Sinks, L: Ledger>(
     rt: &R,
     alloc: Global,
@@ -83,51 +83,51 @@ pub fn simgrid<R: Threads + Sync, F: Files, O: Sinks, L: Ledger>(
     ensures job { refusals (map string_bytes words.now) ≡ []
         → (job : Asked) × AskFor (map string_bytes words.now) job }
 
-    // What is written, and the status, are those of the definition for what the parts gave that
-    // were asked; a call that was cut off has written a front of it.
+    // The output and the status are those of the definition for what the input streams gave.
+    // A call that was cut off has written a prefix of it.
     ensures output { ForJob (map string_bytes words.now) (F.shows files.old) (F.shows files.new)
         (λ job p d s. Prints (outcome job (length crew.old.items) p d s) result
         (O.contents out.old) (O.contents out.new)) }
 
-    // The looks are no more than the work of the run; of the script less than a piece more is taken
-    // than its Asks need, and of the crew as many contexts as the definition takes.
+    // Visits are at most the work of the run. Of the script less than a piece more is taken than
+    // its fetches need, and of the context pool as many contexts as the definition takes.
     ensures takes { ForJob (map string_bytes words.now) (F.shows files.old) (F.shows files.new)
         (λ job p d s. TakesForJob (outcome job (length crew.old.items) p d s) result
         steps.old steps.new (F.shows files.old) (F.shows files.new)
         crew.old.items crew.new.items) }
 
-    // Each part was begun under its name of the words, none behind one that is refused or can't be
-    // read, and none that the job doesn't have.
+    // Each input stream was begun under its name of the words: none after one that is refused or
+    // can't be read, and none that the job doesn't have.
     ensures parts { (job : Asked) → AskFor (map string_bytes words.now) job
         → TakesParts F.shows job.request (length crew.old.items) files.old files.new }
 
-    // The actors of a run have taken the first contexts: each that begins with the run has one, and
-    // where there was no run nobody has.
+    // The actors of a run have taken the first contexts: each that begins with the run has one.
+    // If there was no run, no actor has one.
     ensures crew { (job : Asked) → AskFor (map string_bytes words.now) job
         → (p d : Source) → TextsGive job.request (F.shows files.old) (F.shows files.new) p d
         → TakesFirst (setting job.request (length crew.old.items) p d) result
         crew.old.items crew.new.items }
 
-    // Words that ask for no job are told why, and nothing else is done.
+    // For words that ask for no job the reason is printed, and nothing else is done.
     ensures refused { refusals (map string_bytes words.now) ≢ []
         → RefusesWords (refusals (map string_bytes words.now)) result
         (O.contents out.old) (O.contents out.new) files.old files.new
         crew.old.items crew.new.items steps.old steps.new }
 
-    // The status of refused words is given to no others. This and what follows holds also of
-    // parts that don't tell their bytes.
+    // The status of an invalid command line is given to no other. This and what follows holds even
+    // if the contents of the input streams aren't known.
     ensures words { result ≡ Status.Words → refusals (map string_bytes words.now) ≢ [] }
 
-    // Behind a platform or a deployment whose refusal the status tells nothing was done.
+    // If the status is that of a refused platform or deployment, nothing was done after it.
     ensures rest { SparesRest result (F.shows files.old) (F.shows files.new) }
 
-    // Where the status tells a refusal nobody has taken a context.
+    // If the status is that of a refusal, no actor has taken a context.
     ensures unseated { IsTrue (is_refusal result) → crew.new.items ≡ crew.old.items }
 
-    // Nor has anybody where the platform or the deployment couldn't be begun or read.
+    // Nor has any actor if the platform or the deployment couldn't be begun or read.
     ensures broken_text { IsTextBroken (F.shows files.new) → crew.new.items ≡ crew.old.items }
 
-    // Of the crew the first contexts were taken, if any.
+    // Of the context pool the first contexts were taken, if any.
     ensures front { TakesFront crew.old.items crew.new.items }
 
     // The causes of a failed write and of a failed read.

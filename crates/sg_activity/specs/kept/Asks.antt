@@ -1,8 +1,8 @@
--- What functions ask for, where more than one does, and what they do.
+-- What functions ask for, if more than one does, and what they do.
 use Rattle.std.specs.Prelude.{◌≡◌, ℕ, ◌<◌, ◌≤◌, ◌^◌, Option, List, length}
 use Rattle.sg_heap.specs.Agenda.{Key}
 use Rattle.sg_energy.specs.Meter.{Metered, meter_of}
-use Rattle.sg_activity.specs.declared.kept.Kept.{Kept}
+use Rattle.sg_activity.specs.declared.activity_state.Kept.{Kept}
 use Rattle.sg_lives.specs.declared.kinds.PhaseKind.{PhaseKind}
 use Rattle.sg_lives.specs.declared.kinds.PhaseKind.TheVariants as phase
 use Rattle.sg_lives.specs.declared.lives.Live.{Live}
@@ -20,7 +20,7 @@ pub record IsPhaseAt (kept : Kept) (key : ℕ) (live : Live) (what : PhaseKind) 
   pub kind : live.kind ≡ what
   pub there : IsLiveAt kept key live
 
--- the execution under the key is held, and there is room for its start
+-- the execution under the key is suspended, and there is room for its start
 pub record IsHeldAt (kept : Kept) (key : ℕ) (live : Live) : Type 0 where
   pub kind : live.kind ≡ phase.Kept
   pub there : IsLiveAt kept key live
@@ -36,8 +36,8 @@ pub record AreKnown (kept : Kept) (hits : List (Option Key)) : Type 0 where
   pub used : IsUsed kept kept.index
   pub hit : AreHit kept hits
 
--- ---- where an activity goes on
--- the activity is where something exists, and the index has that under its key
+-- ---- the place of an activity
+-- the place of the activity exists, and the index has it under the activity's key
 pub record IsPlacedAt (kept : Kept) (at : ℕ) (live : Live) : Type 0 where
   pub key : at < length kept.index.rows
   pub place : IsPlace (state_of kept).capacities (place_at (state_of kept) at live)
@@ -58,12 +58,12 @@ pub record IsSwitched (old new : Kept) (hits : List (Option Key)) (on : Switches
   pub hit : AreHit new hits
 
 -- ---- powers
--- the load of the host can be told
+-- the load of the host can be computed
 pub record CanTellOf (kept : Kept) (one : ℕ) : Type 0 where
   pub host : one < length kept.hosts.items
   pub tell : CanTell kept
 
--- the meters can be told the powers that hosts have now
+-- the meters can get the powers that hosts have now
 pub record CanMeter (kept : Kept) (meter : List Metered) : Type 0 where
   pub few : length kept.hosts.items < 2 ^ 32
   pub tell : CanTell kept

@@ -3,7 +3,7 @@ use Rattle.std.specs.Prelude.{◌≡◌, ℕ, ◌+◌, ◌≤◌, ◌||◌, ◌&
 use Rattle.std.specs.List.{list_any}
 use Rattle.sg_base.specs.MarkSet.{is_in}
 use Rattle.sg_lazy.specs.RunningFlow.{RunningFlow, is_same_bound, running_at}
-use Rattle.sg_activity.specs.declared.kept.Kept.{Kept}
+use Rattle.sg_activity.specs.declared.activity_state.Kept.{Kept}
 use Rattle.sg_lives.specs.declared.lives.Live.{Live}
 use Rattle.sg_activity.specs.Links.{Capacities, link_at}
 use Rattle.sg_activity.specs.Task.{Place, nowhere, on_host, over}
@@ -23,7 +23,7 @@ is_rebound_at capacities resources (over way) =
     list_any (λ link. (link_at capacities.links link).fatpipe
     && is_in (length capacities.hosts + link.0) resources) way.links
 
--- the flow under this bound, if there is one, and marked where it had another
+-- the flow under this bound, if there is one, and marked if it had another
 abbrev pub rebound_to : Option ℕ → RunningFlow → RunningFlow
 rebound_to None running = running
 rebound_to (Some bound) running = record running { flow = record running.flow { bound = Some bound }; marked = running.marked || not (is_same_bound running.flow.bound (Some bound)) }
@@ -33,7 +33,7 @@ abbrev pub rebound_by : Kept → ℕ → Live → Option RunningFlow → Option 
 rebound_by kept key live slot =
     option_map (rebound_to (asked_by (state_of kept) key live).bound) slot
 
--- Each activity is where something exists, which the index has, and what takes a share has a flow of its own.
+-- The place of each activity exists, and the index has it; what takes a share has a flow of its own.
 pub record HasFlows (kept : Kept) : Type 0 where
   pub places : (key : ℕ) (live : Live) → slot_at kept.lives.slots key ≡ Some live → IsPlace (state_of kept).capacities (place_at (state_of kept) key live)
   pub runs : (key : ℕ) (live : Live) → slot_at kept.lives.slots key ≡ Some live → IsTrue (takes_share live.kind) → IsSome (running_at kept.lazy.slots live.flow)
@@ -50,7 +50,7 @@ pub record Rebounds (old new : Kept) (keys : List ℕ) : Type 0 where
       running_at new.lazy.slots live.flow ≡ (if is_in key keys then rebound_by old key live (running_at old.lazy.slots live.flow) else running_at old.lazy.slots live.flow)
   pub back : (id : ℕ) → IsSome (running_at new.lazy.slots id) → IsSome (running_at old.lazy.slots id)
 
--- The capacities are these now, and nothing else changed but for what they mark.
+-- The capacities are these now, and nothing else changed except for what they mark.
 pub record Resets (old new : Kept) (capacities : Capacities) (resource : ℕ) : Type 0 where
   pub state : state_of new ≡ record (state_of old) { capacities = capacities; runs = new.lazy.slots; resources = new.lazy.resources; settled = false }
   pub told : under_of (state_of new) ≡ with_capacities capacities resource (under_of (state_of old))

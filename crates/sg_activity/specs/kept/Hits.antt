@@ -3,7 +3,7 @@ use Rattle.std.specs.Prelude.{◌≡◌, ℕ, ◌+◌, ◌<◌, ◌≤◌, ◌^�
 use Rattle.sg_base.specs.declared.ids.LinkId.{LinkId}
 use Rattle.sg_base.specs.MarkSet.{is_in}
 use Rattle.sg_heap.specs.Agenda.{Key, key_at}
-use Rattle.sg_activity.specs.declared.kept.Kept.{Kept}
+use Rattle.sg_activity.specs.declared.activity_state.Kept.{Kept}
 use Rattle.sg_lives.specs.declared.lives.Live.{Live}
 use Rattle.sg_activity.specs.Links.{Switches}
 use Rattle.sg_activity.specs.Task.{uses_off}
@@ -11,7 +11,7 @@ use Rattle.sg_lives.specs.Pool.{slot_at}
 use Rattle.sg_activity.specs.kept.State.{State, state_of, ways_of, links_at, place_of}
 use Rattle.sg_activity.specs.kept.Sound.{IsPlace, IsSound, place_at}
 
--- the serial of an activity, with no date, where it uses something that is off
+-- the id of an activity, with no date, if it uses something that is off
 abbrev pub hit_in : Switches → List LinkId → Option Live → Option Key
 hit_in on links None = None
 hit_in on links (Some live) =
@@ -19,7 +19,7 @@ hit_in on links (Some live) =
     then Some (record { date = 0; serial = live.serial })
     else None
 
--- the activity of this serial has begun under a key, and uses something that is off, or doesn't
+-- the activity of this id has begun under a key, and uses something that is off, or doesn't
 abbrev pub noted : Bool → ℕ → ℕ → List (Option Key) → List (Option Key)
 noted off key serial hits =
     if off then slice_set hits key (Some (record { date = 0; serial = serial })) else hits
@@ -43,7 +43,7 @@ AreOn s =
 abbrev pub AreSwitches : Kept → Type 0
 AreSwitches kept = AreOn (state_of kept)
 
--- each activity is where something exists
+-- the place of each activity exists
 abbrev pub ArePlaced : Kept → Type 0
 ArePlaced kept = (key : ℕ) (live : Live) → slot_at kept.lives.slots key ≡ Some live → IsPlace (state_of kept).capacities (place_at (state_of kept) key live)
 

@@ -1,7 +1,7 @@
 -- What the activities use.
 use Rattle.std.specs.Prelude.{◌≡◌, ℕ, ◌+◌, ◌*◌, ◌≤◌, Option, None, Some, List, [], ◌∷◌, length, map}
 use Rattle.sg_base.specs.declared.ids.LinkId.{LinkId}
-use Rattle.sg_activity.specs.declared.kept.Kept.{Kept}
+use Rattle.sg_activity.specs.declared.activity_state.Kept.{Kept}
 use Rattle.sg_lives.specs.declared.lives.Live.{Live}
 use Rattle.sg_activity.specs.Links.{Capacities}
 use Rattle.sg_activity.specs.Task.{Place, nowhere, on_host, over}
@@ -9,7 +9,7 @@ use Rattle.sg_lives.specs.Pool.{slot_at}
 use Rattle.sg_activity.specs.kept.Rows.{Indexed, row_at}
 use Rattle.sg_activity.specs.kept.State.{links_at, place_of, ways_of}
 
--- What an activity uses that goes on there: its host, or all links of its way and the hosts at its ends. In front of the links stand so many hosts, and behind so many links the hosts again, as ends.
+-- What an activity with this place uses: its host, or all links of its route and the hosts at its ends. Before the links come so many hosts, and after so many links the hosts again, as ends.
 abbrev pub used_at : ℕ → ℕ → Place → List ℕ
 used_at hosts links nowhere = []
 used_at hosts links (on_host host) = host ∷ []

@@ -2,7 +2,7 @@
 use Rattle.std.specs.Prelude.{◌≡◌, ℕ, ◌+◌, ◌<◌, ◌≤◌, ◌^◌, false, Option, None, Some, if◌then◌else◌, List, [], ◌∷◌, IsTrue, filter_map, length, map, replicate, sum_by, unwrap_or}
 use Rattle.sg_base.specs.MarkSet.{MarkSet, is_in, with_mark}
 use Rattle.sg_energy.specs.Meter.{Metered, energy_at, first_meter, meter_of}
-use Rattle.sg_activity.specs.declared.kept.Kept.{Kept}
+use Rattle.sg_activity.specs.declared.activity_state.Kept.{Kept}
 use Rattle.sg_lives.specs.declared.lives.Live.{Live}
 use Rattle.sg_activity.specs.Doing.{Doing}
 use Rattle.sg_lives.specs.Kinds.{is_exec, takes_share}

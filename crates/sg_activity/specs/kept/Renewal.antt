@@ -61,7 +61,7 @@ pub record IsSmall (live : Live) : Type 0 where
 abbrev pub AreSmall : List (Option Live) → Type 0
 AreSmall slots = (key : ℕ) (live : Live) → slot_at slots key ≡ Some live → IsSmall live
 
--- the date of the activity under a key, if there is one, and it is ever due
+-- the date of the activity under a key, if there is one, and its phase ever completes
 abbrev pub date_in : Option Live → Option Key
 date_in None = None
 date_in (Some live) = date_of live

@@ -6,7 +6,7 @@ use Rattle.sg_chains.specs.Chain.{IsChain, resources}
 use Rattle.sg_chains.specs.Chained.{Chained, times, users_on}
 use Rattle.sg_activity.specs.declared.index.Uses.{Uses}
 
--- By key what is used, the use under each number or nothing, the keys of those that use each thing, and room for so many uses more.
+-- By key what is used, the use under each number or nothing, the keys of those that use each thing, and room for so many more uses.
 pub record Indexed : Type 0 where
   pub rows : List (List ℕ)
   pub uses : List (Option Use)
@@ -29,7 +29,7 @@ pub record IsEntered (old new : Indexed) (key : ℕ) (things : List ℕ) : Type 
   pub users : length new.users ≡ length old.users
   pub room : new.room + length things ≡ old.room + length (row_at old.rows key)
 
--- nothing but the room changes, and that doesn't shrink
+-- only the room changes, and that doesn't shrink
 pub record IsWider (old new : Indexed) : Type 0 where
   pub rows : (key : ℕ) → row_at new.rows key ≡ row_at old.rows key
   pub longer : length old.rows ≤ length new.rows
@@ -50,12 +50,12 @@ pub record IsIndex (rows : List Uses) (chains : Chained) : Type 0 where
   pub chained : (key : ℕ) → IsChain key (uses_at rows key).count chains.uses (uses_at rows key).first
   pub both : (key thing : ℕ) → times key (users_on chains.users thing) ≡ times thing (things_of chains.uses (uses_at rows key))
 
--- ---- ways
--- the link that a thing is, where so many hosts stand in front of the links
+-- ---- routes
+-- the link that a thing is, if so many hosts come before the links
 abbrev pub link_of : ℕ → ℕ → LinkId
 link_of hosts thing = record { 0 = thing - hosts }
 
--- the links of a way: what is used behind its two ends
+-- the links of a route: what is used after its two ends
 abbrev pub way_in : ℕ → List ℕ → List LinkId
 way_in hosts things = map (link_of hosts) (drop 2 things)
 

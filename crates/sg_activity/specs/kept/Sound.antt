@@ -1,4 +1,4 @@
--- What `Activities` keeps is of one mind.
+-- What `Activities` keeps is consistent.
 use Rattle.std.specs.Prelude.{◌≡◌, ◌≢◌, ℕ, ◌+◌, ◌*◌, ◌^◌, ◌<◌, ◌≤◌, ◌||◌, Bool, false, Option, None, Some, IfSome, List, [], length, slice_index, sum_by, All, AllPairs, IsTrue}
 use Rattle.sg_base.specs.declared.ids.LinkId.{LinkId}
 use Rattle.sg_base.specs.Limits.{IsPriority}
@@ -7,7 +7,7 @@ use Rattle.sg_heap.specs.Agenda.{key_at}
 use Rattle.sg_maxmin.specs.Fill.{share_of}
 use Rattle.sg_maxmin.specs.Sharing.{HasLimit}
 use Rattle.sg_lazy.specs.RunningFlow.{RunningFlow, running_at, flows_in}
-use Rattle.sg_activity.specs.declared.kept.Kept.{Kept}
+use Rattle.sg_activity.specs.declared.activity_state.Kept.{Kept}
 use Rattle.sg_lives.specs.declared.kinds.PhaseKind.TheVariants as phase
 use Rattle.sg_lives.specs.declared.lives.Live.{Live}
 use Rattle.sg_activity.specs.Links.{Capacities, capacities_of}
@@ -24,23 +24,23 @@ pub record IsWay (capacities : Capacities) (way : List LinkId) : Type 0 where
   pub few : length way ≤ 64
   pub small : length capacities.links ≤ 2 ^ 32
 
--- the links of a way exist, and the hosts at its ends
+-- the links of a route exist, and the hosts at its ends
 pub record IsPath (capacities : Capacities) (way : Way) : Type 0 where
   pub links : IsWay capacities way.links
   pub sender : way.sender < length capacities.hosts
   pub receiver : way.receiver < length capacities.hosts
 
--- the host exists, or the way does
+-- the host exists, or the route does
 abbrev pub IsPlace : Capacities → Place → Type 0
 IsPlace capacities nowhere = Unit {0}
 IsPlace capacities (on_host host) = host < length capacities.hosts
 IsPlace capacities (over way) = IsPath capacities way
 
--- where the activity under a key goes on
+-- the place of the activity under a key
 abbrev pub place_at : State → ℕ → Live → Place
 place_at s key live = place_of live.kind live.host live.peer (links_at s.ways key)
 
--- the flow of an activity as it runs, which is marked where it began, or otherwise
+-- the flow of an activity as it runs, which is marked if it began, or otherwise
 abbrev pub run_of : State → ℕ → Live → Bool → RunningFlow
 run_of s key live marked = record {
   flow = asked_by s key live;
@@ -72,7 +72,7 @@ pub record IsHeld (s : State) (key : ℕ) (live : Live) : Type 0 where
   pub flow : IsTrue (takes_share live.kind) → HasFlow s key live
   pub dated : key_at s.keys key ≡ dated s.fresh key live
 
--- each serial is that of one activity
+-- each activity id is that of one activity
 abbrev pub AreApart : List (Option Live) → Type 0
 AreApart slots =
     (i j : ℕ) (one other : Live) → slot_at slots i ≡ Some one → slot_at slots j ≡ Some other → one.serial ≡ other.serial → i ≡ j
@@ -104,7 +104,7 @@ abbrev pub slot_uses : Option Live → ℕ
 slot_uses None = 0
 slot_uses (Some live) = uses_ahead live.kind live.links
 
--- There is room for the starts that were asked for, whose ways may have 64 links, and for the flows that follow latencies, over the links of theirs.
+-- There is room for the starts that were asked for, whose routes may have 64 links, and for the flows that follow latencies, over their links.
 pub record HasRoom (kept : Kept) : Type 0 where
   pub capacities : kept.lazy.capacities ≡ capacities_of (state_of kept).capacities
   pub few : kept.drawn ≤ 10 ^ 9

@@ -5,7 +5,7 @@ use Rattle.sg_base.specs.MarkSet.{is_in}
 use Rattle.sg_heap.specs.Agenda.{Key, key_at}
 use Rattle.sg_maxmin.specs.Fill.{Flow}
 use Rattle.sg_lazy.specs.RunningFlow.{RunningFlow, running_at}
-use Rattle.sg_activity.specs.declared.kept.Kept.{Kept}
+use Rattle.sg_activity.specs.declared.activity_state.Kept.{Kept}
 use Rattle.sg_lives.specs.declared.kinds.PhaseKind.{PhaseKind}
 use Rattle.sg_lives.specs.declared.kinds.PhaseKind.TheVariants as phase
 use Rattle.sg_lives.specs.declared.lives.Live.{Live}
@@ -20,7 +20,8 @@ use Rattle.sg_activity.specs.kept.Stamps.{left_at, due_of}
 use Rattle.sg_lives.specs.Pool.{slot_at}
 use Rattle.sg_activity.specs.kept.Rows.{row_at, way_in}
 
--- What is kept: by key the activities, the links of their ways and their dates; by number the flows, and the keys of these; the keys under which phases began since the rates were brought up to date, the flows that ended since, and the resources whose capacity changed since; and whether those whose date is now are due.
+-- The kept state: by key the activities, the links of their routes and their dates; by number the flows, and their keys; the keys under which phases began since the rates were brought up to date, the flows that ended since, and the resources whose capacity changed since; and whether those whose date is now
+-- complete.
 pub record State : Type 0 where
   pub capacities : Capacities
   pub on : Switches
@@ -37,7 +38,7 @@ pub record State : Type 0 where
   pub settled : Bool
   pub arrived : Bool
 
--- by key the links of the way of each communication
+-- by key the links of the route of each communication
 abbrev pub ways_of : Kept → ℕ → List LinkId
 ways_of kept = λ key. way_in (length kept.hosts.items) (row_at kept.index.rows key)
 
@@ -60,11 +61,11 @@ state_of kept = record {
 }
 
 -- ---- by key
--- the links of the way under a key
+-- the links of the route under a key
 abbrev pub links_at : (ℕ → List LinkId) → ℕ → List LinkId
 links_at ways key = ways key
 
--- where a phase goes on: an execution on its host, a latency and a flow over these links from the host to its peer
+-- the place of a phase: an execution on its host, a latency and a flow on these links from the host to its peer
 abbrev pub place_of : PhaseKind → ℕ → ℕ → List LinkId → Place
 place_of phase.Latency host peer links =
     over (record { links = links; sender = host; receiver = peer })
@@ -97,7 +98,7 @@ stamp_of key live = record { left = live.kept; date = live.stamp; rate = live.ra
 abbrev pub asked_by : State → ℕ → Live → Flow
 asked_by s key live = flow_of s.capacities (task_of s key live)
 
--- the date at which an activity is due; none: never
+-- the date at which an activity's phase completes; none: never
 abbrev pub due_at : Live → Option ℕ
 due_at live = wait_by live.kind (due_of live.stamp live.kept live.rate)
 
@@ -127,7 +128,7 @@ abbrev pub changed_at : List ℕ → List (Option RunningFlow) → ℕ → Live 
 changed_at fresh runs key live =
     is_in key fresh || (takes_share live.kind && is_marked (running_at runs live.flow))
 
--- the serial of the activity under a key
+-- the id of the activity under a key
 abbrev pub serial_in : Option Live → ℕ
 serial_in None = 0
 serial_in (Some live) = live.serial
@@ -135,25 +136,25 @@ serial_in (Some live) = live.serial
 abbrev pub serial_at : List (Option Live) → ℕ → ℕ
 serial_at slots key = serial_in (slot_at slots key)
 
--- ---- by serial
--- the key of the activity of a serial, where the first slot has this key
+-- ---- by activity id
+-- the key of the activity of an id, if the first slot has this key
 unfoldable pub key_from : ℕ → ℕ → List (Option Live) → Option ℕ
 key_from key serial [] = None
 key_from key serial (None ∷ rest) = key_from (suc key) serial rest
 key_from key serial (Some live ∷ rest) = if live.serial == serial then Some key else key_from (suc key) serial rest
 
--- what the function tells of the activity of a serial
+-- what the function gives for the activity of an id
 abbrev pub told_at : {Y : Type 0} → (ℕ → Live → Y) → List (Option Live) → ℕ → Option Y
 told_at tell slots serial = option_and_then (λ key. option_map (tell key) (slot_at slots key)) (key_from 0 serial slots)
 
--- and of those of all serials, from 1 on
+-- and for those of all ids, from 1 on
 abbrev pub told_by : {Y : Type 0} → (ℕ → Live → Y) → State → List (Option Y)
 told_by tell s = listed s.drawn (λ i. told_at tell s.slots (i + 1))
 
 abbrev pub is_so : Bool → Bool
 is_so b = b
 
--- whether the phase under way under each serial did
+-- whether the running phase under each activity id did
 abbrev pub changed_by : State → List Bool
 changed_by s = map (passes is_so) (told_by (changed_at s.fresh s.runs) s)
 

@@ -1,4 +1,4 @@
--- One activity makes way for another, or comes, or goes.
+-- One activity replaces another, or begins, or ends.
 use Rattle.std.specs.Prelude.{◌≡◌, ◌≢◌, ℕ, ◌<◌, ◌≤◌, false, Option, None, Some, length, slice_index, IsTrue}
 use Rattle.sg_base.specs.MarkSet.{is_in}
 use Rattle.sg_heap.specs.Agenda.{key_at}

@@ -1,9 +1,9 @@
--- All that `Activities` keeps is of one mind.
+-- All that `Activities` keeps is consistent.
 use Rattle.std.specs.Prelude.{◌≡◌, ℕ, Option, Some, List, All, IsTrue, length, replicate}
 use Rattle.sg_base.specs.MarkSet.{MarkSet}
 use Rattle.sg_heap.specs.Agenda.{Key}
 use Rattle.sg_energy.specs.Meter.{Metered}
-use Rattle.sg_activity.specs.declared.kept.Kept.{Kept}
+use Rattle.sg_activity.specs.declared.activity_state.Kept.{Kept}
 use Rattle.sg_lives.specs.declared.kinds.HostCap.{HostCap}
 use Rattle.sg_lives.specs.declared.kinds.LinkCap.{LinkCap}
 use Rattle.sg_lives.specs.declared.lives.Live.{Live}
@@ -29,20 +29,21 @@ pub record IsWhole (kept : Kept) (hits : List (Option Key)) (meters : List Meter
   pub hit : AreHit kept hits
   pub metered : IsMetered kept meters touched
 
--- The activity is under the key, and what is kept is of one mind, with the index.
+-- The activity is under the key, and what is kept is consistent, with the index.
 pub record IsLiveAt (kept : Kept) (key : ℕ) (live : Live) : Type 0 where
   pub at : slot_at kept.lives.slots key ≡ Some live
   pub sound : IsSound kept
   pub used : IsUsed kept kept.index
 
--- Hosts and links can go on and off: it is known what is, what the activities use, and which of them use what is off.
+-- Hosts and links can be turned on and off: it is known which are on, what activities use, and which use what is
+-- off.
 pub record CanSwitch (kept : Kept) (hits : List (Option Key)) : Type 0 where
   pub sound : IsSound kept
   pub used : IsUsed kept kept.index
   pub switches : AreSwitches kept
   pub hit : AreHit kept hits
 
--- The rates are up to date, and the index has what the activities use: so loads can be told.
+-- The rates are up to date, and the index has what the activities use: so loads can be computed.
 pub record CanTell (kept : Kept) : Type 0 where
   pub sound : IsSound kept
   pub hosts : All IsHost kept.hosts.items
@@ -50,7 +51,7 @@ pub record CanTell (kept : Kept) : Type 0 where
   pub switches : AreSwitches kept
   pub settled : IsTrue kept.settled
 
--- Nothing is under way on these hosts and links.
+-- No activity is running on these hosts and links.
 pub record AreIdle (kept : Kept) (hits : List (Option Key)) (hosts : List HostCap) (links : List LinkCap) : Type 0 where
   pub sound : IsSound kept
   pub are_hosts : All IsHost kept.hosts.items

@@ -9,7 +9,7 @@ use Rattle.sg_actor.specs.declared.churn.Phase.{Phase}
 use Rattle.sg_actor.specs.declared.churn.Phase.TheVariants as phase
 use Rattle.sg_actor.specs.declared.plain_context.Fields.{Fields}
 use Rattle.sg_actor.specs.declared.plain_context.Fields.TheVariants as fields
-use Rattle.sg_actor.specs.Roles.{number_of}
+use Rattle.sg_actor.specs.Roles.{actor_number}
 
 -- the kind, or ended
 abbrev pub kind_now : Bool → Kind → Kind
@@ -18,7 +18,7 @@ kind_now false kind = kind
 
 -- the numbers of a master
 abbrev pub master_numbers : ℕ → ℕ → ℕ → ℕ → List ActorId → List ℕ
-master_numbers tasks flops bytes next workers = tasks ∷ flops ∷ bytes ∷ next ∷ map number_of workers
+master_numbers tasks flops bytes next workers = tasks ∷ flops ∷ bytes ∷ next ∷ map actor_number workers
 
 -- the number of a phase
 abbrev pub phase_number : Phase → ℕ

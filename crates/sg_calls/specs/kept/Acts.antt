@@ -9,7 +9,7 @@ use Rattle.sg_mailbox.specs.Posts.{IsFound}
 use Rattle.sg_states.specs.Actors.{joined_by}
 use Rattle.sg_states.specs.Records.{IsTellable}
 use Rattle.sg_states.specs.States.{CanCall}
-use Rattle.sg_calls.specs.declared.fields.Fields.{Fields}
+use Rattle.sg_calls.specs.declared.simulation_state.Fields.{Fields}
 use Rattle.sg_calls.specs.declared.meetings.Comer.{Comer}
 use Rattle.sg_calls.specs.declared.stop.Stop.{Stop}
 use Rattle.sg_calls.specs.Known.{after_call}
@@ -30,7 +30,7 @@ pub record CanName (fields : Fields) (actor other : ℕ) : Type 0 where
   pub able : CanStep fields actor
   pub target : IsActor (core_of fields) other
 
--- a side can come by its call
+-- an endpoint can arrive by its call
 pub record CanCome (fields : Fields) (one : Comer) : Type 0 where
   pub able : CanStep fields one.side.actor.0
   pub comer : IsComer (extent (setup_in fields)) one
@@ -42,7 +42,7 @@ pub record CanMeet (fields : Fields) (one : Comer) (look : Found) (post : Serial
   pub found : IsFound fields.boxes one.mailbox one.sends look
   pub met : look.met ≡ Some post
 
--- the call of a side is counted, and it can take part in the communication of this serial
+-- the call of an endpoint is counted, and it can take part in the communication with this id
 pub record CanTakePart (fields : Fields) (one : Comer) (serial : ℕ) : Type 0 where
   pub able : CanCall fields.states one.side.actor.0
   pub comer : IsComer (extent (setup_in fields)) one
@@ -58,7 +58,7 @@ pub record CanServe (fields : Fields) (actor : ℕ) (call : Call) : Type 0 where
   pub object : joined_by call ≡ None
   pub steady : IsSteady fields
 
--- between calls, an activity of this serial was made
+-- between calls, an activity with this id was made
 pub record CanGiveUp (fields : Fields) (serial : ℕ) : Type 0 where
   pub from : 0 < serial
   pub to : serial ≤ length fields.whose.whose
@@ -98,7 +98,7 @@ pub record GivesUp (step : Core → Step) (old new : Fields) : Type 0 where
   pub many : length new.whose.whose ≡ length old.whose.whose
   pub whole : IsWhole new
 
--- as actors that waited go on
+-- as actors that waited are unblocked
 pub record Wakes (step : Core → Step) (old new : Fields) : Type 0 where
   pub known : StepsBy step old new
   pub frees : LeavesCallers old.states new.states

@@ -1,9 +1,9 @@
--- What is asked for where more than two facts go together, under one function each.
+-- What is asked for if more than two facts go together, under one function each.
 use Rattle.std.specs.Prelude.{ℕ, ◌<◌, IsTrue}
 use Rattle.sg_base.specs.declared.call.Call.{Call}
 use Rattle.sg_base.specs.Limits.{IsCall}
 use Rattle.sg_activity.specs.Underway.{is_computing}
-use Rattle.sg_calls.specs.declared.fields.Fields.{Fields}
+use Rattle.sg_calls.specs.declared.simulation_state.Fields.{Fields}
 use Rattle.sg_calls.specs.World.{extent, IsActor, MayCall}
 use Rattle.sg_calls.specs.kept.Sound.{core_of, setup_in}
 use Rattle.sg_calls.specs.kept.Whole.{IsWhole}
@@ -15,7 +15,7 @@ pub record CanAnswer (fields : Fields) (actor : ℕ) (what : Call) : Type 0 wher
   pub room : 0 < fields.states.room
   pub whole : IsWhole fields
 
--- the execution of this serial, which the actor began, can be held
+-- the execution with this id, which the actor began, can be suspended
 pub record CanHold (fields : Fields) (one serial : ℕ) : Type 0 where
   pub actor : IsActor (core_of fields) one
   pub from : 0 < serial

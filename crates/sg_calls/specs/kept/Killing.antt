@@ -12,6 +12,6 @@ killed_by actor target date states =
     if actor == target.0 then by_call actor Ended states
     else record (with_reply actor (call.Kill target) date 0 answer.Done date (with_state target.0 Ended states)) { room = states.room - 1 }
 
--- each is the serial of an activity, of which so many were made
+-- each is the id of an activity, of which so many were made
 abbrev pub AreSerials : ℕ → List ℕ → Type 0
 AreSerials made serials = All (λ serial. (0 < serial) × (serial ≤ made)) serials

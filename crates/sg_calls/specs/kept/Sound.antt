@@ -16,7 +16,7 @@ use Rattle.sg_states.specs.declared.state.State.{State}
 use Rattle.sg_states.specs.Actors.{blocking_in, is_held, joined_in}
 use Rattle.sg_states.specs.Records.{IsTellable}
 use Rattle.sg_sync.specs.Objects as sync
-use Rattle.sg_calls.specs.declared.fields.Fields.{Fields}
+use Rattle.sg_calls.specs.declared.simulation_state.Fields.{Fields}
 use Rattle.sg_calls.specs.declared.meetings.Comer.{Comer}
 use Rattle.sg_owners.specs.declared.owners.How.TheVariants as how
 use Rattle.sg_owners.specs.declared.owners.Whose.{Whose}
@@ -69,7 +69,7 @@ CountsBy change old new = known_of new ≡ record (known_of old) { core = change
 abbrev pub CallsBy : (Core → Step) → Fields → Fields → Type 0
 CallsBy step old new = known_of new ≡ after_call true (step (counted (core_of old))) (known_of old)
 
--- what a side that comes leads to
+-- what an arriving endpoint leads to
 abbrev pub comes_in : Roads → Comer → Fields → Step
 comes_in roads comer fields = comes roads (setup_in fields) comer (core_of fields)
 
@@ -124,7 +124,7 @@ pub record IsSide (extent : Extent) (side : Side) : Type 0 where
   pub message : IsMsg side.msg
   pub rate : IsRate side.rate
 
--- one that comes: a record may tell its call, and its side keeps to the limits
+-- an arriving endpoint: a record may name its call, and it keeps to the limits
 pub record IsComer (extent : Extent) (comer : Comer) : Type 0 where
   pub what : IsTellable extent comer.what
   pub side : IsSide extent comer.side
@@ -146,14 +146,14 @@ is_posted (Alone actor) = false
 is_posted (Posted mailbox sends side) = true
 is_posted (Pair sender receiver) = false
 
--- whether nothing of such an activity is under way
+-- whether no part of such an activity is running
 abbrev pub is_idle : Whose → Bool
 is_idle (Over before) = true
 is_idle (Alone actor) = false
 is_idle (Posted mailbox sends side) = true
 is_idle (Pair sender receiver) = false
 
--- an activity of this serial was made
+-- an activity with this id was made
 pub record IsMade (made : ℕ) (on : Await) : Type 0 where
   pub from : 0 < on.serial.0
   pub to : on.serial.0 ≤ made
@@ -163,7 +163,8 @@ abbrev pub AwaitsMade : ℕ → Option Blocking → Type 0
 AwaitsMade made None = Unit {0}
 AwaitsMade made (Some blocking) = IfSome blocking.on (IsMade made)
 
--- In the mailboxes stand those communications of which one side is there. Nothing of them is under way, nor of what is over, but of all else. Requests are for communications that were made, and actors are blocked on activities that were.
+-- The mailboxes hold the communications with one endpoint. Neither these nor ended activities run; all others do.
+-- Requests are for communications that were made, and actors are blocked on activities that were made.
 pub record AreMeeting (fields : Fields) : Type 0 where
   pub posts : (mailbox : BoxId) → waiters fields.boxes mailbox ≡ posts_from mailbox 1 fields.whose.whose
   pub idle : (place : ℕ) → IsTrue (is_idle (slice_index_or fields.whose.whose place (Over how.Done))) → slice_index_or fields.doing.under.tasks place None ≡ None
@@ -176,7 +177,7 @@ pub record AreMeeting (fields : Fields) : Type 0 where
 abbrev pub is_queued : State → Bool
 is_queued state = is_held state && not (is_some (joined_in state))
 
--- who waits at an object waits there once, and is an actor that is blocked so
+-- an actor that waits at an object waits there once, and is blocked so
 pub record AreHeld (fields : Fields) : Type 0 where
   pub owners : length fields.objects.owners ≡ fields.mutexes
   pub counts : length fields.objects.counts ≡ length fields.semaphores.items

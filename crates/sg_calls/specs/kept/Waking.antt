@@ -5,11 +5,12 @@ use Rattle.sg_base.specs.Limits.{IsActorNumber}
 use Rattle.sg_states.specs.States.{ActorStates, CanCall}
 use Rattle.sg_sync.specs.Queues.{times}
 use Rattle.sg_sync.specs.Objects as sync
-use Rattle.sg_calls.specs.declared.fields.Fields.{Fields}
+use Rattle.sg_calls.specs.declared.simulation_state.Fields.{Fields}
 use Rattle.sg_calls.specs.World.{extent, state_of}
 use Rattle.sg_calls.specs.kept.Sound.{core_of, is_queued, setup_in}
 
--- Who waits at an object, or is to go on now, does so once. Each of them is an actor that is blocked so, but for those that come to wait and aren't answered yet.
+-- Whoever waits at an object, or is to be unblocked now, does so once. Each of them is an actor that is blocked so,
+-- except those that come to wait and aren't answered yet.
 pub record AreWaking (fields : Fields) (comers others : List ActorId) : Type 0 where
   pub owners : length fields.objects.owners ≡ fields.mutexes
   pub counts : length fields.objects.counts ≡ length fields.semaphores.items
@@ -20,7 +21,7 @@ pub record AreWaking (fields : Fields) (comers others : List ActorId) : Type 0 w
   pub locking : length fields.objects.locking ≡ fields.mutexes
   pub acquiring : length fields.objects.acquiring ≡ length fields.semaphores.items
 
--- who may make a call still may
+-- an actor that may make a call still may
 pub record LeavesCallers (old new : ActorStates) : Type 0 where
   pub actors : length new.actors ≡ length old.actors
   pub callers : (actor : ℕ) → CanCall old actor → CanCall new actor

@@ -1,7 +1,7 @@
 -- All that holds of what is kept.
 use Rattle.std.specs.Prelude.{◌≡◌, ◌≢◌, ℕ, ◌<◌, ◌^◌, true, false}
 use Rattle.sg_states.specs.States.{CanCall}
-use Rattle.sg_calls.specs.declared.fields.Fields.{Fields}
+use Rattle.sg_calls.specs.declared.simulation_state.Fields.{Fields}
 use Rattle.sg_calls.specs.kept.Waking.{LeavesCallers}
 use Rattle.sg_calls.specs.kept.Sound.{IsSound, HasRoom, IsDated, IsTimely, AreLimited, AreMeeting, AreHeld}
 
@@ -25,7 +25,7 @@ pub record CanStep (fields : Fields) (actor : ℕ) : Type 0 where
   pub call : CanCall fields.states actor
   pub budget : fields.events ≢ fields.budget
 
--- while a call on an object is answered: all but who is held, which `AreWaking` tells
+-- while a call on an object is answered: all except who is blocked, which `AreWaking` gives
 pub record IsSteady (fields : Fields) : Type 0 where
   pub sound : IsSound fields
   pub roomy : HasRoom fields.states.room fields
@@ -35,7 +35,7 @@ pub record IsSteady (fields : Fields) : Type 0 where
   pub meeting : AreMeeting fields
   pub round : fields.states.passing ≡ false
 
--- while a pass answers: its date is not yet that of an event
+-- while a time advance answers: its date is not yet that of an event
 pub record IsPassing (fields : Fields) : Type 0 where
   pub sound : IsSound fields
   pub roomy : HasRoom fields.states.room fields

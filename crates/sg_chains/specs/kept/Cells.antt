@@ -6,7 +6,7 @@ use Rattle.slab.specs.Entry.{IsSound}
 use Rattle.sg_chains.specs.declared.cells.Cell.{Cell}
 use Rattle.sg_chains.specs.declared.slots.Slot.{Slot}
 
--- stands where there is no number, and is above all numbers
+-- stands for a missing number, and is above all numbers
 abbrev pub nothing : ℕ
 nothing = 4294967295
 
@@ -18,7 +18,7 @@ link_of code = if code == nothing then None else Some code
 abbrev pub IsSmall : Option ℕ → Type 0
 IsSmall link = IfSome link (λ i. i < nothing)
 
--- all numbers of a slot but that of its flow have a code
+-- all numbers of a slot except that of its flow have a code
 pub record AreSmall (slot : Slot) : Type 0 where
   pub resource : slot.resource < nothing
   pub next_of_flow : IsSmall slot.next_of_flow

@@ -14,12 +14,12 @@ abbrev pub flow_in : Option Slot → ℕ
 flow_in None = 0
 flow_in (Some slot) = slot.flow
 
--- a slot of this resource behind that one
+-- a slot of this resource after that one
 abbrev pub IsBehind : ℕ → Option ℕ → Option Slot → Type 0
 IsBehind resource prev None = ⊥
 IsBehind resource prev (Some slot) = (slot.resource ≡ resource) × (slot.prev_on ≡ prev)
 
--- these slots follow one another, from at on, the first behind prev
+-- these slots follow one another, from at on, the first after prev
 abbrev pub Linked : ℕ → List (Option Slot) → Option ℕ → List ℕ → Option ℕ → Type 0
 Linked resource slots prev [] at = at ≡ None
 Linked resource slots prev (i ∷ list) at = (at ≡ Some i) × IsBehind resource prev (slice_index_or slots i None) × Linked resource slots (Some i) list (next_of (slice_index_or slots i None))
@@ -63,7 +63,7 @@ pub record AreLists (slots : List (Option Slot)) (on : List (Option ℕ)) : Type
   pub lists : (resource : ℕ) → resource < length on → IsList slots on resource
   pub in_range : (i : ℕ) (slot : Slot) → slice_index_or slots i None ≡ Some slot → slot.resource < length on
 
--- and there is room for so many slots more, whose resources have a code
+-- and there is room for so many more slots, whose resources have a code
 pub record CanHold (n : ℕ) (slots : Slab Slot) (on : List (Option ℕ)) : Type 0 where
   pub lists : AreLists slots.slots on
   pub few : length on ≤ nothing
@@ -74,7 +74,7 @@ pub record KeepsRoom (old new : Slab Slot) : Type 0 where
   pub len : slab_len new ≡ slab_len old
   pub capacity : new.capacity ≡ old.capacity
 
--- so many slots more, and no other room
+-- so many more slots, and no other room
 pub record HoldsMore (n : ℕ) (fewer more : Slab Slot) : Type 0 where
   pub len : slab_len more ≡ slab_len fewer + n
   pub capacity : more.capacity ≡ fewer.capacity
@@ -90,7 +90,7 @@ uses_of slots = map (option_map use_of) slots
 abbrev pub flow_part : Use → Use
 flow_part one = record one { next_on = None }
 
--- a use of the resource by the flow, behind which its next one stands
+-- a use of the resource by the flow, after which its next one stands
 abbrev pub use_from : ℕ → ℕ → Option ℕ → Use
 use_from flow resource next_of_flow = record { flow = flow; resource = resource; next_of_flow = next_of_flow; next_on = None }
 
@@ -99,7 +99,7 @@ abbrev pub user_in : Option Use → ℕ
 user_in None = 0
 user_in (Some one) = one.flow
 
--- but for the one number, the uses are to their flows what they were
+-- except for the one number, the uses are to their flows what they were
 abbrev pub SameBut : List (Option Use) → List (Option Use) → ℕ → Type 0
 SameBut old new i = (j : ℕ) → j ≢ i → option_map flow_part (slice_index_or new j None) ≡ option_map flow_part (slice_index_or old j None)
 
@@ -125,7 +125,7 @@ pub record LosesOne (old new : List (Option Slot)) (on on' : List (Option ℕ)) 
   pub here : (other : ℕ) → times other (users_of old on resource) ≡ times other (users_of new on' resource) + (if other == flow then 1 else 0)
   pub elsewhere : (other : ℕ) → other ≢ resource → users_of new on' other ≡ users_of old on other
 
--- on each resource the flow stands so many times more as the resource stands in the list, and each other flow as often as before
+-- on each resource the flow stands as many more times as the resource stands in the list, and each other flow as often as before
 abbrev pub AreGained : List (Option Slot) → List (Option Slot) → List (Option ℕ) → List (Option ℕ) → ℕ → List ℕ → Type 0
 AreGained fewer more on on' flow uses = (other resource : ℕ) → times other (users_of more on' resource) ≡ times other (users_of fewer on resource) + (if other == flow then times resource uses else 0)
 

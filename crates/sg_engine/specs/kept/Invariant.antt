@@ -16,7 +16,7 @@ use Rattle.sg_edge.specs.declared.sinks.Stream.TheVariants.{Out, Err}
 use Rattle.sg_rows.specs.Deployment.{Deployed, extent_of, started_number}
 use Rattle.sg_rows.specs.Ends.{link_ends}
 use Rattle.sg_rows.specs.Platform.{Platform}
-use Rattle.sg_script.specs.Known.{Known as Names, known_in}
+use Rattle.sg_script.specs.Known.{ScriptNames as Names, known_in}
 use Rattle.sg_script.specs.Stands.{kept_of}
 use Rattle.sg_engine.specs.declared.ended.Ended.{Ended}
 use Rattle.sg_engine.specs.declared.ended.Ended.TheVariants as ended
@@ -36,7 +36,7 @@ use Rattle.sg_engine.specs.kept.Stretches.{Trace, trace_in, Advances, CutsOff}
 use Rattle.sg_route.specs.Roads.{Roads, roads_of}
 use Rattle.sg_calls.specs.Roads.{AreOver}
 
--- what the seats of a simulation show, where this tells the minds of actors, and what the actors there have in mind
+-- what the slots of a simulation show, if this shows the minds of actors, and what the actors there have in mind
 abbrev pub places_in : {A : Type 0} → (A → Option Mind) → Simulation A → List SeatView
 places_in mind sim = seat_views mind sim.seats.items
 
@@ -57,12 +57,12 @@ now_at plan shows sim = moment_in plan shows sim.script sim.kernel
 abbrev pub AreBlank : {A : Type 0} → (A → Option Mind) → List A → Type 0
 AreBlank mind crew = All (λ context. mind context ≡ None) crew
 
--- a crew has a blank context for an actor, if that is given one
+-- a pool has a blank context for an actor, if that is given one
 pub record CanTake {A : Type 0} (mind : A → Option Mind) (given : Bool) (crew : List A) : Type 0 where
   pub some : IsTrue given → 0 < length crew
   pub blank : AreBlank mind crew
 
--- contexts were taken from the end of a crew, one for each actor that starts
+-- contexts were taken from the end of a pool, one for each actor that starts
 pub record StartsFrom {A : Type 0} (deployed : Deployed) (old new : List A) : Type 0 where
   pub front : new ≡ take (length new) old
   pub number : length new + started_number deployed ≡ length old
@@ -72,12 +72,12 @@ pub record StartsUpTo {A : Type 0} (deployed : Deployed) (old new : List A) : Ty
   pub front : new ≡ take (length new) old
   pub most : length old ≤ length new + started_number deployed
 
--- there is a seat for each actor of a deployment
+-- there is a slot for each actor of a deployment
 pub record AreSeatsOf (deployed : Deployed) (places : List SeatView) : Type 0 where
   pub number : length places ≡ length deployed.actors
   pub seated : All (IsSeated (extent_of deployed)) places
 
--- there is a seat for each actor, and the contexts that are left are blank
+-- there is a slot for each actor, and the remaining contexts are blank
 pub record IsManned {A : Type 0} (mind : A → Option Mind) (sim : Simulation A) : Type 0 where
   pub number : length sim.seats.items ≡ length sim.kernel.core.actors
   pub seated : All (IsSeated (extent sim.kernel.setup)) (places_in mind sim)
@@ -96,7 +96,7 @@ has_not_begun actor = is_unstarted actor.state
 abbrev pub unstarted : Core → ℕ
 unstarted core = count_by has_not_begun core.actors
 
--- an actor may call that creates another: the kernel is of these actors and has room, and there is a seat for each
+-- an actor may call that creates another: the kernel is of these actors and has room, and there is a slot for each
 pub record CanCreate {A : Type 0} (mind : A → Option Mind) (plan : Plan) (actor target : ActorId) (sim : Simulation A) : Type 0 where
   pub caller : MayCall sim.kernel.core actor.0
   pub target_is : IsActorIn (extent sim.kernel.setup) target
@@ -105,36 +105,36 @@ pub record CanCreate {A : Type 0} (mind : A → Option Mind) (plan : Plan) (acto
   pub limits : extent sim.kernel.setup ≡ extent_of plan.deployment.now
   pub manned : IsManned mind sim
 
--- it is given where the other has never begun and a context is left
+-- it is given if the other has never begun and a context is left
 abbrev pub may_be_given : {A : Type 0} → ℕ → Simulation A → Bool
 may_be_given target sim = is_unstarted (state_of sim.kernel.core target) && nat_lt 0 (length sim.crew.items)
 
--- how many actors haven't begun where a stretch has led that wasn't cut off; behind a cut nothing is said of them
+-- how many actors haven't begun after a stretch that wasn't cut off; after a cut nothing is said of them
 abbrev pub still_unstarted : Bool → Core → ℕ
 still_unstarted true core = 0
 still_unstarted false core = unstarted core
 
--- Contexts were taken from the end of the crew, each by an actor that has begun since; where the stretch was cut off, by one
--- that could begin.
+-- Contexts were taken from the end of the pool, each by an actor that has begun since; if the stretch was cut off, by
+-- one that could begin.
 pub record TakesCrew {A : Type 0} (cut : Bool) (old new : Simulation A) : Type 0 where
   pub front : new.crew.items ≡ take (length new.crew.items) old.crew.items
   pub begun : length old.crew.items + still_unstarted cut new.kernel.core ≤ length new.crew.items + unstarted old.kernel.core
 
--- the setup is the same, and contexts were taken from the end of the crew, by actors that hadn't begun
+-- the setup is the same, and contexts were taken from the end of the pool, by actors that hadn't begun
 pub record TakesInAll {A : Type 0} (old new : Simulation A) : Type 0 where
   pub setup : new.kernel.setup ≡ old.kernel.setup
   pub front : new.crew.items ≡ take (length new.crew.items) old.crew.items
   pub most : length old.crew.items ≤ length new.crew.items + unstarted old.kernel.core
 
--- contexts were taken from the end of a crew: one for each actor that starts, where memory wasn't wanting, and one at most
+-- contexts were taken from the end of a pool: one for each actor that starts, unless memory ran out, and one at most
 -- for each actor
 pub record TakesLast {A : Type 0} (deployed : Deployed) (how : Ended) (old new : List A) : Type 0 where
   pub front : new ≡ take (length new) old
   pub least : how ≢ ended.Memory → length new + started_number deployed ≤ length old
   pub most : length old ≤ length new + length deployed.actors
 
--- The call of this actor was answered: nobody else was blocked, and but for the kernel, the seats and the crew nothing has
--- changed.
+-- The call of this actor was answered: nobody else was blocked, and except for the kernel, the slots and the pool
+-- nothing has changed.
 pub record KeepsOthers {A : Type 0} (mind : A → Option Mind) (actor : ℕ) (cut : Bool) (old new : Simulation A) : Type 0 where
   pub setup : new.kernel.setup ≡ old.kernel.setup
   pub room : old.kernel.room ≤ new.kernel.room + 1
@@ -145,7 +145,8 @@ pub record KeepsOthers {A : Type 0} (mind : A → Option Mind) (actor : ℕ) (cu
   pub calls : new.calls ≡ old.calls
   pub buffer : new.buffer ≡ old.buffer
 
--- behind a round or a pass there is a seat for each actor again, and but for moments and records nothing has changed
+-- after a scheduling round or a time advance there is a slot for each actor again, and except for moments and records
+-- nothing has changed
 pub record KeepsSeats {A : Type 0} (mind : A → Option Mind) (cut : Bool) (old new : Simulation A) : Type 0 where
   pub setup : new.kernel.setup ≡ old.kernel.setup
   pub number : length new.seats.items ≡ length old.seats.items
@@ -161,8 +162,8 @@ pub record IsOfSetup (platform : Platform) (deployed : Deployed) (known : Known)
   pub extent : extent known.setup ≡ extent_of deployed
   pub few : length known.core.actors ≤ 65536
 
--- all lists are of the deployment's actors, who are seated; there is room for a call of each, and no record and no line
--- waits
+-- all lists are of the deployment's actors, who have their slots; there is room for a call of each, and no record and
+-- no line waits
 pub record IsKept {A : Type 0} (mind : A → Option Mind) (deployed : Deployed) (part : PartView) (sim : Simulation A) : Type 0 where
   pub fits : Fits deployed (at_moment part sim)
   pub homes : length sim.kernel.setup.homes ≡ length deployed.actors
@@ -183,13 +184,13 @@ pub record AreRoadsOf (platform : Platform) (roads : Roads) : Type 0 where
   pub are : roads ≡ roads_of platform
   pub over : AreOver (length (link_ends platform.links)) roads
 
--- the simulation of a setup at its beginning, with a crew of so many contexts and nothing of the script taken
+-- the simulation of a setup at its beginning, with so many contexts in the pool and nothing of the script taken
 pub record IsFirst {A : Type 0} (mind : A → Option Mind) (platform : Platform) (deployed : Deployed) (budget crew : ℕ) (part : PartView) (sim : Simulation A) : Type 0 where
   pub kept : IsKept mind deployed part sim
   pub setup : sim.kernel.setup ≡ setup_of platform deployed budget
   pub stands : StandsFor (known_in deployed) [] (cast_in mind sim) (at_moment part sim) (first_of platform deployed budget crew)
 
--- how many contexts the crew had before anybody started
+-- how many contexts the pool had before any actor started
 abbrev pub crew_in : {A : Type 0} → Plan → Simulation A → ℕ
 crew_in plan sim = length sim.crew.items + started_number plan.deployment.now
 
@@ -210,32 +211,34 @@ Holds mind plan shows sim = IsKept mind plan.deployment.now (script_in plan show
 abbrev pub FitsNow : {A : Type 0} → Plan → (Part → PartView) → Simulation A → Type 0
 FitsNow plan shows sim = Fits plan.deployment.now (now_at plan shows sim)
 
--- calls can be answered: reader and kernel are of the plan's actors, who are seated, over the roads of the kernel's links
+-- calls can be answered: reader and kernel are of the plan's actors, who have their slots, over the roads of the
+-- kernel's links
 pub record CanAnswer {A : Type 0} (mind : A → Option Mind) (plan : Plan) (shows : Part → PartView) (router : Roads) (sim : Simulation A) : Type 0 where
   pub roads : AreOver sim.kernel.setup.links router
   pub fits : FitsNow plan shows sim
   pub manned : IsManned mind sim
 
--- a round or a pass can be made: there is room besides
+-- a scheduling round or a time advance can be made: there is room besides
 pub record CanPlay {A : Type 0} (mind : A → Option Mind) (plan : Plan) (shows : Part → PartView) (router : Roads) (sim : Simulation A) : Type 0 where
   pub roads : AreOver sim.kernel.setup.links router
   pub fits : FitsNow plan shows sim
   pub room : HasRoom mind sim
 
--- What holds behind calls, a round or a pass: all is of the plan's actors still, who are seated, and but for the script
--- nothing was read.
+-- What holds after calls, a scheduling round or a time advance: all is of the plan's actors still, who have their
+-- slots, and except for the script nothing was read.
 pub record GoesOn {A F : Type 0} (mind : A → Option Mind) (plan : Plan) (shows : F → Part → PartView) (result : Result (Option Ended) Memory) (before after : F) (had has : Roads) (old new : Simulation A) : Type 0 where
   pub fits : FitsNow plan (shows after) new
   pub seats : KeepsSeats mind (is_err result) old new
   pub script : UsesScript shows plan.script result before after had has
 
--- a part more can be made: somebody hasn't ended
+-- a part more can be made: an actor hasn't ended
 pub record CanAdvance {A : Type 0} (mind : A → Option Mind) (plan : Plan) (shows : Part → PartView) (router : Roads) (sim : Simulation A) : Type 0 where
   pub kept : Holds mind plan shows sim
   pub roads : AreOver sim.kernel.setup.links router
   pub going : are_completed sim.kernel.core ≡ false
 
--- contexts were taken as they may be; behind a part that didn't cut the run off all of that holds again, of the same setup
+-- contexts were taken as they may be; after a part that didn't cut the run off all of that holds again, of the same
+-- setup
 pub record StaysKept {A : Type 0} (mind : A → Option Mind) (plan : Plan) (how : Option Ended) (shows : Part → PartView) (old new : Simulation A) : Type 0 where
   pub crew : TakesCrew (cuts how) old new
   pub setup : new.kernel.setup ≡ old.kernel.setup
@@ -246,7 +249,7 @@ abbrev pub IsCaused : Plan → Option Ended → (Part → PartView) → ℕ → 
 IsCaused plan how shows had faults = HasCause (how ≡ Some ended.WriteFault) (how ≡ Some ended.ReadFault) had faults ((script_in plan shows).stage ≡ Broken)
 
 -- ---- with what is written
--- a moment of a run, its cast, and what the streams hold
+-- a moment of a run, its `Cast`, and what the streams hold
 pub record Snapshot : Type 0 where
   pub now : Moment
   pub cast : Cast

@@ -17,7 +17,7 @@ use Rattle.sg_engine.specs.World.{World}
 use Rattle.sg_rows.specs.Deployment.{Deployed, extent_of}
 use Rattle.sg_script.specs.Answer.{answer_of}
 use Rattle.sg_script.specs.Rest.{GoesOn}
-use Rattle.sg_script.specs.Known.{Known as Names, known_in}
+use Rattle.sg_script.specs.Known.{ScriptNames as Names, known_in}
 use Rattle.sg_script.specs.Stands.{AreLimited, AreNeeded, IsWithinNeed, Kept, kept_of, Stands, Reads}
 use Rattle.sg_script.specs.declared.script.Script.{Script as Reader}
 use Rattle.sg_engine.specs.declared.ended.Ended.{Ended}
@@ -64,7 +64,7 @@ pub record IsFree (core : Core) (actor : ℕ) : Type 0 where
   pub is : IsActor core actor
   pub free : IsTrue (is_answered (state_of core actor) || is_ended (state_of core actor))
 
--- who is free still is once another actor was answered
+-- an actor that is free stays so as another actor is answered
 abbrev pub LeavesFree : ℕ → Core → Core → Type 0
 LeavesFree actor old new = (other : ℕ) → other ≢ actor → IsFree old other → IsFree new other
 
@@ -81,15 +81,15 @@ pub record Cast : Type 0 where
 abbrev pub cast_of : World → Cast
 cast_of world = record { minds = world.minds; contexts = world.contexts }
 
--- with these bytes of the script taken, the moment and the cast stand for the world
+-- with these bytes of the script taken, the moment and the `Cast` stand for the world
 pub record StandsFor (names : Names) (taken : List ℕ) (had : Cast) (now : Moment) (world : World) : Type 0 where
   pub script : ScriptStands names taken now.part.stage world.asks now.kept
   pub core : now.kernel.core ≡ world.core
   pub cast : had ≡ cast_of world
 
--- From the old moment to the new one a piece of the script was taken, and records were made; for each source that
--- goes on from there, the whole is these records and then the rest, from the world for which the new moment stands, with so
--- much work spent.
+-- From the old moment to the new one a piece of the script was taken, and records were made. For each source that
+-- continues from there, the whole is these records and then the rest, from the world for which the new moment stands,
+-- with so much work spent.
 pub record IsStretch (spent : ℕ) (names : Names) (whole : Answering → Progress) (rest : Answering → World → Progress) (taken : List ℕ) (had : Cast) (old new : Moment) : Type 0 where
   pub piece : List ℕ
   pub reads : Reads piece old.part new.part
@@ -101,23 +101,24 @@ pub record IsStretch (spent : ℕ) (names : Names) (whole : Answering → Progre
   pub records : new.kernel.records ≡ old.kernel.records ++ made
   pub is : (source : Source) → GoesOn (taken ++ piece) new.part.stage source → whole (answer_of names source) ≡ with_front made (rest (answer_of names source) world)
 
--- less than a piece of what was taken isn't needed by the Asks of the whole, for each source that goes on from there
+-- less than a piece of what was taken isn't needed by the fetches of the whole, for each source that continues from
+-- there
 abbrev pub AreNeededBy : Names → (Answering → Progress) → List ℕ → Stage → Type 0
 AreNeededBy names whole taken stage = (source : Source) → GoesOn taken stage source → IsWithinNeed names source (whole (answer_of names source)).world.asks (length taken)
 
--- the whole leaves no more contexts than that, for each source that goes on from there
+-- the whole leaves no more contexts than that, for each source that continues from there
 abbrev pub LeavesContexts : Names → (Answering → Progress) → List ℕ → Stage → ℕ → Type 0
 LeavesContexts names whole taken stage left = (source : Source) → GoesOn taken stage source → (whole (answer_of names source)).world.contexts ≤ left
 
--- memory was wanting: some of the script was read that the whole needs, no more contexts were taken than the whole takes,
--- and nothing else is told
+-- memory ran out: some of the script was read that the whole needs, no more contexts were taken than the whole takes,
+-- and nothing else is known
 pub record LacksMemory (names : Names) (whole : Answering → Progress) (taken : List ℕ) (left : ℕ) (old new : PartView) : Type 0 where
   pub piece : List ℕ
   pub reads : Reads piece old new
   pub needed : AreNeededBy names whole (taken ++ piece) new.stage
   pub contexts : LeavesContexts names whole (taken ++ piece) new.stage left
 
--- nothing is left of the stretch but how it ended
+-- nothing of the stretch remains except how it ended
 abbrev pub ending : Option Ended → Answering → World → Progress
 ending how answers world = at_world how world
 
@@ -128,14 +129,14 @@ names_of plan = known_in plan.deployment.now
 abbrev pub scene_at : Plan → Roads → Known → Scene
 scene_at plan roads kernel = scene roads kernel.setup (firsts_of plan.deployment.now) plan.script
 
--- a call of an actor, in a round; a create
+-- a call of an actor, in a scheduling round; a create
 abbrev pub call_at : Plan → Roads → Known → ActorCall → Answering → World → Progress
 call_at plan roads kernel made answers world = unless_killed (scene_at plan roads kernel) answers made.actor.0 made.call world
 
 abbrev pub created_at : Plan → Known → ActorId → ActorId → Answering → World → Progress
 created_at plan kernel actor target answers world = creates (firsts_of plan.deployment.now) kernel.setup.budget actor.0 target world
 
--- calls of several actors, a round, and a round or a pass
+-- calls of several actors, a scheduling round, and one or a time advance
 abbrev pub calls_at : Plan → Roads → Known → List ActorCall → Answering → World → Progress
 calls_at plan roads kernel calls answers world = calls_of (scene_at plan roads kernel) answers calls world
 
@@ -160,7 +161,7 @@ script_moment shows reader kernel = moment (shows Script) (kept_of reader) kerne
 abbrev pub FitsScript : Plan → (Part → PartView) → Reader → Known → Type 0
 FitsScript plan shows reader kernel = Fits plan.deployment.now (script_moment shows reader kernel)
 
--- a read fault is told of a part that is broken
+-- a read fault is of a part that is broken
 abbrev pub IsReadFrom : Result (Option Ended) Memory → PartView → Type 0
 IsReadFrom result part = result ≡ Ok (Some ended.ReadFault) → part.stage ≡ Broken
 
@@ -170,7 +171,7 @@ abbrev pub Leads : Plan → (World → ℕ) → (Answering → World → Progres
 Leads plan spends whole result had has old new = (taken : List ℕ) (world : World) → StandsFor (names_of plan) taken had old world →
     MatchResult result (λ how. IsStretch (spends world) (names_of plan) (λ answers. whole answers world) (ending how) taken has old new) (λ _. LacksMemory (names_of plan) (λ answers. whole answers world) taken has.contexts old.part new.part)
 
--- the same where the cast stays
+-- the same if the `Cast` stays
 abbrev pub LeadsCalls : Plan → (Answering → World → Progress) → Result (Option Ended) Memory → Moment → Moment → Type 0
 LeadsCalls plan whole result old new = (cast : Cast) → Leads plan (λ world. world.work) whole result cast cast old new
 
@@ -179,8 +180,8 @@ pub record ReadsScript {F : Type 0} (shows : F → Part → PartView) (script : 
   pub others : Only Script (shows old) (shows new)
   pub unscripted : script ≡ false → new ≡ old
 
--- What a stretch has to do with the script and the roads: nothing else was read, the roads stay, it cuts the run off only
--- where memory is wanting, and a read fault is told only of a part that is broken.
+-- What a stretch has to do with the script and the roads: nothing else was read, the roads stay, it cuts the run off
+-- only if memory runs out, and a read fault is only of a part that is broken.
 pub record UsesScript {F : Type 0} (shows : F → Part → PartView) (script : Bool) (result : Result (Option Ended) Memory) (old new : F) (had has : Roads) : Type 0 where
   pub reads : ReadsScript shows script old new
   pub roads : has ≡ had

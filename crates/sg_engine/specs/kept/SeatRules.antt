@@ -1,4 +1,4 @@
--- The places of actors, from round to round.
+-- The slots of actors, from one scheduling round to the next.
 use Rattle.std.specs.Prelude.{◌≡◌, ◌<◌, ℕ, IsTrue, true, false, List, length, map, slice_index_or, Option, None, Some, if◌then◌else◌}
 use Rattle.std.specs.Option.{is_some}
 use Rattle.sg_base.specs.declared.call.Answer.{Answer}
@@ -17,7 +17,8 @@ mind_in place = place.mind
 abbrev pub minds_of : List SeatView → List (Option Mind)
 minds_of places = map mind_in places
 
--- between rounds all that is in a place keeps to the limits, and its actor isn't to take a turn
+-- between scheduling rounds all that is in a slot keeps to the limits, and its actor isn't to take
+-- a turn
 pub record IsSeated (extent : Extent) (place : SeatView) : Type 0 where
   pub limited : KeepsLimits extent place
   pub rests : place.ready ≡ false
@@ -35,6 +36,6 @@ with_answer place (Some answer) = if is_some place.mind then record place { inbo
 abbrev pub call_in : SeatView → Option Call
 call_in place = if place.ready then Some place.outbox else None
 
--- the place behind the round
+-- the slot after the scheduling round
 abbrev pub at_rest : SeatView → SeatView
 at_rest place = record place { ready = false }

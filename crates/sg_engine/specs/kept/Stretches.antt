@@ -7,7 +7,7 @@ use Rattle.sg_edge.specs.Sources.{Source}
 use Rattle.sg_calls.specs.World.{Core}
 use Rattle.sg_engine.specs.World.{World}
 use Rattle.sg_script.specs.Answer.{answer_of}
-use Rattle.sg_script.specs.Known.{Known as Names, known_in}
+use Rattle.sg_script.specs.Known.{ScriptNames as Names, known_in}
 use Rattle.sg_script.specs.Stands.{Reads}
 use Rattle.sg_script.specs.Rest.{GoesOn}
 use Rattle.sg_engine.specs.declared.ended.Ended.{Ended}
@@ -25,7 +25,7 @@ use Rattle.sg_engine.specs.kept.Moments.{AreNeededBy, Cast, LeavesContexts, Mome
 abbrev pub Trace : Type 0
 Trace = List Record → List ℕ
 
--- a text was gained, and something behind it
+-- a text was gained, and something after it
 abbrev pub GainsBehind : List ℕ → Option (List ℕ) → Option (List ℕ) → Type 0
 GainsBehind text before after = (behind : List ℕ) × (after ≡ gain before (text ++ behind))
 
@@ -35,7 +35,7 @@ pub record Advances (spent : ℕ) (names : Names) (trace : Trace) (whole : Answe
   pub reached : IsStretch spent names whole (ending how) taken had old (moment new.part new.kept (record new.kernel { records = records }))
   pub printed : after ≡ gain before (trace records)
 
--- A part of a run was cut off with so many contexts left, and a front of its trace lines is written.
+-- A part of a run was cut off with so many contexts left, and a prefix of its trace lines is written.
 pub record CutsOff (names : Names) (trace : Trace) (whole : Answering → Progress) (taken : List ℕ) (left : ℕ) (old new : PartView) (before after : Option (List ℕ)) : Type 0 where
   pub piece : List ℕ
   pub reads : Reads piece old new
@@ -43,13 +43,14 @@ pub record CutsOff (names : Names) (trace : Trace) (whole : Answering → Progre
   pub contexts : LeavesContexts names whole (taken ++ piece) new.stage left
   pub front : (source : Source) → GoesOn (taken ++ piece) new.stage source → GainsFront (trace (whole (answer_of names source)).made) before after
 
--- The run was cut off, and a front of its trace lines is written; the count went on from this start by the work of the
+-- The run was cut off, and a prefix of its trace lines is written; the count rose from this start by the work of the
 -- whole run at most.
 pub record IsCutOff (start count left : ℕ) (names : Names) (trace : Trace) (whole : Answering → Progress) (old new : PartView) (before after : Option (List ℕ)) : Type 0 where
   pub cut : CutsOff names trace whole [] left old new before after
   pub worked : (source : Source) → GoesOn cut.piece new.stage source → count ≤ start + (whole (answer_of names source)).world.work
 
--- The run came to this end with so many contexts left, and all its trace lines are written; the count went on from this start by the work at most.
+-- The run came to this end with so many contexts left, and all its trace lines are written; the count rose from this
+-- start by the work at most.
 pub record IsOver (start count left : ℕ) (names : Names) (trace : Trace) (whole : Answering → Progress) (how : Ended) (core : Core) (old new : PartView) (before after : Option (List ℕ)) : Type 0 where
   pub piece : List ℕ
   pub reads : Reads piece old new
@@ -62,8 +63,8 @@ pub record IsOver (start count left : ℕ) (names : Names) (trace : Trace) (whol
   pub printed : after ≡ gain before (trace made)
   pub is : (source : Source) → GoesOn piece new.stage source → whole (answer_of names source) ≡ record { world = world; made = made; ended = Some how }
 
--- The trace lines of so many parts of a run are all written, whatever stands behind them, and what was taken of the script is
--- near to what these and the next one need.
+-- The trace lines of so many parts of a run are all written, whatever stands after them, and what was taken of the
+-- script is near to what these and the next one need.
 pub record IsPaced (names : Names) (trace : Trace) (parts : ℕ → Answering → Progress) (old new : PartView) (before after : Option (List ℕ)) : Type 0 where
   pub piece : List ℕ
   pub reads : Reads piece old new
@@ -75,7 +76,7 @@ pub record IsPaced (names : Names) (trace : Trace) (parts : ℕ → Answering �
 abbrev pub trace_in : Plan → Trace
 trace_in plan = trace_of plan.terms.show plan.platform.now plan.deployment.now
 
--- a line of the end, those of who can't go on, those of the energies, and all lines behind the trace lines
+-- a line of the end, those of actors that can't continue, those of the energies, and all lines after the trace lines
 abbrev pub ending_in : Plan → Last → List ℕ
 ending_in plan last = ending_of last plan.platform.now plan.deployment.now
 
@@ -91,7 +92,7 @@ how_in plan core how = how_lines plan.terms.show plan.platform.now plan.deployme
 abbrev pub last_in : Plan → Core → Ended → List ℕ
 last_in plan core how = last_lines plan.terms.show plan.platform.now plan.deployment.now plan.terms.budget core how
 
--- the run of a plan with a crew of so many contexts, by its script
+-- the run of a plan with so many contexts in the pool, by its script
 abbrev pub run_by : Plan → ℕ → Answering → Progress
 run_by plan crew answers = run_of (scene_of plan.platform.now plan.deployment.now plan.script plan.terms.budget) (first_of plan.platform.now plan.deployment.now plan.terms.budget crew) answers
 
@@ -99,7 +100,7 @@ run_by plan crew answers = run_of (scene_of plan.platform.now plan.deployment.no
 abbrev pub planned_output : Plan → ℕ → Source → Output
 planned_output plan crew source = run_output plan.platform.now plan.deployment.now plan.script plan.terms.budget crew plan.terms.show source
 
--- its first rounds and passes, so many
+-- its first scheduling rounds and time advances, so many
 abbrev pub parts_by : Plan → ℕ → ℕ → Answering → Progress
 parts_by plan crew parts answers = first_parts plan.platform.now plan.deployment.now plan.script plan.terms.budget crew parts answers
 
@@ -107,7 +108,7 @@ parts_by plan crew parts answers = first_parts plan.platform.now plan.deployment
 abbrev pub planned_pace : Plan → ℕ → Source → ℕ → Pace
 planned_pace plan crew source = pace_of plan.platform.now plan.deployment.now plan.script plan.terms.budget crew plan.terms.show source
 
--- The run was cut off behind a front of its trace lines, or this simulation has come to this end behind all of them.
+-- The run was cut off after a prefix of its trace lines, or this simulation has reached this end after all of them.
 abbrev pub HasRun : {A : Type 0} → Plan → ℕ → Ended → Simulation A → ℕ → ℕ → PartView → PartView → Option (List ℕ) → Option (List ℕ) → Type 0
 HasRun plan crew how sim start count old new before after =
     MatchBool (is_cut how)

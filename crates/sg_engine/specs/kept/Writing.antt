@@ -12,7 +12,7 @@ pub record Wrote (text : List ℕ) (old new : Stream → Option (List ℕ)) (had
   pub err_held : new Err ≡ old Err
   pub sound : faults ≡ had
 
--- a write failed, behind a front of the text
+-- a write failed, after a prefix of the text
 pub record Broke (text : List ℕ) (old new : Stream → Option (List ℕ)) (had faults : ℕ) : Type 0 where
   pub front : GainsFront text (old Out) (new Out)
   pub err_held : new Err ≡ old Err

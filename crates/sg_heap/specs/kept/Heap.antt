@@ -45,17 +45,17 @@ abbrev pub IsSpanned : List Entry → ℕ → ℕ → Type 0
 IsSpanned heap count at =
     0 < at → (i : ℕ) → 0 < i → i < count → (i - 1) / 2 ≡ at → InOrder heap ((at - 1) / 2) i
 
--- a heap, but that the entry at this place may come before its parent
+-- a heap, except that the entry at this place may come before its parent
 pub record MayRise (heap : List Entry) (count at : ℕ) : Type 0 where
   pub order : (i : ℕ) → 0 < i → i < count → i ≢ at → InOrder heap ((i - 1) / 2) i
   pub spanned : IsSpanned heap count at
 
--- a heap, but that the entry at this place may come after its children
+-- a heap, except that the entry at this place may come after its children
 pub record MaySink (heap : List Entry) (count at : ℕ) : Type 0 where
   pub order : (i : ℕ) → 0 < i → i < count → (i - 1) / 2 ≢ at → InOrder heap ((i - 1) / 2) i
   pub spanned : IsSpanned heap count at
 
--- a heap, but for both
+-- a heap, except for both
 pub record MayMove (heap : List Entry) (count at : ℕ) : Type 0 where
   pub order : (i : ℕ) → 0 < i → i < count → i ≢ at → (i - 1) / 2 ≢ at → InOrder heap ((i - 1) / 2) i
   pub spanned : IsSpanned heap count at
@@ -74,7 +74,7 @@ pub record IsSifted (count : ℕ) (heap : List Entry) (place : List ℕ)
   pub placed : ArePlaced heap' place'
   pub keys : keys_of heap' place' count ≡ keys_of heap place count
 
--- An entry in hand, with which there is a heap, but that it may come before its parent there, or after its children.
+-- An entry in hand, with which there is a heap, except that it may come before its parent there, or after its children.
 pub record IsLooseInHand (heap : List Entry) (place : List ℕ) (count from : ℕ) (entry : Entry) : Type 0 where
   pub hand : IsInHand heap place count from entry
   pub loose : MayMove (slice_set heap from entry) count from
@@ -92,7 +92,7 @@ pub record IsAgenda (heap : List Entry) (place : List ℕ) (count : ℕ) : Type 
   pub within : count ≤ length place
   pub counted : key_count (keys_of heap place count) ≡ count
 
--- an agenda, where the entry at this place has a key
+-- an agenda, if the entry at this place has a key
 pub record HasKeyAt (heap : List Entry) (place : List ℕ) (count at : ℕ) : Type 0 where
   pub agenda : IsAgenda heap place count
   pub below : at < count

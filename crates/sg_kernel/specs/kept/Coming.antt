@@ -1,11 +1,11 @@
--- What comes at the dates to which passes go.
+-- What comes at the dates to which time advances.
 use Rattle.std.specs.Prelude.{◌≡◌, ◌≢◌, ℕ, ◌+◌, ◌-◌, ◌<◌, ◌≤◌, Bool, false, None, Some, List, [], ◌∷◌, filter}
 use Rattle.sg_activity.specs.Doing.{Doing}
 use Rattle.sg_activity.specs.Task.{task_at}
 use Rattle.sg_profile.specs.declared.entry.Entry.{Entry}
 use Rattle.sg_profile.specs.Profiles.{IsEntry, IsNextEntry, next_row, rows_due}
 use Rattle.sg_rows.specs.declared.network.Network.{Network}
-use Rattle.sg_calls.specs.declared.fields.Fields.{Fields}
+use Rattle.sg_calls.specs.declared.simulation_state.Fields.{Fields}
 use Rattle.sg_calls.specs.World.{Core}
 use Rattle.sg_kernel.specs.Passes.{applied, changes, ends, next_span}
 use Rattle.sg_calls.specs.Steps.{Step, each}
@@ -19,7 +19,7 @@ rows_now fields = rows_due fields.doing.under.date fields.profiles.profiles fiel
 abbrev pub row_next : Fields → ℕ
 row_next fields = next_row fields.profiles.profiles fields.profiles.turns
 
--- a pass goes to this date next, which is no later than a date may be after one more event
+-- time advances to this date next, which is no later than a date may be after one more event
 pub record IsNextDate (fields : Fields) (date : ℕ) : Type 0 where
   pub from : fields.doing.under.date ≤ date
   pub in_time : next_span (setup_in fields) (core_of fields) ≡ Some (date - fields.doing.under.date)
@@ -30,13 +30,14 @@ pub record IsDueEntry (fields : Fields) (entry : Entry) : Type 0 where
   pub next : IsNextEntry fields.profiles fields.doing.under.date entry
   pub exists : IsEntry fields.hosts fields.links entry
 
--- an entry changed what it is of: its rate is up to date no more, unless that only went on or off
+-- an entry changed what it is of, whose rate is no longer up to date, unless that was only turned
+-- on or off
 pub record IsApplied (network : Network) (entry : Entry) (old new : Doing) : Type 0 where
   pub under : new.under ≡ applied network entry old.under
   pub due : new.due ≡ old.due
   pub room : new.room ≡ old.room
 
--- The date stays. What isn't due any more isn't under way.
+-- The date stays. What no longer completes then isn't running.
 pub record LeavesDue (old new : Fields) : Type 0 where
   pub date : new.doing.under.date ≡ old.doing.under.date
   pub idle : (serial : ℕ) → task_at old.doing.under.tasks serial ≡ None → task_at new.doing.under.tasks serial ≡ None
@@ -51,7 +52,7 @@ coming fields =
     each (ends (setup_in fields)) fields.doing.due ∷
     []
 
--- no event is taken back; where some of these are to come and the budget isn't used up, there is one
+-- no event is taken back; if some of these are to come and the budget isn't used up, there is one
 pub record CountsSome (left : List ℕ) (old new : Fields) : Type 0 where
   pub more : old.events ≤ new.events
   pub some : old.events ≢ old.budget → left ≢ [] → old.events < new.events

@@ -15,7 +15,7 @@ use Rattle.sg_kernel.specs.declared.beginning.FirstObjects.{FirstObjects}
 use Rattle.sg_kernel.specs.declared.beginning.Idle.{Idle}
 use Rattle.sg_setup.specs.Setup.{host_cap, link_caps, capacity_of, replays}
 
--- nothing is under way on the hosts and links of the platform, and nobody is in the mailboxes
+-- no activity runs on the hosts and links of the platform, and nobody is in the mailboxes
 pub record IsIdle (platform : Platform) (idle : Idle) : Type 0 where
   pub doing : idle.doing ≡ idle_on (map host_cap platform.hosts) (link_caps platform.network platform.links)
   pub boxes : (mailbox : BoxId) → waiters idle.boxes mailbox ≡ []
@@ -52,7 +52,7 @@ objects_of actors mutexes semaphores members = record {
   others = [];
 }
 
--- the objects of the deployment, at which nobody waits
+-- the objects of the deployment, at which no actor waits
 pub record AreObjects (deployed : Deployed) (made : FirstObjects) : Type 0 where
   pub objects : made.objects ≡ objects_of (length deployed.actors) (length deployed.mutexes) (map capacity_of deployed.semaphores) (count_by replays deployed.actors)
   pub semaphores : made.semaphores.items ≡ map capacity_of deployed.semaphores

@@ -1,4 +1,4 @@
--- What settling does to rates.
+-- What a rate update does to rates.
 use Rattle.std.specs.Prelude.{◌≡◌, ◌≢◌, ℕ, ◌==◌, ◌||◌, ◌&&◌, not, Bool, true, false, if◌then◌else◌, List, AllPairs, slice_index}
 use Rattle.sg_base.specs.MarkSet.{MarkSet, is_in, with_mark}
 
@@ -6,11 +6,11 @@ use Rattle.sg_base.specs.MarkSet.{MarkSet, is_in, with_mark}
 abbrev pub did_change : List ℕ → List ℕ → (ℕ → ℕ) → ℕ → Bool
 did_change began rates given id = is_in id began || not (slice_index rates id == given id)
 
--- the same where it didn't end
+-- the same if it didn't end
 abbrev pub is_changed : List ℕ → List ℕ → List ℕ → (ℕ → ℕ) → ℕ → Bool
 is_changed began ended rates given id = not (is_in id ended) && did_change began rates given id
 
--- unless it ended a flow has the rate that it is given, and is noted where that changed
+-- unless it ended a flow has the rate that it is given, and is noted if that changed
 pub record WritesRate (began ended : List ℕ) (flow : ℕ) (given : ℕ → ℕ) (old new : List ℕ) (noted noted' : MarkSet) : Type 0 where
   pub rate : is_in flow ended ≡ false → slice_index new flow ≡ given flow
   pub others : (other : ℕ) → other ≢ flow → slice_index new other ≡ slice_index old other

@@ -1,4 +1,4 @@
--- What a `Lazy` keeps its flows in: the system holds those that run, and until the next settling those that ended.
+-- How a `Lazy` keeps its flows: the system holds those that run, and until the next update those that ended.
 use Rattle.std.specs.Prelude.{◌≡◌, ◌≢◌, ℕ, zero, suc, ◌+◌, ◌≤◌, ◌==◌, ◌||◌, not, true, false, if◌then◌else◌, Option, None, Some, IsSome, option_map, List, [], ◌∷◌, map, length, slice_index, AllPairs}
 use Rattle.sg_base.specs.MarkSet.{MarkSet, is_in}
 use Rattle.sg_maxmin.specs.Fill.{Flow, flow, share_of}
@@ -64,7 +64,7 @@ pub record IsWithout (old new : Sharing) (ended : List ℕ) : Type 0 where
   pub flow_room : new.flow_room ≡ old.flow_room + length ended
   pub use_room : new.use_room ≡ old.use_room + lengths (uses_at old.slots) ended
 
--- the rates are those of the filling of all that runs, and those that changed are noted
+-- the rates are the max-min rates of all that runs, and those that changed are noted
 pub record IsRefilled (old new : Sharing) (began marked ended rates rates' changed : List ℕ) : Type 0 where
   pub without : IsWithout old new ended
   pub sound : IsSound new

@@ -1,4 +1,4 @@
--- What is kept from one settling to the next.
+-- What is kept from one rate update to the next.
 use Rattle.std.specs.Prelude.{◌≡◌, ◌≢◌, ℕ, ◌<◌, Bool, true, false, if◌then◌else◌, Option, None, Some, List, [], ◌∷◌, Contains, filter, length, sum_by, slice_index, slice_set}
 use Rattle.sg_base.specs.MarkSet.{is_in, with_mark}
 use Rattle.sg_maxmin.specs.Fill.{Flow, is_on, share_of}
@@ -7,13 +7,13 @@ use Rattle.sg_maxmin.specs.Laws.{HaveLimits}
 use Rattle.sg_lazy.specs.Touch.{touches, IsClosed}
 use Rattle.sg_lazy.specs.RunningFlow.{RunningFlow, bounded_by, running_at, flows_in}
 
--- no marked flow uses the resource, nor one that ended since the last settling, and its capacity didn't change
+-- no marked flow uses the resource, nor one that ended since the last update, and its capacity didn't change
 pub record IsUnmarked (slots : List (Option RunningFlow)) (ended : List Flow) (resources : List ℕ) (resource : ℕ) : Type 0 where
   pub unused : (id : ℕ) (running : RunningFlow) → running_at slots id ≡ Some running → running.marked ≡ true → is_on resource running.flow ≡ false
   pub gone : (flow : Flow) → Contains ended flow → is_on resource flow ≡ false
   pub same : is_in resource resources ≡ false
 
--- Each unmarked flow has its rate from the flows and capacities of the last settling, and on unmarked resources these are those of now.
+-- Each unmarked flow has its rate from the flows and capacities of the last rate update, which are unchanged on unmarked resources.
 pub record AreKept (capacities : List ℕ) (slots : List (Option RunningFlow)) (ended : List Flow) (resources : List ℕ) : Type 0 where
   pub past_capacities : List ℕ
   pub past : List Flow
@@ -25,7 +25,7 @@ pub record AreKept (capacities : List ℕ) (slots : List (Option RunningFlow)) (
   pub same_flows : (resource : ℕ) → IsUnmarked slots ended resources resource → (amount : Flow → ℕ)
       → sum_by (λ flow. if is_on resource flow then amount flow else 0) past ≡ sum_by (λ flow. if is_on resource flow then amount flow else 0) (flows_in slots)
 
--- a start: a marked flow, where none was
+-- a start: a marked flow, if none was
 abbrev pub StartKeeps : Type 0
 StartKeeps = (capacities : List ℕ) (slots : List (Option RunningFlow)) (ended : List Flow) (resources : List ℕ) (id : ℕ) (running : RunningFlow) → AreKept capacities slots ended resources → id < length slots → running_at slots id ≡ None → running.marked ≡ true → HasLimit running.flow
     → AreKept capacities (slice_set slots id (Some running)) ended resources
@@ -44,13 +44,13 @@ abbrev pub BoundKeeps : Type 0
 BoundKeeps = (capacities : List ℕ) (slots : List (Option RunningFlow)) (ended : List Flow) (resources : List ℕ) (id bound : ℕ) (running : RunningFlow) → AreKept capacities slots ended resources → id < length slots → running_at slots id ≡ Some running
     → AreKept capacities (slice_set slots id (Some (bounded_by bound running))) ended resources
 
--- What settling has to do with one flow: a touched one gets its share among the touched flows, one that uses nothing its bound, and the others keep their rates.
+-- What a rate update does to one flow: a touched one gets its share among the touched flows, one that uses nothing its bound, and the others keep their rates.
 pub record IsRated (capacities : List ℕ) (flows : List Flow) (reached : ℕ → Bool) (old : RunningFlow) (rate : ℕ) : Type 0 where
   pub touched : touches reached old.flow ≡ true → rate ≡ share_of capacities (filter (touches reached) flows) old.flow
   pub free : old.flow.uses ≡ [] → old.flow.bound ≡ Some rate
   pub others : touches reached old.flow ≡ false → old.flow.uses ≢ [] → rate ≡ old.rate
 
--- Where all marked resources are reached, and what is joined to them, then all rates are those of the whole.
+-- If all marked resources and their connected components are reached, all rates are those of the whole.
 abbrev pub SettlesRates : Type 0
 SettlesRates = (capacities : List ℕ) (slots : List (Option RunningFlow)) (ended : List Flow) (resources : List ℕ) (reached : ℕ → Bool) (id : ℕ) (old : RunningFlow) (rate : ℕ) → AreKept capacities slots ended resources → IsClosed (flows_in slots) reached
     → ((resource : ℕ) → reached resource ≡ false → IsUnmarked slots ended resources resource) → running_at slots id ≡ Some old → IsRated capacities (flows_in slots) reached old rate → rate ≡ share_of capacities (flows_in slots) old.flow

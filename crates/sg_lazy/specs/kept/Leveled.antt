@@ -8,7 +8,7 @@ use Rattle.sg_levels.specs.Kept.{IsBetween, IsWithin}
 use Rattle.sg_levels.specs.Numbered.{bound_at, flow_in, level_at}
 use Rattle.sg_lazy.specs.declared.settle.Pending.{Pending}
 
--- what a flow gets at its level; nothing where it has none
+-- what a flow gets at its level; nothing if it has none
 abbrev pub rate_of : Flow → Option ℕ → ℕ
 rate_of flow None = 0
 rate_of flow (Some level) = share_at flow level

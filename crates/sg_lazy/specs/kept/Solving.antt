@@ -1,4 +1,4 @@
--- How levels are brought up to date: what is pending, what is done, and by how many looks.
+-- How levels are brought up to date: what is pending, what is done, and by how many visits.
 use Rattle.std.specs.Prelude.{◌≡◌, ℕ, ◌+◌, ◌*◌, ◌<◌, ◌≤◌, Bool, true, false, None, IsTrue, IsSome, [], length}
 use Rattle.sg_base.specs.MarkSet.{is_in}
 use Rattle.sg_maxmin.specs.Sharing.{Sharing, flow_at}
@@ -21,7 +21,7 @@ pub record AreMarkedWithin (p q : ℕ → Bool) (pending : Pending) : Type 0 whe
   pub flows : (id : ℕ) → is_in id pending.marked.members ≡ true → IsTrue (p id)
   pub resources : (r : ℕ) → is_in r pending.resources.members ≡ true → IsTrue (q r)
 
--- the flows that ended are gone, the others that are marked are held, and what is noted, stale or active is joined to what is marked
+-- the flows that ended are gone, the other marked ones are held, and what is noted, stale or active is connected to what is marked
 pub record IsPendingOn (s : Sharing) (solver : Solver) (pending : Pending) : Type 0 where
   pub between : IsBetween s solver.levels
   pub ready : IsReady (length s.slots) (length s.capacities) solver.parts
@@ -32,7 +32,7 @@ pub record IsPendingOn (s : Sharing) (solver : Solver) (pending : Pending) : Typ
   pub resources : pending.resources.room ≡ length s.capacities
   pub within : (p q : ℕ → Bool) → PassAlong s p q → AreMarkedWithin p q pending → IsWithin p q solver.levels
 
--- all levels are those of the filling, nothing is active or stale, what moved is noted, and is joined to what is marked
+-- all levels are max-min levels, nothing is active or stale, what moved is noted, and is connected to what is marked
 pub record IsSolved (s : Sharing) (pending : Pending) (old new : Solver) : Type 0 where
   pub between : IsBetween s new.levels
   pub filled : AreFilled s new.levels.levels.items
@@ -42,7 +42,8 @@ pub record IsSolved (s : Sharing) (pending : Pending) (old new : Solver) : Type 
   pub within : (p q : ℕ → Bool) → PassAlong s p q → AreMarkedWithin p q pending → IsWithin p q new.levels
   pub ready : IsReady (length s.slots) (length s.capacities) new.parts
 
--- So many looks suffice to fill so many joined flows with so many uses and to write their levels, to try it by levels alone, and for both.
+-- The visits that suffice to solve a component of so many flows with so many uses and to write their levels, to try it by levels alone,
+-- and for both.
 abbrev pub refill_looks : ℕ → ℕ → ℕ
 refill_looks flows uses = 3 * uses + 3 * flows * uses + uses
 
@@ -52,7 +53,7 @@ try_looks ended flows uses = uses + spare_looks flows uses ended
 abbrev pub solve_looks : ℕ → ℕ → ℕ → ℕ
 solve_looks ended flows uses = try_looks ended flows uses + refill_looks flows uses
 
--- so many suffice for all that is joined to what is marked
+-- so many suffice for the connected components of all that is marked
 abbrev pub SolvesWithin : Sharing → Pending → (ℕ → ℕ → ℕ) → ℕ → ℕ → Type 0
 SolvesWithin s pending looks before after =
     (p q : ℕ → Bool) → PassAlong s p q → AreMarkedWithin p q pending → after ≤ before + looks (joined_count s.slots p) (joined_uses s.slots p)

@@ -1,4 +1,4 @@
--- How the queues of mailboxes are kept: by number, and where each side waits by its serial.
+-- How the queues of mailboxes are kept: by number, with the place of each endpoint by its activity id.
 use Rattle.std.specs.Prelude.{◌≡◌, ◌≢◌, ℕ, ◌+◌, ◌<◌, ◌≤◌, ◌==◌, Bool, true, false, Option, None, Some, IfSome, List, [], length, map, All, AllPairs, vec_capacity}
 use Rattle.std.specs.HashMap.{get, spare, hash_map_len}
 use Rattle.sg_base.specs.declared.ids.BoxId.{BoxId}
@@ -7,14 +7,14 @@ use Rattle.sg_queues.specs.Rings.{queue_at}
 use Rattle.sg_queues.specs.Queues.{holds, value, values_of, AreSlots}
 use Rattle.sg_mailbox.specs.declared.sides.Post.{Post}
 use Rattle.sg_mailbox.specs.declared.sides.Place.{Place}
-use Rattle.sg_mailbox.specs.declared.kept.Kept.{Kept}
+use Rattle.sg_mailbox.specs.declared.box_queues.Kept.{Kept}
 use Rattle.sg_mailbox.specs.Posts.{Posts, box_eq}
 
 -- the queue of a mailbox
 abbrev pub number : Kept → BoxId → Option ℕ
 number kept mailbox = get box_eq kept.numbers mailbox
 
--- where the side of a serial waits
+-- the place where the endpoint of an activity id waits
 abbrev pub place : Kept → ℕ → Option Place
 place kept serial = serials.at kept.places serial
 
@@ -42,16 +42,16 @@ pub record IsPlace (number : BoxId → Option ℕ) (queues : List (List (ℕ × 
   pub queue : number place.mailbox ≡ Some place.queue
   pub there : holds place.slot (queue_at queues place.queue) ≡ true
 
--- each side that waits has the place of its serial, and no other
+-- each waiting endpoint has the place of its activity id, and no other
 pub record ArePlaced (number : BoxId → Option ℕ) (place : ℕ → Option Place) (queues : List (List (ℕ × Post))) : Type 0 where
   pub told : (queue serial : ℕ) → All (λ (entry : ℕ × Post). is_at entry.0 (place serial) ≡ (entry.1.serial.0 == serial)) (queue_at queues queue)
   pub held : (serial : ℕ) → IfSome (place serial) (IsPlace number queues)
 
--- those that wait in a queue are of one kind, by rising serial
+-- those that wait in a queue are of one kind, by rising activity id
 abbrev pub AreOrdered : List Post → Type 0
 AreOrdered posts = AllPairs (λ (first later : Post). (first.sends ≡ later.sends) × (first.serial.0 < later.serial.0)) posts
 
--- what one that comes may need, with so many mailboxes more
+-- what one that comes may need, with so many more mailboxes
 pub record HasRoom (more : ℕ) (kept : Kept) : Type 0 where
   pub numbers : more ≤ spare kept.numbers
   pub empty : more ≤ length kept.empty.items
@@ -59,7 +59,7 @@ pub record HasRoom (more : ℕ) (kept : Kept) : Type 0 where
   pub queues : kept.room ≤ kept.queues.room
   pub stack : length kept.empty.items + hash_map_len kept.numbers ≤ vec_capacity kept.empty
 
--- somebody waits in each mailbox that has a queue, but perhaps in these
+-- somebody waits in each mailbox that has a queue, except perhaps in these
 pub record AreKept (more : ℕ) (may_be_empty : BoxId → Type 0) (kept : Kept) : Type 0 where
   pub roomy : HasRoom more kept
   pub numbered : AreNumbered (number kept) kept.empty.items kept.queues.queues

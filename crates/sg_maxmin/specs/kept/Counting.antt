@@ -40,7 +40,7 @@ pub record HasRowPlaces (uses : List (Option Use)) (row : FlowRow) (list : List 
 abbrev pub row_limits : List ℕ → List ℕ → List (Option Use) → FlowRow → List ℕ
 row_limits left waiting uses row = option_to_list (option_map (bound_level row.weight) row.bound) ++ map (λ c. slice_index left c / slice_index waiting c) (resources row.count uses row.first)
 
--- the least of the list, or none where it is empty
+-- the least of the list, or none if it is empty
 abbrev pub IsLeast : Option ℕ → List ℕ → Type 0
 IsLeast None list = list ≡ []
 IsLeast (Some least) list = Contains list least × ((x : ℕ) → Contains list x → least ≤ x)
@@ -69,7 +69,7 @@ row_count (Some row) = row.count
 abbrev pub count_of : List (Option FlowRow) → ℕ
 count_of rows = sum_by (λ row. row.count) (rows_held rows)
 
--- no more looks than so many
+-- at most so many visits
 pub record LooksUpTo (looks before after : ℕ) : Type 0 where
   pub most : after ≤ before + looks
   pub least : before ≤ after
@@ -101,7 +101,7 @@ abbrev pub unfixed_limits : (FlowRow → List ℕ) → Option FlowRow → List �
 unfixed_limits limits None = []
 unfixed_limits limits (Some row) = if is_none row.level then limits row else []
 
--- the same rows, but for their levels and shares
+-- the same rows, except for their levels and shares
 abbrev pub SameRows : List (Option FlowRow) → List (Option FlowRow) → Type 0
 SameRows old new = (key : ℕ) → option_map without_share (slice_index_or new key None) ≡ option_map without_share (slice_index_or old key None)
 
@@ -113,7 +113,7 @@ AreRowLevels capacities uses rows = (key : ℕ) (row : FlowRow) → slice_index_
 abbrev pub AreRowShares : List (Option FlowRow) → Type 0
 AreRowShares rows = (key : ℕ) (row : FlowRow) → slice_index_or rows key None ≡ Some row → row.share ≡ share_by_level row
 
--- where filling stands after so many steps: each row is as fixed as its flow
+-- the max-min solve after so many steps: each row is as fixed as its flow
 abbrev pub AreFixed : List (Option Use) → List (Option FlowRow) → Fixed → Type 0
 AreFixed uses rows fixed = (key : ℕ) (row : FlowRow) → slice_index_or rows key None ≡ Some row → row.level ≡ fixed (flow_of uses row)
 

@@ -6,7 +6,7 @@ use Rattle.sg_maxmin.specs.declared.flow_row.FlowRow.{FlowRow}
 abbrev pub row_at : List (Option FlowRow) → ℕ → Option FlowRow
 row_at rows id = slice_index_or rows id None
 
--- the row under a number, where there is one, becomes another, and the others stay
+-- the row under a number, if there is one, becomes another, and the others stay
 pub record ChangesRow (id : ℕ) (change : FlowRow → FlowRow) (old new : List (Option FlowRow)) : Type 0 where
   pub changed : row_at new id ≡ option_map change (row_at old id)
   pub others : (other : ℕ) → other ≢ id → row_at new other ≡ row_at old other

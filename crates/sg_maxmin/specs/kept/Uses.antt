@@ -33,7 +33,8 @@ pub record AreRows (capacities : List ℕ) (rows : List (Option FlowRow)) (uses 
   pub flows : (id : ℕ) (row : FlowRow) → slice_index_or rows id None ≡ Some row → IsFlow capacities (flow_of uses row)
   pub bounds_fit : (id : ℕ) (row : FlowRow) → slice_index_or rows id None ≡ Some row → IfSome row.bound (λ bound. bound < 2 ^ 64)
 
--- the rows of a system and the chains of their uses, and for each resource a place in what is left of it and in the weights that wait there
+-- the rows of a system and the chains of their uses, and for each resource a place for what remains of it and for the weights that wait
+-- there
 pub record IsKept (capacities : List ℕ) (rows : List (Option FlowRow)) (chains : Chained) (left waiting : List ℕ) : Type 0 where
   pub are_rows : AreRows capacities rows chains.uses
   pub both : AreBothWays (flows_of rows chains.uses) chains.users
@@ -45,7 +46,7 @@ pub record IsKept (capacities : List ℕ) (rows : List (Option FlowRow)) (chains
 abbrev pub IsOneChain : ℕ → List (Option Use) → Option ℕ → Type 0
 IsOneChain n uses at = (id : ℕ) × IsChain id n uses at
 
--- a use, and the chain behind it
+-- a use, and the chain after it
 pub record GoesOn (n : ℕ) (uses : List (Option Use)) (at : Option ℕ) (one : Use) : Type 0 where
   pub chain : IsOneChain (n - 1) uses one.next_of_flow
   pub list : resources n uses at ≡ one.resource ∷ resources (n - 1) uses one.next_of_flow

@@ -1,29 +1,38 @@
 -- Of each key the first row with that key.
-use Rattle.std.specs.Prelude.{◌≡◌, ℕ, List, Option, None, slice_index_or}
+use Rattle.std.specs.Prelude.{◌≡◌, ◌==◌, ◌&&◌, ℕ, Bool, true, false, List, Option, None, slice_index_or}
+use Rattle.std.specs.Bool.{beq}
+use Rattle.std.specs.HashMap.{HashMap, get}
 use Rattle.std.specs.List.{position_from}
-use Rattle.std.specs.BTreeMap.{BTreeMap, get}
-use Rattle.std.specs.declared.cmp.Ordering.{Ordering}
-use Rattle.sg_base.specs.contracts.ids.ChildOrd.TheImpl as child_ord
 use Rattle.sg_base.specs.declared.ids.Child.{Child}
 use Rattle.sg_base.specs.declared.ids.Child.TheVariants.{Point, Zone}
 use Rattle.sg_rows.specs.declared.rows.SpokeRow.{SpokeRow}
-use Rattle.sg_route.specs.contracts.locals.PairOrd.TheImpl as pair_ord
 use Rattle.sg_route.specs.declared.locals.Local.{Local}
 use Rattle.sg_route.specs.declared.locals.Pair.{Pair}
 use Rattle.sg_route.specs.declared.spokes.RowsByChild.{RowsByChild}
-use Rattle.sg_route.specs.Equal.{child_eq, pair_eq}
+use Rattle.sg_route.specs.Equal.{child_eq, child_pair_eq}
 
-abbrev pub child_cmp : Child → Child → Ordering
-child_cmp = (child_ord.ghosts).cmp
+-- of a child whether it is a zone, and its number
+abbrev pub ChildKey : Type 0
+ChildKey = Bool × ℕ
 
-abbrev pub pair_cmp : Pair → Pair → Ordering
-pair_cmp = (pair_ord.ghosts).cmp
+abbrev pub child_key : Child → ChildKey
+child_key (Point point) = (false, point.0)
+child_key (Zone zone) = (true, zone.0)
 
--- of each pair the first row, where the rows are numbered from this number on
-abbrev pub PairsFrom : ℕ → BTreeMap Pair ℕ → List Local → Type 0
-PairsFrom first at rows = (pair : Pair) → get pair_cmp at pair ≡ position_from (λ l. pair_eq pair l.pair) first rows
+abbrev pub pair_key : Pair → ChildKey × ChildKey
+pair_key pair = (child_key pair.from, child_key pair.to)
 
-abbrev pub IsIndexOfPairs : BTreeMap Pair ℕ → List Local → Type 0
+abbrev pub child_key_eq : ChildKey → ChildKey → Bool
+child_key_eq a b = beq a.0 b.0 && a.1 == b.1
+
+abbrev pub pair_key_eq : ChildKey × ChildKey → ChildKey × ChildKey → Bool
+pair_key_eq a b = child_key_eq a.0 b.0 && child_key_eq a.1 b.1
+
+-- of each pair the first row, if the rows are numbered from this number on
+abbrev pub PairsFrom : {S : Type 0} → ℕ → HashMap (ChildKey × ChildKey) ℕ S → List Local → Type 0
+PairsFrom first at rows = (pair : Pair) → get pair_key_eq at (pair_key pair) ≡ position_from (λ l. child_pair_eq pair l.pair) first rows
+
+abbrev pub IsIndexOfPairs : {S : Type 0} → HashMap (ChildKey × ChildKey) ℕ S → List Local → Type 0
 IsIndexOfPairs at rows = PairsFrom 0 at rows
 
 -- the row under a child, if there is one

@@ -1,8 +1,8 @@
--- What is kept of a route while it is gone along.
+-- What is kept of a route while it is followed.
 use Rattle.std.specs.Prelude.{◌≡◌, Bool, true, ◌==◌, if◌then◌else◌, List, [], ◌∷◌, ◌++◌, length, Option, None, Some, Result, Ok, Err}
 use Rattle.sg_base.specs.declared.ids.LinkId.{LinkId}
 use Rattle.sg_route.specs.DistinctLinks.{is_among}
-use Rattle.sg_route.specs.Route.{Passage, Way}
+use Rattle.sg_route.specs.Route.{Passage, RouteLinks}
 use Rattle.sg_route.specs.declared.leg.Leg.{Leg}
 
 -- at most 64 links, and whether one more was met
@@ -21,11 +21,11 @@ keep_all kept [] = kept
 keep_all kept (link ∷ rest) = keep_all (keep_one kept link) rest
 
 -- what a walk has kept, or what was missing on it
-abbrev pub KeepsWay : Way → Result (Unit {0}) Leg → Kept → Kept → Type 0
+abbrev pub KeepsWay : RouteLinks → Result (Unit {0}) Leg → Kept → Kept → Type 0
 KeepsWay (Ok links) result old new = (result ≡ Ok tt) × (new ≡ keep_all old links)
 KeepsWay (Err missing) result old new = result ≡ Err missing
 
 -- the links of a local route that begins and ends at the points themselves, or the leg that has none
-abbrev pub path_way : Leg → Option Passage → Way
+abbrev pub path_way : Leg → Option Passage → RouteLinks
 path_way leg None = Err leg
 path_way leg (Some passage) = Ok passage.links

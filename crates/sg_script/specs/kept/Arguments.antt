@@ -3,7 +3,7 @@ use Rattle.std.specs.Prelude.{◌≡◌, ℕ, List, [], ◌∷◌}
 use Rattle.sg_script.specs.declared.words.Arguments.{Arguments}
 use Rattle.sg_script.specs.declared.words.Arguments.TheVariants.{Zero, One, Two, Three, More}
 
--- the first four words, where there are so many
+-- the first four words, if there are so many
 pub record HasFour (words : List (List ℕ)) : Type 0 where
   pub first : List ℕ
   pub second : List ℕ

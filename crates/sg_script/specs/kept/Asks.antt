@@ -1,4 +1,4 @@
--- What an Ask stands on, and what keeps to the limits behind it.
+-- What a fetch stands on, and what keeps to the limits after it.
 use Rattle.std.specs.Prelude.{◌≡◌, ◌<◌, ◌≤◌, ℕ, [], length, take, true, IfSome, Option, Result}
 use Rattle.std.specs.List.{list_all}
 use Rattle.sg_base.specs.declared.call.Action.{Action}
@@ -41,13 +41,13 @@ pub record IsIdle (deployed : Deployed) (actor : ℕ) (kept : Kept) : Type 0 whe
   pub ready : IsReady deployed actor kept
   pub empty : waits (members_of deployed) kept.queues actor ≡ []
 
--- an answer, where there is one, and the lines that wait keep to the limits
+-- an answer, if there is one, and the lines that wait keep to the limits
 pub record KeepsLimitsIf (deployed : Deployed) (answer : Option (Result (Option Action) ScriptFault))
     (kept : Kept) : Type 0 where
   pub limited : IfSome answer (IsLimited (extent_of deployed))
   pub waiting : AreLimited (extent_of deployed) kept
 
--- what an Ask did, which keeps to the limits; other parts stay as they were
+-- what a fetch did, which keeps to the limits; other parts stay as they were
 pub record IsAnswered (deployed : Deployed) (actor : ℕ)
     (answer : Result (Option Action) ScriptFault) (old_parts new_parts : Part → PartView)
     (old new : Kept) : Type 0 where

@@ -4,7 +4,7 @@ use Rattle.std.specs.List.{list_all, position}
 use Rattle.sg_edge.specs.declared.files.Stage.{Stage}
 use Rattle.sg_edge.specs.declared.files.Stage.TheVariants.{Begun, Over, Broken as IsBroken}
 use Rattle.sg_script.specs.declared.line.Entry.{Entry}
-use Rattle.sg_script.specs.Known.{Known}
+use Rattle.sg_script.specs.Known.{ScriptNames}
 use Rattle.sg_script.specs.Needed.{need_from, own_actions}
 use Rattle.sg_script.specs.Rest.{May}
 use Rattle.sg_script.specs.Answer.{is_newline, is_last_line, judgement_of, judgements}
@@ -12,9 +12,9 @@ use Rattle.sg_script.specs.Line.{is_plain, Judgement}
 use Rattle.sg_script.specs.declared.front.Front.{Front}
 use Rattle.sg_script.specs.declared.front.Front.TheVariants.{Line, Unread, End, Broken}
 
--- the first line is judged as these bytes of it are; where it is good or passed over, the others
--- are those behind it
-pub record Leads (known : Known) (before : ℕ) (bytes : List ℕ) (len end : ℕ) (rest : List ℕ)
+-- the first line is judged as these bytes of it are; if it is good or skipped, the others are
+-- those after it
+pub record Leads (known : ScriptNames) (before : ℕ) (bytes : List ℕ) (len end : ℕ) (rest : List ℕ)
     (broken : Bool) : Type 0 where
   pub others : List Judgement
   pub all : judgements known before (bytes ++ rest) broken
@@ -26,7 +26,7 @@ pub record Leads (known : Known) (before : ℕ) (bytes : List ℕ) (len end : �
       need_from known broken actor before (bytes ++ rest) (own_actions known actor said + later)
       ≡ end + need_from known broken actor (before + 1) (drop end bytes ++ rest) later
 
--- no line is whole, and none is bad however it goes on
+-- no line is whole, and none is bad however it continues
 pub record IsOpen (before : ℕ) (bytes : List ℕ) : Type 0 where
   pub unended : position is_newline bytes ≡ None
   pub short : length bytes ≤ 4096
@@ -34,7 +34,7 @@ pub record IsOpen (before : ℕ) (bytes : List ℕ) : Type 0 where
 
 abbrev pub FrontIs : Stage → ℕ → List ℕ → Front → Type 0
 FrontIs stage before bytes (Line len end) = (len ≤ end) × (end ≤ length bytes) × (0 < end)
-    × ((known : Known) (rest : List ℕ) (broken : Bool) → May stage rest broken →
+    × ((known : ScriptNames) (rest : List ℕ) (broken : Bool) → May stage rest broken →
     Leads known before bytes len end rest broken)
 FrontIs stage before bytes Unread = (stage ≡ Begun) × IsOpen before bytes
 FrontIs stage before bytes End = (stage ≡ Over) × (bytes ≡ [])

@@ -35,7 +35,7 @@ with_line actor operation queues =
 abbrev pub AreOperations : Extent → List Waiting → Type 0
 AreOperations extent lines = All (λ line. IsOperation extent line.operation) lines
 
--- where the members exist and the lines keep to the limits, so do the action that was taken and the
+-- if the members exist and the lines keep to the limits, so do the action that was taken and the
 -- lines that are left
 abbrev pub KeepsOperations : List ActorId → List Waiting → Option Action → List Waiting → Type 0
 KeepsOperations members old first new = (extent : Extent) → All (IsActorIn extent) members →

@@ -1,4 +1,4 @@
--- The actions behind the usual ones.
+-- The actions after the usual ones.
 use Rattle.std.specs.Prelude.{ℕ, List, bytes_eq, drop, Option, option_map}
 use Rattle.std.specs.List.{find}
 use Rattle.sg_script.specs.declared.verbs.Verb.{Verb}

@@ -1,9 +1,9 @@
--- The steps by which an Ask is answered: taking a line, and reading a piece.
+-- The steps by which a fetch is answered: taking a line, and reading a piece.
 use Rattle.std.specs.Prelude.{◌≡◌, ℕ, Bool, ◌+◌, ◌-◌, ◌++◌, List, [], length, Option, Result, ◌≢◌, ◌<◌, suc, Ok, Err, ◌≤◌, ◌*◌, slice_set, None, Some, drop, IfNone, ⊤}
 use Rattle.sg_edge.specs.Files.{PartView}
 use Rattle.sg_edge.specs.declared.files.Stage.{Stage}
 use Rattle.sg_base.specs.declared.call.Action.{Action}
-use Rattle.sg_script.specs.Known.{Known}
+use Rattle.sg_script.specs.Known.{ScriptNames}
 use Rattle.sg_script.specs.declared.fault.ScriptFault.{ScriptFault}
 use Rattle.sg_script.specs.Rest.{May}
 use Rattle.sg_script.specs.kept.Queues.{queue_at, waits, with_first, with_line}
@@ -16,15 +16,15 @@ use Rattle.sg_script.specs.Stands.{Kept, answer_from, one_more, Reads, IsRead}
 use Rattle.sg_script.specs.kept.Spending.{IsThrifty, Spends}
 
 -- reading this piece, and moving lines into queues, changed no answer
-abbrev pub Moves : Known → Stage → List ℕ → Kept → Kept → Type 0
+abbrev pub Moves : ScriptNames → Stage → List ℕ → Kept → Kept → Type 0
 Moves known stage piece old new = (rest : List ℕ) (broken : Bool) → May stage rest broken →
     (actor later : ℕ) →
     answer_from known old (piece ++ rest) broken actor later
     ≡ answer_from known new rest broken actor later
 
--- after this piece was read an Ask of an actor has this answer; the later Asks have their
--- answers by what is kept then
-pub record Tells (known : Known) (actor : ℕ) (answer : Result (Option Action) ScriptFault)
+-- after this piece was read an actor's fetch has this answer; the later ones have their answers by
+-- what is kept then
+pub record Tells (known : ScriptNames) (actor : ℕ) (answer : Result (Option Action) ScriptFault)
     (stage : Stage) (piece : List ℕ) (old new : Kept) : Type 0 where
   pub now : (rest : List ℕ) (broken : Bool) → May stage rest broken →
       answer_from known old (piece ++ rest) broken actor 0 ≡ answer
@@ -35,15 +35,15 @@ pub record Tells (known : Known) (actor : ℕ) (answer : Result (Option Action) 
       other ≢ actor → answer_from known old (piece ++ rest) broken other later
       ≡ answer_from known new rest broken other later
 
--- no Ask of any actor, and one of this actor
+-- no fetch of any actor, and one of this actor
 abbrev pub no_ask : ℕ → ℕ
 no_ask other = 0
 
 abbrev pub one_ask : ℕ → ℕ → ℕ
 one_ask actor = one_more actor no_ask
 
--- for an Ask of this actor the script goes on as it was, but for what was read
-pub record Goes (known : Known) (actor : ℕ) (old_part new_part : PartView)
+-- for this actor's fetch the script continues as it was, except for what was read
+pub record Goes (known : ScriptNames) (actor : ℕ) (old_part new_part : PartView)
     (old new : Kept) : Type 0 where
   pub piece : List ℕ
   pub reads : Reads piece old_part new_part
@@ -52,8 +52,8 @@ pub record Goes (known : Known) (actor : ℕ) (old_part new_part : PartView)
   pub moves : Moves known new_part.stage piece old new
   pub queues : length new.queues ≡ length old.queues
 
--- a piece was read, and the Ask has this answer
-pub record Answers (known : Known) (actor : ℕ) (answer : Result (Option Action) ScriptFault)
+-- a piece was read, and the fetch has this answer
+pub record Answers (known : ScriptNames) (actor : ℕ) (answer : Result (Option Action) ScriptFault)
     (old_part new_part : PartView) (old new : Kept) : Type 0 where
   pub piece : List ℕ
   pub reads : Reads piece old_part new_part
@@ -62,8 +62,8 @@ pub record Answers (known : Known) (actor : ℕ) (answer : Result (Option Action
   pub tells : Tells known actor answer new_part.stage piece old new
   pub queues : length new.queues ≡ length old.queues
 
--- without memory no Ask was answered and no byte is lost
-abbrev pub Ends : Known → ℕ → Result (Option Action) ScriptFault → PartView → PartView → Kept → Kept
+-- memory ran out: no fetch was answered and no byte is lost
+abbrev pub Ends : ScriptNames → ℕ → Result (Option Action) ScriptFault → PartView → PartView → Kept → Kept
     → Type 0
 Ends known actor (Ok answer) = Answers known actor (Ok answer)
 Ends known actor (Err (Line n kind)) = Answers known actor (Err (Line n kind))
@@ -82,8 +82,8 @@ once Broken = 0
 abbrev pub to_do : Stage → Kept → ℕ
 to_do stage kept = (100000000 - kept.lines) * 20000 + (8192 - length kept.pending) + once stage
 
--- what a step did: without an answer it went on, and less is to do
-abbrev pub StepIs : Known → ℕ → Option (Result (Option Action) ScriptFault) → PartView → PartView →
+-- what a step did: without an answer it continued, and less remains to do
+abbrev pub StepIs : ScriptNames → ℕ → Option (Result (Option Action) ScriptFault) → PartView → PartView →
     Kept → Kept → Type 0
 StepIs known actor None old_part new_part old new = Goes known actor old_part new_part old new
     × (waits known.members new.queues actor ≡ [])
@@ -118,7 +118,7 @@ LineIs said end (Some Read) old new = ⊥
 LineIs said end (Some Memory) old new = new ≡ old
 
 -- the first action that waits for an actor was taken, if one does
-pub record Pops (known : Known) (actor : ℕ) (first : Option Action) (old new : Kept) : Type 0 where
+pub record Pops (known : ScriptNames) (actor : ℕ) (first : Option Action) (old new : Kept) : Type 0 where
   pub first_is : waits known.members old.queues actor
       ≡ with_first first (waits known.members new.queues actor)
   pub empty : IfNone first (waits known.members old.queues actor ≡ [])
@@ -126,8 +126,8 @@ pub record Pops (known : Known) (actor : ℕ) (first : Option Action) (old new :
   pub lines : new.lines ≡ old.lines
   pub pending : new.pending ≡ old.pending
 
--- what a line did for an Ask: it was taken, and then the first action that waits for the actor
-abbrev pub LineTells : Known → Judgement → ℕ → ℕ → Option (Result (Option Action) ScriptFault) →
+-- what a line did for a fetch: it was taken, and then the first action that waits for the actor
+abbrev pub LineTells : ScriptNames → Judgement → ℕ → ℕ → Option (Result (Option Action) ScriptFault) →
     Kept → Kept → Type 0
 LineTells known said end actor None old new = (mid : Kept) × LineIs said end None old mid
     × Pops known actor None mid new

@@ -8,13 +8,13 @@ use Rattle.sg_states.specs.Actors.{is_answered, is_over, is_ready, put_actor, st
 use Rattle.sg_states.specs.Queue.{is_ready_in, IsIdOf, IsQueue}
 use Rattle.sg_states.specs.kept.Waiting.{AreWaiting}
 
--- just who is to take a turn, each once, in any order: whom a pass has answered so far
+-- just who is to take a turn, each once, in any order: whom a time advance has answered so far
 pub record HasAnswered (actors : List Actor) (queue : List ActorId) : Type 0 where
   pub ids : All (IsIdOf actors) queue
   pub once : (id : ℕ) → 0 < id → count_by (λ (actor : ActorId). actor.0 == id) queue ≡ (if is_ready_in actors id then 1 else 0)
   pub number : length queue ≡ count_by is_ready actors
 
--- the run queue in a pass, and in a round
+-- the run queue during a time advance, and in a scheduling round
 abbrev pub IsQueued : Bool → List Actor → List ActorId → Type 0
 IsQueued true actors queue = HasAnswered actors queue
 IsQueued false actors queue = IsQueue actors queue
@@ -35,23 +35,23 @@ pub record HasBecome (passing : Bool) (actors : List Actor) (actor : ActorId) (n
   pub queued : IsQueued passing (put_actor actors actor.0 next) new.items
   pub capacity : vec_capacity new ≡ vec_capacity old
 
--- what the actors do, and whether a pass goes on
+-- what the actors do, and whether a time advance is running
 pub record Standing : Type 0 where
   pub actors : List Actor
   pub passing : Bool
 
--- between passes, there is such an actor
+-- between time advances, there is such an actor
 pub record CanPut (standing : Standing) (one : ℕ) : Type 0 where
   pub actor : IsActor standing.actors one
   pub round : standing.passing ≡ false
 
--- between passes, an actor has an answer
+-- between time advances, an actor has an answer
 pub record CanAnswer (standing : Standing) (one : ℕ) : Type 0 where
   pub actor : IsActor standing.actors one
   pub answered : IsTrue (is_answered (state_at standing.actors one))
   pub round : standing.passing ≡ false
 
--- how many actors are ready and how many are over, and for how many there is room in the queue and among the joiners
+-- how many actors are ready, how many have ended, and for how many the queue and the list of joiners have room
 pub record Counts : Type 0 where
   pub ready : ℕ
   pub over : ℕ

@@ -2,7 +2,7 @@
 use Rattle.std.specs.Prelude.{◌≡◌, ℕ, ◌+◌, ◌≤◌, length}
 use Rattle.sg_sync.specs.Queues.{Waiting}
 
--- A queue for each mutex and semaphore, and one for the barrier, of the same actors; and room to tell all that wait there.
+-- A queue for each mutex and semaphore, and one for the barrier, of the same actors; and room to list all that wait there.
 pub record IsKept (locks acquires arrivals : Waiting) (mutexes semaphores room : ℕ) : Type 0 where
   pub locking : length locks.queues ≡ mutexes
   pub acquiring : length acquires.queues ≡ semaphores

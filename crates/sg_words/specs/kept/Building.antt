@@ -18,6 +18,6 @@ IsLocal command = (out-Command command).has_globals ≡ false
 abbrev pub IsCommand : App → Command → Type 0
 IsCommand app command = (app_of command ≡ app) × IsLocal command
 
--- where there was memory, this command was built
+-- if there was memory, this command was built
 abbrev pub Builds : App → Result Command AllocError → Type 0
 Builds app result = IfOk result (IsCommand app)

@@ -15,7 +15,7 @@ use Rattle.sg_words.specs.CommandLine.{Asked, Request}
 use Rattle.simgrid_replay.specs.PartOrder.{IsTextBroken}
 use Rattle.simgrid_replay.specs.PartSources.{IsNamedBy, TextsGive}
 use Rattle.simgrid_replay.specs.Contexts.{TakesFirst, TakesFront}
-use Rattle.simgrid_replay.specs.Outcome.{Outcome, Prints, is_cut, is_refusal}
+use Rattle.simgrid_replay.specs.Outcome.{Outcome, Prints, cuts_output_short, is_refusal}
 use Rattle.simgrid_replay.specs.Settings.{platform_given, setting}
 use Rattle.simgrid_replay.specs.Requests.{has_script}
 use Rattle.simgrid_replay.specs.declared.refusal.Refusal.{Refusal}
@@ -31,12 +31,13 @@ pub record IsStart {A : Type 0} (shows : Part → PartView) (mind : A → Option
 abbrev pub IsCallCause : Status → ℕ → ℕ → Type 0 → Type 0
 IsCallCause how had faults broke = HasCause (how ≡ status.WriteFault) (how ≡ status.ReadFault) had faults broke
 
--- of a crew of so many contexts so many are left: the call took as many as its outcome takes, or was cut off and took no more
+-- of so many contexts in the pool so many remain: the call took as many as its outcome takes, or was cut off and took
+-- no more
 abbrev pub LeavesContexts : ℕ → Status → ℕ → ℕ → Type 0
-LeavesContexts want how crew left = MatchBool (is_cut how) (crew ≤ left + want) (crew ≡ left + want)
+LeavesContexts want how crew left = MatchBool (cuts_output_short how) (crew ≤ left + want) (crew ≡ left + want)
 
--- What a call has come to: it printed its outcome, with no more looks than its work, so many contexts of the crew left, and
--- less than a piece more of the script taken than its Asks need.
+-- The result of a call: it printed its outcome, with no more visits than its work, so many contexts left in the pool,
+-- and less than a piece more of the script taken than its fetches need.
 pub record ComesTo (want : Outcome) (how : Status) (old new : Stream → Option (List ℕ)) (crew left start count : ℕ) (before after : Part → PartView) : Type 0 where
   pub prints : Prints want how old new
   pub counts : count ≤ start + want.work
@@ -54,17 +55,17 @@ IsOfPlatform (refusal.Zones fault) = ⊤
 IsOfPlatform refusal.ReadPlatform = ⊤
 IsOfPlatform other = ⊥
 
--- a failed read, told for its part
+-- a failed read, reported for its part
 abbrev pub IsReadFault : Refusal → Type 0
 IsReadFault refusal.ReadPlatform = ⊤
 IsReadFault refusal.ReadDeployment = ⊤
 IsReadFault other = ⊥
 
--- neither of these: a refusal of the deployment, or want of memory
+-- neither of these: a refusal of the deployment, or out of memory
 abbrev pub IsOfDeployment : Refusal → Type 0
 IsOfDeployment why = (¬ IsOfPlatform why) × (¬ IsReadFault why)
 
--- What is known of the parts, before the script is begun, whether they tell their bytes or not.
+-- What is known of the parts, before the script is begun, whether their contents are known or not.
 pub record AreRead (result : Result Setup Refusal) (old new : Part → PartView) : Type 0 where
   pub unbegun : new part.Script ≡ old part.Script
   pub platform_first : (new part.Platform).stage ≡ Broken → new part.Deployment ≡ old part.Deployment
@@ -73,21 +74,21 @@ pub record AreRead (result : Result Setup Refusal) (old new : Part → PartView)
   pub deployment_whole : IsOk result → (new part.Deployment).stage ≢ Broken
   pub cause : IfErr result (λ why. IsReadFault why → SomeBroke old new)
 
--- Where what the platform gave is refused, no deployment is begun behind it, and what is read from parts has no setup.
+-- If what the platform gave is refused, no deployment is begun after it, and what is read from parts has no setup.
 pub record PlatformDecides (parts : Bool) (result : Result Setup Refusal) (old new : Part → PartView) : Type 0 where
   pub refused : (p : Source) → Gives (old part.Platform) (new part.Platform) p → IsErr (platform_given p) → IsOk result → parts ≡ false
   pub behind : (p : Source) → Gives (old part.Platform) (new part.Platform) p → IsErr (platform_given p) → new part.Deployment ≡ old part.Deployment
 
--- Of all parts the script alone was begun and read, and without a script none; it was begun under its name, and where it
--- tells its bytes it still does.
+-- Of all parts the script alone was begun and read, and without a script none; it was begun under its name, and if its
+-- contents were known they still are.
 pub record BeginsScript {F : Type 0} (shows : F → Part → PartView) (request : Request) (old new : F) : Type 0 where
   pub others : Only part.Script (shows old) (shows new)
   pub unscripted : has_script request ≡ false → new ≡ old
   pub named : IsNamedBy request part.Script (shows new part.Script)
   pub telling : KeepsTelling (shows old part.Script) (shows new part.Script)
 
--- What a job's call has done to the contexts: its run has taken the first of them, and where it is refused, or a part
--- that comes before the run is broken, nobody has.
+-- What a job's call has done to the contexts: its run has taken the first of them; if it is refused, or an input stream
+-- before the run is broken, no actor has one.
 pub record SeatsJob {A : Type 0} (job : Asked) (how : Status) (old new : Part → PartView) (had has : List A) : Type 0 where
   pub first : (p d : Source) → TextsGive job.request old new p d → TakesFirst (setting job.request (length had) p d) how had has
   pub refused : IsTrue (is_refusal how) → has ≡ had

@@ -1,4 +1,4 @@
--- What the real parts show: no bytes, and one fault where a call failed.
+-- What the real parts show: no bytes, and one fault if a call failed.
 use Rattle.std.specs.Prelude.{◌≡◌, ℕ, List, Bool, true, false, None, codes, refl}
 use Rattle.std.specs.Str.{bytes_eq}
 use Rattle.sg_edge.specs.declared.files.Part.{Part}

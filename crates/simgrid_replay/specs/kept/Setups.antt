@@ -12,7 +12,7 @@ use Rattle.simgrid_replay.specs.declared.refusal.Refusal.TheVariants as refusal
 abbrev pub setting_in : Setup → Setting
 setting_in setup = record { platform = setup.platform; deployment = setup.deployment }
 
--- a setup of what is to be run, or the refusal of it, or memory was wanting
+-- a setup of what is to be run, or the refusal of it, or memory ran out
 abbrev pub IsSetupOf : Result Setting Refusal → Result Setup Refusal → Type 0
 IsSetupOf given (Ok setup) = given ≡ Ok (setting_in setup)
 IsSetupOf given (Err why) = why ≢ refusal.Memory → given ≡ Err why

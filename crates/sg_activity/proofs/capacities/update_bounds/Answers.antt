@@ -6,7 +6,7 @@ use Rattle.sg_chains.specs.Chained.{users_on}
 use Rattle.sg_chains.specs.declared.uses.Use.{Use}
 use Rattle.sg_chains.specs.Walk.{next_on, user_of}
 use Rattle.sg_levels.proofs.Walked.{can_look, looked, walk_on, nearer, walked}
-use Rattle.sg_activity.specs.declared.kept.Kept.{Kept}
+use Rattle.sg_activity.specs.declared.activity_state.Kept.{Kept}
 use Rattle.sg_activity.specs.kept.Bounds.{Rebounds}
 use Rattle.sg_activity.specs.kept.Rows.{Indexed}
 use Rattle.sg_activity.proofs.Bounds.{rebound_on, flows_still}
@@ -16,7 +16,7 @@ use Rattle.sg_activity.proofs.capacities.update_bounds.Goals as goal
 index_same : (old new : Kept) (keys : List ℕ) → Rebounds old new keys → new.index ≡ old.index
 index_same old new keys by = ap (λ (k : Kept). k.index) by.rest
 
--- so what is looked at stood there at first
+-- so what is visited stood there at first
 there : (old new : Kept) (keys : List ℕ) (i : ℕ) (one : Use) → Rebounds old new keys → get_or new.index.uses i None ≡ Some one → get_or old.index.uses i None ≡ Some one
 there old new keys i one by is = ap (λ (x : Indexed). get_or x.uses i None) (sym (index_same old new keys by)) ∙ is
 

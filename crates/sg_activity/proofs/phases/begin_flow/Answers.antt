@@ -6,7 +6,7 @@ use Rattle.sg_maxmin.specs.Fill.{Flow, flow}
 use Rattle.sg_maxmin.specs.Sharing.{IsFlow}
 use Rattle.sg_lazy.specs.Lazily.{Lazily}
 use Rattle.sg_lazy.specs.RunningFlow.{RunningFlow}
-use Rattle.sg_activity.specs.declared.kept.Kept.{Kept}
+use Rattle.sg_activity.specs.declared.activity_state.Kept.{Kept}
 use Rattle.sg_lives.specs.declared.kinds.PhaseKind.TheVariants as phase
 use Rattle.sg_lives.specs.declared.lives.Live.{Live}
 use Rattle.sg_activity.specs.Links.{capacities_of, route_bound, shared_of}
@@ -32,7 +32,7 @@ use Rattle.sg_activity.proofs.Listing.{eq_cases}
 use Rattle.sg_activity.proofs.Starts.{set_here, set_there}
 use Rattle.sg_activity.proofs.phases.begin_flow.Goals as goal
 
--- the way of a latency, and its ends
+-- the route of a latency, and its ends
 path_of : (kept : Kept) (key : ℕ) (live : Live) → IsSound kept → get_or kept.lives.slots key None ≡ Some live → live.kind ≡ phase.Latency → IsPath (state_of kept).capacities (record { links = links_at (ways_of kept) key; sender = live.host; receiver = live.peer })
 path_of kept key live sound at latency =
     subst (λ k. IsPlace (state_of kept).capacities (place_of k live.host live.peer (links_at (ways_of kept) key))) latency (sound.are.each key live at).placed
@@ -40,7 +40,7 @@ path_of kept key live sound at latency =
 way_of : (kept : Kept) (key : ℕ) (live : Live) → IsSound kept → get_or kept.lives.slots key None ≡ Some live → live.kind ≡ phase.Latency → IsWay (state_of kept).capacities (links_at (ways_of kept) key)
 way_of kept key live sound at latency = (path_of kept key live sound at latency).links
 
--- the way of a latency can be read
+-- the route of a latency can be read
 row_of : (kept : Kept) (key : ℕ) (live : Live) → IsSound kept → IsUsed kept kept.index → get_or kept.lives.slots key None ≡ Some live → live.kind ≡ phase.Latency → IsWayRow (length kept.hosts.items) (row_at kept.index.rows key)
 row_of kept key live sound used at latency =
     place_row (state_of kept).capacities (row_at kept.index.rows key) (place_of live.kind live.host live.peer (links_at (ways_of kept) key)) (record { links = links_at (ways_of kept) key; sender = live.host; receiver = live.peer })

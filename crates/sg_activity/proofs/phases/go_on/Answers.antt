@@ -7,7 +7,7 @@ use Rattle.sg_lazy.specs.Lazily.{Lazily}
 use Rattle.sg_lazy.specs.RunningFlow.{RunningFlow}
 use Rattle.sg_lives.specs.declared.kinds.HostCap.{HostCap}
 use Rattle.sg_lives.specs.declared.kinds.PhaseKind.TheVariants as phase
-use Rattle.sg_activity.specs.declared.kept.Kept.{Kept}
+use Rattle.sg_activity.specs.declared.activity_state.Kept.{Kept}
 use Rattle.sg_lives.specs.declared.lives.Live.{Live}
 use Rattle.sg_activity.specs.Hosts.{host_at}
 use Rattle.sg_lives.specs.Slots.{sooner}
@@ -25,7 +25,7 @@ use Rattle.sg_activity.proofs.Turned.{turned}
 use Rattle.sg_activity.proofs.Turning.{begun_state, flow_turns, resumed_begins, resumed_under, state_same}
 use Rattle.sg_activity.proofs.phases.go_on.Goals as goal
 
--- the host of an execution that is held
+-- the host of a suspended execution
 host_there : (kept : Kept) (key : ℕ) (live : Live) → IsSound kept → slot_at kept.lives.slots key ≡ Some live → live.kind ≡ phase.Kept → live.host < length kept.hosts.items
 host_there kept key live sound at held = subst (λ k. IsPlace (state_of kept).capacities (place_of k live.host live.peer (links_at (ways_of kept) key))) held (sound.are.each key live at).placed
 

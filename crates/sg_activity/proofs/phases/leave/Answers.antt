@@ -13,7 +13,7 @@ use Rattle.sg_activity.proofs.Roomy.{ahead_counted, uses_counted}
 use Rattle.sg_activity.proofs.Ending.{Goes, ends_from}
 use Rattle.sg_activity.proofs.Turning.{with_flow, without, ended_filled, ended_unfilled}
 use Rattle.std.proofs.Common.{◌≤◌, ◌<◌, [], arith}
-use Rattle.sg_activity.specs.declared.kept.Kept.{Kept}
+use Rattle.sg_activity.specs.declared.activity_state.Kept.{Kept}
 use Rattle.sg_activity.specs.kept.Index.{IsIndexed}
 use Rattle.sg_activity.specs.kept.Rows.{IsRow}
 use Rattle.sg_activity.specs.kept.Hits.{AreHits}

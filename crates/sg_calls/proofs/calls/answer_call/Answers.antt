@@ -56,7 +56,7 @@ suspend-requires c = can_make c.args.fields.now c.args.actor.0 c.args.call (call
 pub resume-requires : goal.resume-requires
 resume-requires c = can_make c.args.fields.now c.args.actor.0 c.args.call (call.Resume c.in-Resume.target) c.in-Resume.is c.requires.answers c.if-fields.false
 
--- ---- sides
+-- ---- endpoints
 pub come-requires-clause-comes : goal.come-requires-clause-comes
 come-requires-clause-comes c =
     let makes = can_make c.args.fields.now c.args.actor.0 c.args.call (call.Send c.in-Send.mailbox c.in-Send.bytes c.in-Send.msg c.in-Send.rate) c.in-Send.is c.requires.answers c.if-fields.false in

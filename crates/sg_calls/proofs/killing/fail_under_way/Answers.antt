@@ -1,7 +1,7 @@
 use Rattle.std.proofs.Common.{◌-◌, length, set, get_or, sym, ap, subst, ◌∙◌, arith}
 use Rattle.std.proofs.lemmas.List.{length-set}
 use Rattle.sg_activity.specs.Doing.{Doing}
-use Rattle.sg_calls.specs.declared.fields.Fields.{Fields}
+use Rattle.sg_calls.specs.declared.simulation_state.Fields.{Fields}
 use Rattle.sg_owners.specs.declared.owners.How.TheVariants as how
 use Rattle.sg_owners.specs.declared.owners.Whose.TheVariants.{Over}
 use Rattle.sg_calls.specs.Answers.{answers}

@@ -5,7 +5,7 @@ use Rattle.sg_base.specs.declared.call.Answer.TheVariants as answer
 use Rattle.sg_requests.specs.Requested.{Requested}
 use Rattle.sg_states.specs.declared.state.State.TheVariants.{Ready, Blocked}
 use Rattle.sg_states.specs.States.{ActorStates}
-use Rattle.sg_calls.specs.declared.fields.Fields.{Fields}
+use Rattle.sg_calls.specs.declared.simulation_state.Fields.{Fields}
 use Rattle.sg_calls.specs.kept.Whole.{IsWholeFor}
 use Rattle.sg_calls.proofs.Limits.{date_below, states_tell}
 use Rattle.sg_calls.proofs.Meets.{AreMade, made_queued}

@@ -1,7 +1,7 @@
 use Rattle.std.proofs.Common.{◌≡◌, ℕ, ◌-◌, arith, ◌∙◌, length, ap, sym, subst}
 use Rattle.std.proofs.lemmas.List.{length-set}
 use Rattle.sg_requests.specs.Requested.{Requested, queues_without_oldest}
-use Rattle.sg_calls.specs.declared.fields.Fields.{Fields}
+use Rattle.sg_calls.specs.declared.simulation_state.Fields.{Fields}
 use Rattle.sg_calls.specs.kept.Whole.{CanStep}
 use Rattle.sg_calls.proofs.Meets.{AreMade, made_taken, made_oldest}
 use Rattle.sg_calls.proofs.meetings.wait.Goals as goal

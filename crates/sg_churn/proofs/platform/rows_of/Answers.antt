@@ -1,7 +1,7 @@
 use Rattle.std.proofs.Common.{◌+◌, ◌*◌, arith}
 use Rattle.sg_churn.proofs.Draws.{begins, drawn_here, host_drawn, link_drawn, next_drawn}
 use Rattle.sg_churn.proofs.NumberedRows.{pushed, pushed_behind}
-use Rattle.sg_churn.specs.Generated.{backbone, host_of, link_of, spoke_of}
+use Rattle.sg_churn.specs.Generated.{backbone, churn_host, link_of, spoke_of}
 use Rattle.sg_churn.proofs.platform.rows_of.Goals as goal
 
 pub loop-row-init : goal.loop-row-init
@@ -24,7 +24,7 @@ loop-row-preserved c =
     let latency = drawn_here seed (3 * row + 2) 100 _ _ third c.draw-latency.ensures.number in
     record {
       state = next_drawn seed (3 * row + 2) (3 * (row + 1)) _ _ (omega arith) third c.draw-latency.ensures.state;
-      hosts = pushed (host_of seed) row _ _ _ c.loop-row.invariant.hosts (host_drawn seed row _ _ c.in_ok-host_row.ensures speed) c.in_ok-push-2.ensures.items;
+      hosts = pushed (churn_host seed) row _ _ _ c.loop-row.invariant.hosts (host_drawn seed row _ _ c.in_ok-host_row.ensures speed) c.in_ok-push-2.ensures.items;
       links = pushed_behind backbone (link_of seed) row _ _ _ c.loop-row.invariant.links (link_drawn seed row _ _ _ c.in_ok-link_row.ensures bandwidth latency) c.in_ok-push-3.ensures.items;
       spokes = pushed spoke_of row _ _ _ c.loop-row.invariant.spokes c.in_ok-spoke_row.ensures c.in_ok-push-4.ensures.items;
     }

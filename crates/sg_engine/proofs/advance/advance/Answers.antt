@@ -25,7 +25,7 @@ use Rattle.sg_engine.specs.declared.simulation.Simulation.{Simulation}
 use Rattle.sg_engine.specs.kept.Invariant.{still_unstarted, unstarted, TakesCrew}
 use Rattle.sg_engine.proofs.advance.advance.Goals as goal
 
--- room for a round changes nothing of what comes next
+-- room for a scheduling round changes nothing of what comes next
 next_as : (old new : Known) (start count : ℕ) → new ≡ record old { room = new.room } → count ≤ start + next_work new.core → count ≤ start + next_work old.core
 next_as old new start count same worked =
     let next : next_work new.core ≡ next_work old.core = ap (λ (k : Known). next_work k.core) same in
@@ -34,7 +34,7 @@ next_as old new start count same worked =
 unstarted_as : (old new : Known) → new ≡ record old { room = new.room } → unstarted new.core ≤ unstarted old.core
 unstarted_as old new same = omega (arith, ap (λ (k : Known). unstarted k.core) same)
 
--- room for a round takes no context
+-- room for a scheduling round takes no context
 takes_as : {A : Type 0} (cut : Bool) (old new last : Simulation A) (room : Known) → room ≡ record old.kernel { room = room.room } → TakesCrew cut (record old { kernel = room }) new → last.crew.items ≡ new.crew.items → last.kernel.core ≡ new.kernel.core → TakesCrew cut old last
 takes_as cut old new last room same takes crew core = record {
   front = crew ∙ takes.front ∙ ap (λ n. take n old.crew.items) (sym (ap length crew));

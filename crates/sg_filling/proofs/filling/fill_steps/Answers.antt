@@ -100,7 +100,7 @@ loop-n-init g c =
       looks = omega arith;
     }
 
--- with its keys dated, a filling is at the level of its next step
+-- with its keys dated, a max-min solve is at the level of its next step
 at_low : (s : Sharing) (touched reached : List ℕ) → AreJoined s touched reached → (f : Filling) (keys : List (Option Key)) (n : ℕ) (low : Low) → HasPlaces s f → length keys ≡ length f.agenda →
     ((i : ℕ) → i < length touched → steps_from n s.capacities (flows_at s.slots touched) unfixed (flow_in s.slots (get_or touched i 0)) ≡ fixed_at f.fixed.items (get_or touched i 0)) → AreCounted s f.fixed.items touched f.left.items f.waiting.items (λ c. is_in c reached) → AreLevels reached f →
     AreDated reached (record f { agenda = keys }) → AreUnder s touched f → AreNoted s reached f → IsLow (Some low) (unfixed_limits s.slots f.fixed.items f.levels.items touched) (unfixed_bounds s.slots f.fixed.items touched) → AreTaken reached low (record f { agenda = keys }) → IsAtLevel s touched reached low (record f { agenda = keys })
@@ -258,7 +258,7 @@ returns-clause-idle g c =
     let inv = c.loop-n.invariant in
     idle_then c.args.system.now c.args.touched.now c.args.reached.now c.loop-n.filling inv.counted inv.dated (λ i h. subst IsSome (sym (returns-clause-fixed g c i h)) refl)
 
--- all looks are those of the beginning, and each row of a resource holds no more than those of its flows
+-- all visits are those of the beginning, and each row of a resource holds no more than those of its flows
 all_looks : (s : Sharing) (touched reached : List ℕ) → AreJoined s touched reached → (f : Filling) (x y : ℕ) → y ≤ x + 2 * unfixed_uses s.slots f.fixed.items touched + untaken s reached f → y ≤ x + 3 * lengths (uses_at s.slots) touched
 all_looks s touched reached joined f x y h =
     omega (arith, h, few_unfixed (uses_at s.slots) f.fixed.items touched, untaken_few s reached f, counts_twice_lem (uses_at s.slots) (users_on s.users) touched reached joined.part.sound.both joined.distinct joined.closed.covered)

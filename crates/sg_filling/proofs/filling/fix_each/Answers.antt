@@ -83,7 +83,7 @@ loop-k-preserved g c =
       count = record { counted = λ r h. b.counted r (a.counted r h); looks = omega (arith, a.looks, b.looks, less) };
     }
 
--- behind the last one nobody waits
+-- after the last one nobody waits
 past : (reached waiting levels : List ℕ) (low first end k i : ℕ) → end ≤ k → k ≤ i → ((get_or waiting (get_or reached i 0) 0 ≡ 0 → ⊥) → get_or levels (get_or reached i 0) 0 ≡ low → (first ≤ i) × (i < end)) → get_or levels (get_or reached i 0) 0 ≡ low → get_or waiting (get_or reached i 0) 0 ≡ 0
 past reached waiting levels low first end k i a b among e = elim (eq_cases (get_or waiting (get_or reached i 0) 0) 0) [ inl z ↦ z | inr w ↦ absurd (omega (arith, a, b, (among w e).1)) ]
 

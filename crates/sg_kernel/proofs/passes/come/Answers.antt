@@ -77,7 +77,7 @@ returns-in-Ok-clause-events c =
     let made = c.in-Ok.ensures {u = tt} in
     counts_both fields mid c.end_due.new.fields (rows_now fields) fields.doing.due mid.doing.due made.events c.end_due.ensures.events made.idle (ap (λ (k : Known). k.setup.budget) made.changes.known) c.requires.some c.requires.budget
 
--- entries stop only where there is one
+-- entries stop only if there is one
 pub returns-in-Err-clause-events : goal.returns-in-Err-clause-events
 returns-in-Err-clause-events c =
     let fields = c.args.fields.now in

@@ -2,7 +2,7 @@ use Rattle.std.proofs.Common.{◌≡◌, ◌-◌, cond, Err, sym, ap, ◌∙◌,
 use Rattle.sg_activity.specs.Doing.{Doing}
 use Rattle.sg_activity.specs.Underway.{is_running}
 use Rattle.sg_states.specs.States.{ActorStates}
-use Rattle.sg_calls.specs.declared.fields.Fields.{Fields}
+use Rattle.sg_calls.specs.declared.simulation_state.Fields.{Fields}
 use Rattle.sg_calls.specs.declared.stop.Stop.TheVariants.{Budget, Deadlock, Starved}
 use Rattle.sg_calls.specs.Known.{after}
 use Rattle.sg_calls.specs.Steps.{Step, all_of, result_of}

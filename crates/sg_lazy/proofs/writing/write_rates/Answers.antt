@@ -8,7 +8,7 @@ use Rattle.sg_lazy.specs.kept.Leveled.{rate_at}
 use Rattle.sg_lazy.proofs.Taking.{in_take_self, in_take_other, not_before, mark_once}
 use Rattle.sg_lazy.proofs.writing.write_rates.Goals as goal
 
--- a flow was marked where it changed
+-- a flow was marked if it changed
 at_flow : (d : Bool) (flow : ℕ) (old : List ℕ) → is_in flow old ≡ false → is_in flow (cond d (with_mark flow old) old) ≡ d
 at_flow true flow old off = mark_there flow old
 at_flow false flow old off = off

@@ -1,4 +1,4 @@
--- A route goes back over its last link, or begins at a settled point.
+-- A route moves back over its last link, or begins at a finalized point.
 use Rattle.std.proofs.Common.{◌≡◌, ℕ, List, length, get_or, inl, inr, refl, sym, subst, ap}
 use Rattle.std.proofs.lemmas.Option.{slice_get-get_or}
 use Rattle.sg_base.specs.declared.ids.LinkId.{LinkId}

@@ -1,4 +1,4 @@
--- What is held is least, and stays right.
+-- What is stored is shortest, and stays right.
 use Rattle.std.proofs.Common.{List, Option, subst}
 use Rattle.sg_base.specs.declared.ids.LinkId.{LinkId}
 use Rattle.sg_paths.specs.declared.asked.Asked.{Asked}

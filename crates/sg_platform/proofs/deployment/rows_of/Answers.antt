@@ -1,6 +1,6 @@
 use Rattle.std.proofs.Common.{◌≡◌, ◌∙◌, List, IfOk, ap, codes, map, refl, subst, sym}
 use Rattle.sg_platform.specs.Build.{actor_row, mutex_row, semaphore_row}
-use Rattle.sg_platform.specs.DeploymentOf.{rows_of}
+use Rattle.sg_platform.specs.DeploymentOf.{deployment_rows}
 use Rattle.sg_rows.specs.Deployment.{Deployed, IsDeployment, deployment_of_rows}
 use Rattle.sg_rows.specs.declared.rows.ActorRow.{ActorRow}
 use Rattle.sg_rows.specs.declared.rows.MutexRow.{MutexRow}
@@ -13,8 +13,8 @@ use Rattle.toml.specs.Data.{Members}
 use Rattle.sg_platform.proofs.deployment.rows_of.Goals as goal
 
 made_of : (names : Known) (tree : Members) (a : List ActorRow) (m : List MutexRow) (s : List SemaphoreRow) → a ≡ map (actor_row names) (rows_at (codes "actor") tree)
-    → m ≡ map mutex_row (rows_at (codes "mutex") tree) → s ≡ map semaphore_row (rows_at (codes "semaphore") tree) → deployment_of_rows a m s ≡ rows_of names tree
-unfolding rows_of
+    → m ≡ map mutex_row (rows_at (codes "mutex") tree) → s ≡ map semaphore_row (rows_at (codes "semaphore") tree) → deployment_of_rows a m s ≡ deployment_rows names tree
+unfolding deployment_rows
 made_of names tree a m s actors mutexes semaphores = λ i. record { actors = actors i; mutexes = mutexes i; semaphores = semaphores i }
 
 pub with_rows-requires : goal.with_rows-requires

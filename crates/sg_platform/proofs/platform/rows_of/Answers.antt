@@ -1,10 +1,10 @@
 use Rattle.std.proofs.Common.{◌∙◌, subst, sym}
-use Rattle.sg_platform.specs.PlatformOf.{rows_of}
+use Rattle.sg_platform.specs.PlatformOf.{platform_rows}
 use Rattle.sg_rows.specs.Platform.{IsPlatform}
 use Rattle.sg_platform.proofs.platform.rows_of.Goals as goal
 
 pub read_all-requires : goal.read_all-requires
-unfolding rows_of
+unfolding platform_rows
 read_all-requires c = c.requires.few_links
 
 pub with_rows-requires : goal.with_rows-requires

@@ -4,7 +4,7 @@ use Rattle.sg_paths.specs.declared.route.PathRoute.{PathRoute}
 use Rattle.sg_rows.specs.Platform.{counts_of}
 use Rattle.sg_route.specs.Roads.{roads_of}
 use Rattle.sg_route.specs.PathRoutes.{path_routes}
-use Rattle.sg_zones.specs.Tree.{Tree, tree_of}
+use Rattle.sg_zones.specs.Tree.{Tree, zone_tree}
 use Rattle.sg_route.specs.declared.locals.Local.{Local}
 use Rattle.sg_route.proofs.StepsLemmas.{steps_within}
 use Rattle.sg_route.proofs.build.paths_of.Goals as goal
@@ -12,7 +12,7 @@ use Rattle.sg_route.proofs.build.paths_of.Goals as goal
 pub build-requires : goal.build-requires
 build-requires c =
     let locals : List Local = (roads_of c.args.platform.now).locals in
-    let tree : Tree = tree_of c.args.platform.now in
+    let tree : Tree = zone_tree c.args.platform.now in
     let same : path_routes tree locals ≡ c.as_slice.result.now =
     sym (c.as_slice.ensures.value ∙ c.in_ok-steps.ensures ∙ ap (λ (t : Tree). path_routes t c.args.rows.now) c.requires.zones ∙ ap (path_routes tree) c.requires.rows) in
     let count : (counts_of c.args.platform.now).points ≡ length c.hosts.result.now + length c.routers.result.now =

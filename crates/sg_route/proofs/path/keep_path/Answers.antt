@@ -1,4 +1,4 @@
--- There is a least path, or none.
+-- There is a shortest path, or no path.
 use Rattle.std.proofs.Common.{refl}
 use Rattle.sg_route.specs.kept.Kept.{Kept}
 use Rattle.sg_route.proofs.WalkLemmas.{path_kept, path_missing}

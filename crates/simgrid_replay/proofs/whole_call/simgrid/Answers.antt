@@ -3,7 +3,7 @@ use Rattle.std.specs.Prelude.{string_bytes}
 use Rattle.sg_words.specs.CommandLine.{Asked, asked_of, refusals}
 use Rattle.sg_words.specs.Views.{job_view}
 use Rattle.simgrid_replay.specs.Contexts.{TakesFirst}
-use Rattle.simgrid_replay.specs.Outcome.{is_cut, outcome, Prints}
+use Rattle.simgrid_replay.specs.Outcome.{cuts_output_short, outcome, Prints}
 use Rattle.simgrid_replay.specs.PartOrder.{TakesParts}
 use Rattle.simgrid_replay.specs.PartSources.{PartsGive, TextsGive}
 use Rattle.simgrid_replay.specs.Settings.{setting}
@@ -54,7 +54,7 @@ returns-in-Err-clause-takes g c = λ job asks p d s gives.
       taken = record {
         taken = 0;
         most = omega (arith);
-        all = λ uncut. absurd (let cut : true ≡ false = sym (ap is_cut silent.0) ∙ uncut in cc);
+        all = λ uncut. absurd (let cut : true ≡ false = sym (ap cuts_output_short silent.0) ∙ uncut in cc);
         left = refl;
       };
     }

@@ -9,7 +9,7 @@ use Rattle.sg_filling.proofs.Growing.{in_at, stays}
 use Rattle.sg_filling.proofs.Rows.{into}
 use Rattle.sg_filling.proofs.parts.Parts.fill.Goals as goal
 
--- tests that pass along, row by row
+-- tests that hold along with each other, row by row
 by_rows : (s : Sharing) (p q : ℕ → Bool) → PassAlong s p q → PassRows s p q
 by_rows s p q along = record {
   uses = λ id h i l. let row = uses_at s.slots id in along.uses id (get_or row i 0) h (in_at (get_or row i 0) row i l refl);

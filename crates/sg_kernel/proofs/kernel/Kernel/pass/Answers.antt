@@ -2,7 +2,7 @@ use Rattle.std.proofs.Common.{length, ap, ◌∙◌}
 use Rattle.std.specs.List.{list_any}
 use Rattle.sg_activity.specs.Doing.{Doing}
 use Rattle.sg_states.specs.Actors.{is_ready}
-use Rattle.sg_calls.specs.declared.fields.Fields.{Fields}
+use Rattle.sg_calls.specs.declared.simulation_state.Fields.{Fields}
 use Rattle.sg_calls.specs.Known.{Known, after}
 use Rattle.sg_kernel.specs.Passes.{pass_of, settled_pass}
 use Rattle.sg_calls.specs.Steps.{result_of}

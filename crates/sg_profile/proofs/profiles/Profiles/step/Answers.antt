@@ -3,7 +3,7 @@ use Rattle.std.proofs.lemmas.List.{with_items_is}
 use Rattle.sg_heap.specs.Agenda.{key}
 use Rattle.sg_profile.specs.declared.profile.Profile.{Profile}
 use Rattle.sg_profile.specs.declared.turn.Turn.{Turn}
-use Rattle.sg_profile.specs.Profiles.{Timetable, date_of, next_date, past_next, profile_at, turns_after_row, turn_at}
+use Rattle.sg_profile.specs.Profiles.{Timetable, next_entry_date, next_date, past_next, profile_at, turns_after_row, turn_at}
 use Rattle.sg_profile.specs.kept.Slots.{table_of}
 use Rattle.sg_profile.proofs.Next.{least_is_next, none_is_next}
 use Rattle.sg_profile.proofs.profiles.Profiles.step.Goals as goal
@@ -17,8 +17,8 @@ step_row-requires-clause-date c =
     let turns = c.self.inside.turns.items in
     let next = least_is_next (table_of profiles turns) c.self.inside.agenda c.in-Some.row (key c.in-Some.field-0-1 c.in-Some.field-0-2) c.self.invariant c.in-Some.ensures.first in
     let early : IsSomeAnd (next_date profiles turns) IsEarly = subst (λ (table : Timetable). IsSomeAnd (next_date table.profiles table.turns) IsEarly) (sym c.self.view_is) c.requires in
-    let same : date_of (profile_at c.as_slice.result.now c.in-Some.row) (turn_at c.as_mut_slice.result.now c.in-Some.row) ≡ next_date profiles turns =
-    ap₂ (λ (ps : List Profile) (ts : List Turn). date_of (profile_at ps c.in-Some.row) (turn_at ts c.in-Some.row)) c.as_slice.ensures.value c.as_mut_slice.ensures.value ∙ next.dated ∙ sym next.date_is in
+    let same : next_entry_date (profile_at c.as_slice.result.now c.in-Some.row) (turn_at c.as_mut_slice.result.now c.in-Some.row) ≡ next_date profiles turns =
+    ap₂ (λ (ps : List Profile) (ts : List Turn). next_entry_date (profile_at ps c.in-Some.row) (turn_at ts c.in-Some.row)) c.as_slice.ensures.value c.as_mut_slice.ensures.value ∙ next.dated ∙ sym next.date_is in
     subst (λ (o : Option ℕ). IsSomeAnd o IsEarly) (sym same) early
 
 pub returns-in-Some : goal.returns-in-Some
