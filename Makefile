@@ -1,8 +1,8 @@
-# make, make proof: proves and builds the program, where sources have changed.  make test: the gate, all proofs and tests.
-# make docs: writes docs/definitions.html and docs/definitions.md from the definitions.
-# make install [PREFIX=/usr/local] [DESTDIR=]: puts the program, the tools, Python's package, manual pages, completions,
-# documents and examples where they belong.  make uninstall takes them away.  make dist: packages for machines without the
-# kit, in dist/.  make pages: the manual pages and completions of the tools, from their parsers.
+# make, make proof: proves and builds the program, if sources have changed.  make test: the gate, all proofs and tests.
+# make docs: writes docs/definitions.html and docs/definitions.md from the definitions, and draws docs/layers.svg from crates.txt.
+# make install [PREFIX=/usr/local] [DESTDIR=]: installs the program, the tools, Python's package, manual pages, completions,
+# documents and examples.  make uninstall removes them.  make dist: packages for machines without the kit, in dist/.
+# make pages: the manual pages and completions of the tools, from their parsers.
 PREFIX = /usr/local
 DESTDIR =
 BIN = $(DESTDIR)$(PREFIX)/bin
@@ -12,11 +12,11 @@ LIBEXEC = $(DESTDIR)$(PREFIX)/libexec/simgrid_replay
 DOCDIR = $(PREFIX)/share/doc/simgrid_replay
 DOCUMENTS = $(wildcard $(or $(shell git ls-files examples docs ':(glob)*.md' CITATION.cff 2>/dev/null),$(shell find examples docs -type f) *.md CITATION.cff))
 PROGRAM = crates/simgrid_replay/out/simgrid_replay
-# What stands in tools/: programs, modules that they share, and folders of modules, which install takes where they are there.
+# The contents of tools/: programs, modules that they share, and folders of modules; install takes those that exist.
 TOOLS = explain gantt usage totable report cluster from_simgrid sweep
 MODULES = named.py
 FOLDERS = simgrid_files
-# The package is installed where Python looks under this prefix, if it looks there at all; the tools have its first file too.
+# The package is installed where Python searches under this prefix, if it searches there at all; the tools get its modules too.
 PACKAGE = $(patsubst python/%,%,$(wildcard python/simgrid_replay/*.py python/simgrid_replay/*/*.py python/simgrid_replay/py.typed))
 PYTHON = python3
 PYTHONDIR = $(DESTDIR)$(PREFIX)/$(shell $(PYTHON) -c 'import sys; p = "$(PREFIX)/"; \
@@ -34,6 +34,7 @@ test check:
 
 docs:
 	.ci/docs
+	.ci/layers
 
 install: all
 	install -d $(BIN) $(LIBEXEC) $(SHARE)/man/man1 $(SHARE)/bash-completion/completions $(SHARE)/zsh/site-functions \
@@ -77,11 +78,11 @@ uninstall:
 	rm -f $(SHARE)/bash-completion/completions/simgrid_replay $(SHARE)/zsh/site-functions/_simgrid_replay
 	rm -f $(SHARE)/fish/vendor_completions.d/simgrid_replay.fish
 
-# SIMGRID_REPLAY names another program, which is then packed in the place of the one that is built here.
+# SIMGRID_REPLAY names another program, which is then packed instead of the one that is built here.
 dist: $(if $(SIMGRID_REPLAY),,all)
 	$(PYTHON) -B packaging/dist --program $(or $(SIMGRID_REPLAY),$(PROGRAM)) --output $(DIST)
 
-# Their generators are Debian's help2man and python3-shtab.
+# The generators are Debian's help2man and python3-shtab.
 pages:
 	packaging/pages
 

@@ -6,7 +6,7 @@ returns the jobs that start. A job has `nodes`, `asked` (for how many seconds at
 
 
 def fcfs(queue, free, running, now):
-    """First come, first served: a job that doesn't fit holds up all behind it."""
+    """First come, first served: a job that doesn't fit blocks all later ones."""
     starts = []
     for job in queue:
         if job.nodes > free:
@@ -17,7 +17,7 @@ def fcfs(queue, free, running, now):
 
 
 def easy(queue, free, running, now):
-    """EASY backfilling: a job may overtake where that doesn't delay the first one that waits."""
+    """EASY backfilling: a job may overtake if that doesn't delay the first waiting job."""
     starts = fcfs(queue, free, running, now)
     free -= sum(job.nodes for job in starts)
     waiting = queue[len(starts):]

@@ -35,7 +35,7 @@ def part(job):
 
 
 def runner(job):
-    """A job: a part on each of its nodes, of which the first one tells the scheduler of the end."""
+    """A job: a part on each of its nodes, of which the first reports the end to the scheduler."""
     parts = [Actor.create(f"job{job.number}", host, part, job) for host in job.hosts[1:]]
     part(job)
     for other in parts:
@@ -44,7 +44,7 @@ def runner(job):
 
 
 def scheduler(count, nodes, policy):
-    """Hears of jobs that come and end, and after each asks the policy which ones start."""
+    """Receives the arrivals and ends of jobs, and after each asks the policy which jobs start."""
     box, free, queue, running = Mailbox.by_name("scheduler"), list(nodes), [], []
     while count:
         event, job = box.get()

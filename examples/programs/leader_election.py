@@ -1,6 +1,5 @@
-"""Leader election in a ring, after Chang and Roberts: each sends its number round, and drops those that are smaller than its own.
-
-Whose number comes back has the greatest, and tells the others.
+"""Leader election in a ring, after Chang and Roberts: each sends its number along the ring, and drops those that are
+smaller than its own. An actor whose number comes back has the greatest, and informs the others.
 """
 import sys
 
@@ -19,7 +18,7 @@ def member(place, number):
         sent += 1
         following.put_init((kind, other), 100).detach()
 
-    # They wake up one after the other.
+    # They wake up one after another.
     this_actor.sleep_for(0.001 * place)
     tell("candidate", number)
     while True:

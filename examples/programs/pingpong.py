@@ -1,4 +1,4 @@
-"""Ping-pong: two actors send each other a message of growing size, and one measures how long a round takes."""
+"""Ping-pong: two actors send each other a message of growing size, and one measures how long a round trip takes."""
 import sys
 
 from simgrid_replay.s4u import Actor, Engine, Mailbox, this_actor

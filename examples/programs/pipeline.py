@@ -1,4 +1,4 @@
-"""A pipeline of three stages that adapts: where the host of a stage fails, the stage starts again on a spare one.
+"""A pipeline of three stages that adapts: if the host of a stage fails, the stage starts again on a spare one.
 
 A stage acknowledges a part only once the next stage has it; so what was lost with a host is sent again.
 """
@@ -34,14 +34,14 @@ def stage(number, last):
 
 
 def guard(number):
-    """Starts a stage, and starts it anew on a spare host whenever it dies. What it has taken is kept here."""
+    """Starts a stage, and starts it again on a spare host whenever it dies. What it has taken is kept here."""
     last, host = {"part": None, "taken": 0}, f"node{number}"
     while last["taken"] < PARTS:
         worker = Actor.create(f"stage{number}", Host.by_name(host), stage, number, last)
         worker.join()
         if last["taken"] < PARTS:
             host = SPARES.pop(0)
-            this_actor.info(f"stage {number} died, and goes on on {host}")
+            this_actor.info(f"stage {number} died, and continues on {host}")
 
 
 def sink():

@@ -1,4 +1,4 @@
-"""A token ring: the token goes round three times, and each actor adds its number to it."""
+"""A token ring: the token passes the ring three times, and each actor adds its number to it."""
 import sys
 
 from simgrid_replay.s4u import Actor, Engine, Mailbox, this_actor

@@ -1,10 +1,10 @@
-"""Runs simgrid_replay from Python, and reads its traces. It needs Python's standard library alone.
+"""Runs simgrid_replay from Python, and reads its traces. It needs only Python's standard library.
 
     from simgrid_replay import run
     result = run("platform.toml", "deployment.toml", "script.txt")
     print(result.word, result.seconds)
 
-The program is the one that the environment variable SIMGRID_REPLAY names, or one of the same checkout or prefix, or one on PATH.
+The program is that of the environment variable SIMGRID_REPLAY, else that of the same checkout or prefix, else the one on PATH.
 """
 
 import functools
@@ -30,14 +30,14 @@ __all__ = ["run", "toml", "Result", "Row", "Rows", "Fault", "Reader", "BadTrace"
 # A word for each exit status of the program.
 STATUSES = {0: "completed", 2: "invalid arguments", 3: "platform refused", 4: "deployment refused", 5: "bad script line", 6: "deadlock",
             7: "starved", 8: "budget used up", 9: "no route", 10: "unreadable", 11: "unwritable", 12: "out of memory", 101: "not built"}
-# How a run may end that is no fault of its inputs.
+# The endings that aren't faults of the inputs.
 ENDED = (0, 6, 7, 8)
 
 
 # Runs --------------------------------------------------------------------------------------------------------------------
 
 class Row(NamedTuple):
-    """An action of the trace. `seconds` is how long it took, None where it was refused or failed."""
+    """An action of the trace. `seconds` is its duration, None if it was refused or failed."""
     host: str
     actor: str
     number: int
@@ -49,9 +49,9 @@ class Row(NamedTuple):
 
 
 class Fault(Exception):
-    """The run was refused or cut off: its status with its word, the line that the program wrote, and what `explain` says of it.
+    """A fault ended the run: its status with its word, the line that the program wrote, and the explanation of `explain`.
 
-    `result` has what was done before.
+    `result` has the actions before the fault.
     """
 
     def __init__(self, result, line, explanation):
@@ -61,7 +61,7 @@ class Fault(Exception):
 
 
 class Result:
-    """How a run ended, and what it wrote. The trace is kept packed, and read when something in it is first asked for."""
+    """How a run ended, and what it wrote. The trace is kept compressed, and read when it is first used."""
 
     def __init__(self, status, packed):
         self.status, self.word, self._packed = status, STATUSES.get(status, f"status {status}"), packed
@@ -70,13 +70,13 @@ class Result:
         return f"<Result: {self.word}, {self.seconds} s>"
 
     def lines(self):
-        """What the program wrote, as a file of text."""
+        """The output of the program, as a text file."""
         file = gzip.GzipFile(fileobj=io.BytesIO(self._packed))
         return io.TextIOWrapper(file, "ascii", "backslashreplace", newline="\n")
 
     @property
     def text(self):
-        """What the program wrote."""
+        """The output of the program."""
         return self.lines().read()
 
     @functools.cached_property
@@ -91,12 +91,12 @@ class Result:
 
     @property
     def seconds(self):
-        """The date at which the run ended, exactly; of one that was cut off by a fault, that of its last action."""
+        """The exact date at which the run ended; after a fault that of the last action."""
         return decimal(self._read[1].end)
 
     @property
     def blocked(self):
-        """The calls in which actors were blocked at the end, each a Row without how long."""
+        """The calls in which actors were blocked at the end, each a Row without a duration."""
         return [row_of(action) for action in self._read[1].blocked if action.call.word != "suspended"]
 
     @property
@@ -111,7 +111,7 @@ class Result:
 
     @property
     def events(self):
-        """How many events there were, where the budget of them was used up; else None."""
+        """The number of events if the budget was used up, else None."""
         match = re.match("budget of ([0-9]+) events", self._read[1].ending)
         return int(match[1]) if match else None
 
@@ -121,11 +121,11 @@ class Result:
 
 
 def run(platform, deployment, script=None, *, budget=None, quiet=False, threads=None, timeout=None, program=None):
-    """Runs a script, or masters and workers where there is none, and gives the Result; a fault is raised as `Fault`.
+    """Runs a script, or without one masters and workers, and returns the Result. Raises `Fault` for a fault.
 
-    A platform and a deployment are the name of a file, a text (which has more than one line), or a dictionary of tables. A
-    script is the name of a file, a text, or lines. With `timeout`, in seconds, `subprocess.TimeoutExpired` is raised where the
-    program takes longer.
+    A platform and a deployment are the name of a file, a text (with more than one line), or a dictionary of tables. A script is
+    the name of a file, a text, or lines. If the program takes longer than `timeout` seconds, `subprocess.TimeoutExpired` is
+    raised.
     """
     with tempfile.TemporaryDirectory(prefix="simgrid_replay-") as folder:
         names = [file_of(platform, folder, "platform.toml"), file_of(deployment, folder, "deployment.toml")]
@@ -144,7 +144,7 @@ def run(platform, deployment, script=None, *, budget=None, quiet=False, threads=
 
 
 def packed(file):
-    """What was written into a file, in a tenth of its bytes."""
+    """The contents of a file, compressed to about a tenth."""
     file.seek(0)
     found = io.BytesIO()
     with gzip.GzipFile(fileobj=found, mode="wb", compresslevel=1) as pack:
@@ -153,14 +153,14 @@ def packed(file):
 
 
 def whole(value):
-    """The value as a whole number, also where it is written as a float, as 1e6."""
+    """The value as an int, also for a whole float such as 1e6."""
     if int(value) != value:
-        raise ValueError(f"{value!r} is no whole number")
+        raise ValueError(f"{value!r} is not a whole number")
     return int(value)
 
 
 def file_of(part, folder, name):
-    """The name of the file that a part is, which is written into the folder where it is none yet."""
+    """The name of the file of a part; a part that isn't a file is written into the folder."""
     if isinstance(part, os.PathLike) or (isinstance(part, str) and part and "\n" not in part):
         if re.search("[ =]", os.fspath(part)) and not os.path.exists(part):
             raise ValueError(f"there is no file {part!r}; a text has more than one line, and a script of one line is a list of one")
@@ -194,7 +194,7 @@ def value_text(value):
     if isinstance(value, bool):
         return "true" if value else "false"
     if isinstance(value, str):
-        # JSON lets the one character stand that TOML wants escaped.
+        # TOML requires an escape for this character, JSON doesn't.
         return json.dumps(value, ensure_ascii=False).replace("\x7f", "\\u007f")
     if isinstance(value, dict):
         return "{" + ", ".join(f"{key_text(key)} = {value_text(item)}" for key, item in value.items()) + "}"
@@ -205,7 +205,7 @@ def value_text(value):
     raise TypeError(f"{value!r} can't be written as TOML")
 
 
-# Where the program and the tools are: in a checkout, where `make install` puts them, and where a package has them.
+# The program and the tools are in a checkout, under the prefix of `make install`, or in a package.
 HERE = Path(__file__).resolve().parent
 
 
@@ -230,13 +230,13 @@ def prefixes(name):
 
 
 def tool_folder():
-    """The folder of the tools, or None where they aren't there."""
+    """The folder of the tools, or None."""
     folders = (HERE / "tools", HERE.parent, HERE.parent.parent / "tools", *(folder / "simgrid_replay" for folder in prefixes("libexec")))
     return next((folder for folder in folders if (folder / "explain").is_file()), None)
 
 
 def explanation(line, names):
-    """What `explain` says of a line of the program, or "" where that tool isn't there."""
+    """The explanation of a line of the program by `explain`, or "" without that tool."""
     folder = tool_folder()
     command = [sys.executable, "-B", str(folder / "explain")] if folder else [shutil.which("simgrid_replay-explain")]
     if command[-1] is None:
@@ -251,9 +251,9 @@ NAME, DATE, AMOUNT = "[A-Za-z0-9_.-]{1,64}", r"[0-9]{1,24}\.[0-9]{9}", "[0-9]{1,
 CALL = re.compile(rf"(?:compute ({AMOUNT})|(?:sleep|wait|barrier|yield)|i?send ({NAME}) ({AMOUNT})|recv ({NAME})(?: ({AMOUNT}))?|"
                   rf"(?:irecv|lock|unlock|acquire|release|create|join|kill|suspend|resume) ({NAME}))")
 WHO = re.compile(rf"\[({NAME}):({NAME}):\(([1-9][0-9]{{0,8}})\)")
-# A line of an action in pieces: itself, who, when, what and how long. Who and what are judged once for each text.
+# The parts of an action's line: the line, who, when, what and the duration. Who and what are checked once for each text.
 LINE = re.compile(r"^((\[[^ \n]+) ([0-9]{1,24}\.[0-9]{9})\] ([a-z]+(?: [^ \r\n]+){0,2}?) ([0-9]{1,24}\.[0-9]{9}|refused|failed))\r?$", re.M)
-# So many characters of a trace are read at a time.
+# The number of characters of a trace that are read at a time.
 BLOCK = 1 << 16
 BLOCKED = re.compile(r"(?:blocked (\[[^ ]+)\] (.+)|suspended (\[[^ ]+)\])")
 ENERGY = re.compile(rf"energy ({NAME}) ([0-9]{{1,40}}\.[0-9]{{12}})")
@@ -263,16 +263,16 @@ FAULT_END = re.compile(r"script line [0-9]+: .+|cannot read the script|no route 
 ENDING_WORDS = (("Simulation time", 0), ("deadlock", 6), ("starved", 7), ("budget", 8), ("script line", 5), ("cannot read", 10), ("", 9))
 ORDERS = {"suspend", "resume", "kill"}
 SIDES = {"send": 1, "isend": 1, "recv": 2, "irecv": 2}
-# How many texts of calls are known at a time.
+# The number of texts of calls that are kept.
 MOST_CALLS = 20_000
 
 
 class BadTrace(ValueError):
-    """A line, by its number, isn't one of a trace."""
+    """A line, given by its number, isn't a trace line."""
 
 
 class Actor:
-    """An actor of a trace. `free` is when it was free last, `requests` are the calls for which it hasn't waited yet."""
+    """An actor of a trace. `free` is the end of its last action, `requests` are the calls for which it hasn't waited yet."""
 
     __slots__ = ("host", "name", "id", "free", "requests", "sends_itself", "more")
 
@@ -282,8 +282,8 @@ class Actor:
 
 
 class Call:
-    """What an actor does: its words, which side of a message it is (1 the sender's, 2 the receiver's, else 0), and whether it
-    holds, lets go on or ends another actor."""
+    """What an actor does: its words, its role in a message (1 the sender's, 2 the receiver's, else 0), and whether it suspends,
+    resumes or kills another actor."""
 
     __slots__ = ("word", "other", "amount", "text", "side", "orders", "more")
 
@@ -298,10 +298,11 @@ class Call:
 
 
 class Action:
-    """A line of a trace; dates are whole nanoseconds. What is blocked or suspended at the end of the run has no line of its own.
+    """A line of a trace, with dates in whole nanoseconds, or a call that is blocked or suspended at the end of the run.
 
-    `met` is when both sides of a message were there, None where that isn't known; of the later side `partner` is the other one.
-    `held` are the spans, since its actor was free, in which that was suspended. `request` is the call for which a `wait` waited.
+    `met` is the date at which sender and receiver had both made their calls, None if it isn't known; `partner` of the later of
+    the two calls is the earlier one. `held` are the spans since the actor was free in which it was suspended. `request` is the
+    call for which a `wait` waited.
     """
 
     __slots__ = ("number", "line", "actor", "begin", "end", "call", "how", "met", "open", "held", "request", "partner")
@@ -320,26 +321,25 @@ class Action:
 
     @property
     def other(self):
-        """The other actor of a message, or what the call names. A worker's call names itself, and its master is the other one."""
+        """The other actor of a message, or the name in the call. A worker's call names the worker itself; the other is its master."""
         if self.partner is not None and self.call.other == self.actor.name:
             return self.partner.actor.name
         return self.call.other
 
 
 class Reader:
-    """Reads the lines of a trace; iterating over it gives the actions in order, and raises `BadTrace` at a line that is none.
+    """Reads the lines of a trace. Iterating over it yields the actions in order, and raises `BadTrace` at any other line.
 
-    Behind the last action `ending` is the text of the ending ("" where there is none), `end` its date, `blocked` what is
-    blocked or suspended then, `energies` the hosts with their joules, and `count` how many actions there were. It keeps what it
-    needs of lines that can't be judged yet: an action is given once it is known when both sides of its message were there; of
-    `isend` and `irecv`, whose other side may come late or never, only with `all_met`. With `late` each is given at once, and
-    `met` of one whose other side comes later is set then.
+    After the last action `ending` is the text of the ending ("" without one), `end` its date, `blocked` the calls that are
+    blocked or suspended then, `energies` the hosts with their joules, and `count` the number of actions. An action is yielded
+    once `met` of its message is known; `isend` and `irecv`, which may be matched late or never, are delayed only with `all_met`.
+    With `late` each action is yielded at once, and its `met` is set later.
     """
 
     def __init__(self, lines, all_met=False, late=False):
         self.lines, self.all_met, self.late = lines, all_met, late
         self.actors, self.calls, self.ids = {}, {}, {}
-        self.waiting = ({}, {})     # sends, and receives, whose other side isn't there, by the two actors
+        self.waiting = ({}, {})     # unmatched sends, and receives, by the two actors
         self.holds, self.kills = {}, {}
         self.ending, self.end, self.blocked, self.energies, self.count = "", 0, [], [], 0
 
@@ -360,7 +360,7 @@ class Reader:
                 elif took == "refused":
                     begin, how = date, took
                 elif took == "failed":
-                    # The line of a failed call tells no duration: it began when its actor was free.
+                    # The line of a failed call has no duration: the call began when its actor was free.
                     begin, how = free, took
                 else:
                     begin = date - int(took.replace(".", ""))
@@ -380,7 +380,7 @@ class Reader:
                 before = action
                 if held or (action.open and not late and (all_met or call.word == "send")):
                     held.append(action)
-                    # Both sides of a message that is done have the same date.
+                    # The send and the receive of a completed message have the same date.
                     while held and (not held[0].open or (not all_met and (held[0].call.word != "send" or held[0].end < date))):
                         yield held.popleft()
                 else:
@@ -394,7 +394,7 @@ class Reader:
         yield from held
 
     def actor(self, who, number, line):
-        """The actor of a line of which none stood in front."""
+        """The actor of a line, which has no earlier line."""
         match = WHO.fullmatch(who)
         if match is None:
             raise no_line(number, line)
@@ -410,7 +410,7 @@ class Reader:
             self.calls.clear()
         word, _, rest = words.partition(" ")
         if word == "compute" and rest.isdecimal() and rest.isascii() and len(rest) <= 20:
-            # No two of these need be alike, so the usual way is too long.
+            # These texts rarely repeat, so they take a shorter way.
             call = Call(words, word, None, rest)
         else:
             match = CALL.fullmatch(words)
@@ -422,10 +422,10 @@ class Reader:
         return call
 
     def meet(self, action, before):
-        """Looks for the other side of a message.
+        """Finds the other call of a message.
 
-        The sends of one actor to another meet its receives in order. A worker, which sends nothing, receives from all of its
-        masters; its line follows that of the master at once.
+        The sends of one actor to another match its receives in order. A worker, which sends nothing, receives from all of its
+        masters; its line comes directly after that of the master.
         """
         actor, call = action.actor, action.call
         name, other, side = actor.name, call.other, call.side
@@ -454,11 +454,11 @@ class Reader:
             queue = mine.get(pair)
             if queue is None:
                 queue = mine[pair] = deque()
-            # A later side needs only when this one began, if it isn't given again.
+            # The later call needs only the begin of this one, if it isn't yielded again.
             queue.append(action)
 
     def order(self, action):
-        """What one actor does to another."""
+        """Notes what one actor does to another."""
         word, other = action.call.word, action.call.other
         if word == "suspend":
             spans = self.holds.setdefault(other, [])
@@ -483,7 +483,7 @@ class Reader:
             del self.holds[name]
 
     def cause(self, action):
-        """Whose failure the failure of an action was."""
+        """The cause of an action's failure."""
         if action.call.word == "compute":
             return f"the host {action.actor.host} was off"
         other = (action.request or action.call).other
@@ -491,11 +491,11 @@ class Reader:
         if date == action.end:
             return f"{other} was killed by {killer}"
         if other is None or other == action.actor.name:
-            return "a host or a link on the way of the message was off"
+            return "a host or a link on the route of the message was off"
         return f"a link between {action.actor.name} and {other}, or the host of one of them, was off"
 
     def close(self, number, line, lines):
-        """Reads the ending, which is the first line that is no action, and what follows it."""
+        """Reads the ending, which is the first line that isn't an action, and the lines after it."""
         match = DATED_END.fullmatch(line)
         if match is None and not FAULT_END.fullmatch(line):
             raise no_line(number, line)
@@ -513,7 +513,7 @@ class Reader:
                 continue
             match = BLOCKED.fullmatch(line)
             if match is None:
-                raise no_line(number, line, " can follow its end")
+                raise no_line(number, line, "not allowed after the ending line")
             actor = self.actors.get(match[1] or match[3]) or self.actor(match[1] or match[3], number, line)
             call = self.call(match[2], number, line) if match[2] else Call("suspended", "suspended", None, None)
             action = Action(number, line, actor, actor.free, self.end, call, "blocked" if match[2] else "suspended")
@@ -525,7 +525,7 @@ class Reader:
 
     @property
     def status(self):
-        """The exit status that the ending tells; None where there is no ending."""
+        """The exit status of the ending; None without an ending."""
         return next(status for start, status in ENDING_WORDS if self.ending.startswith(start)) if self.ending else None
 
 
@@ -547,15 +547,15 @@ def lines_of(block):
 
 
 def unlike(found, block):
-    """The lines of a block from the first on that isn't an action; those in front of it are left in what was found."""
+    """The lines of a block from the first one that isn't an action; removes later ones from `found`."""
     lines = lines_of(block)
     count = next((index for index, (line, action) in enumerate(zip(lines, found)) if line != action[0]), len(found))
     del found[count:]
     return lines[count:]
 
 
-def no_line(number, line, more=""):
-    return BadTrace(f"line {number}: no line of a trace{more}: {line[:80]!r}")
+def no_line(number, line, why="not a trace line"):
+    return BadTrace(f"line {number}: {why}: {line[:80]!r}")
 
 
 def decimal(time):
@@ -576,12 +576,12 @@ def row_of(action):
 
 # Tables of traces --------------------------------------------------------------------------------------------------------
 
-# The columns of a table of actions, with units in their names (s: seconds). `totable` tells what each is.
+# The columns of a table of actions, with units in their names (s: seconds). `totable --help` describes them.
 COLUMNS = ("line", "host", "actor", "id", "action", "other", "flops", "bytes", "begin_s", "met_s", "end_s", "duration_s", "outcome")
 OUTCOMES = ("done", "refused", "failed")
 WORDS = ("compute", "sleep", "send", "recv", "isend", "irecv", "wait", "lock", "unlock", "acquire", "release", "barrier", "yield",
          "create", "join", "kill", "suspend", "resume")
-# Greater numbers have no place in an array of 64 bits.
+# Greater numbers don't fit into an array of 64 bits.
 MOST_PACKED = 2**63 - 1
 
 
@@ -629,7 +629,7 @@ class Rows(Sequence):
         return code
 
     def unpack(self):
-        """Makes room for numbers of any length."""
+        """Replaces arrays by lists, which take numbers of any length."""
         if isinstance(self.end, array):
             self.amount, self.begin, self.met, self.end = map(list, (self.amount, self.begin, self.met, self.end))
 
@@ -651,13 +651,13 @@ class Rows(Sequence):
         import pandas
 
         def chosen(codes, names):
-            """A column of names, by a number each, below zero for none."""
+            """A column of names, from their numbers; below zero means none."""
             places = {name: place for place, name in enumerate(dict.fromkeys(names))}
             place = numpy.array([places[name] for name in names] + [-1], "int32")
             return pandas.Categorical.from_codes(place[codes], list(places))
 
         def numbers(there):
-            """The amounts of the rows that have them here."""
+            """The amounts of the rows for which `there` is true."""
             if isinstance(self.amount, list):
                 return pandas.Series([amount if is_there else None for amount, is_there in zip(self.amount, there)], dtype=object)
             return pandas.arrays.IntegerArray(numpy.array(self.amount), ~there)
@@ -680,10 +680,10 @@ class Rows(Sequence):
         return pandas.DataFrame(dict(zip(COLUMNS, columns)), copy=False)
 
 
-# What the tools over traces share ----------------------------------------------------------------------------------------
+# Shared by the tools -----------------------------------------------------------------------------------------------------
 
 def open_trace(name):
-    """The lines of the file, or of standard input; what isn't ASCII stands as escapes, which no line of a trace has."""
+    """The lines of the file, or of standard input; bytes that aren't ASCII become escapes, which no trace line has."""
     if name == "-":
         if sys.stdin is None:
             raise OSError("standard input is closed")
@@ -692,14 +692,14 @@ def open_trace(name):
 
 
 def warn_of_no_ending(tool, reader):
-    """Tells that a trace may not be whole."""
+    """Warns that a trace may be incomplete."""
     if not reader.ending:
-        print(f"{tool}: warning: the trace has no ending line: it was cut off, or a fault ended the run, which standard error told",
+        print(f"{tool}: warning: the trace has no ending line: it is incomplete, or a fault on standard error ended the run",
               file=sys.stderr)
 
 
 def give_up(tool, error):
-    """Tells why the output couldn't be written, and gives the status; what is still to be written is dropped."""
+    """Reports why the output couldn't be written, and returns the status; the rest of the output is dropped."""
     os.dup2(os.open(os.devnull, os.O_WRONLY), 1)
     if isinstance(error, BrokenPipeError):
         return 0

@@ -1,12 +1,12 @@
 """Platforms with SimGrid's cross traffic, and in finer units of bytes. A platform is the tables of its TOML.
 
-**Cross traffic.** In SimGrid a flow also takes 5 % of its rate on each link of the way back. Where a link is on both ways of a
-flow, the flow takes 1.05 of its rate there, and so the link is one of bandwidth / 1.05. This is exact for SHARED links where all
-routes use the same ones both ways. FATPIPE links stay as they are, in SimGrid too. On a SPLITDUPLEX link the ways use different
-directions, and there the 5 % are left out.
+**Cross traffic.** In SimGrid a flow also takes 5 % of its rate on each link of the reverse route. If a link is on both routes of a
+flow, the flow takes 1.05 of its rate there, which equals a link of bandwidth / 1.05. This is exact for SHARED links if all routes
+use the same links in both directions. FATPIPE links are unchanged, as in SimGrid. On a SPLITDUPLEX link the two routes use
+different directions; there the 5 % are left out.
 
-**Finer units.** Rates are whole numbers. Where bandwidths are small, what is lost by rounding shows in the sixth digit of dates.
-So bytes are counted in smaller units: all bandwidths, sizes and rates times a power of ten.
+**Finer units.** Rates are whole numbers. With small bandwidths the rounding shows in the sixth digit of dates. So bytes are counted
+in smaller units: all bandwidths, sizes and rates are multiplied by a power of ten.
 """
 
 from fractions import Fraction
@@ -14,7 +14,7 @@ from fractions import Fraction
 from .routes import number
 
 CROSS = Fraction(105, 100)
-# Bandwidths are at least ENOUGH where none gets above MOST by it; GREATEST is the greatest that there can be.
+# Bandwidths become at least ENOUGH if none gets above MOST; GREATEST is the greatest allowed.
 ENOUGH, MOST, GREATEST = 10**9, 10**13, 10**15
 
 
@@ -23,7 +23,7 @@ def policy(row: dict) -> str:
 
 
 def is_symmetrical(platform: dict) -> bool:
-    """Whether each route has a way back that uses the same SHARED links."""
+    """Whether each route has a reverse route that uses the same SHARED links."""
     shared = {row["id"] for row in platform.get("link", []) if policy(row) == "SHARED"}
     ways = {}
     for table in ("route", "zone_route"):
@@ -37,7 +37,7 @@ def is_symmetrical(platform: dict) -> bool:
 
 
 def unit_of(platform: dict) -> int:
-    """By how much bytes are multiplied."""
+    """The factor by which bytes are multiplied."""
     widths = [number(str(row["bandwidth"])) for row in platform.get("link", []) if policy(row) != "FATPIPE"]
     unit = 1
     while widths and min(widths) * unit < ENOUGH and max(widths) * unit < MOST:
@@ -46,7 +46,7 @@ def unit_of(platform: dict) -> int:
 
 
 def finer(platform: dict, unit: int, cross: bool) -> dict:
-    """The platform with bandwidths times a unit, and with cross traffic."""
+    """The platform with bandwidths multiplied by a unit, and with cross traffic."""
     crossed = {row["id"] for row in platform.get("link", []) if cross and policy(row) == "SHARED"}
 
     def rate(text, link=None) -> str:

@@ -9,7 +9,7 @@ UNITS = {"": 1, "Bps": 1, "bps": Fraction(1, 8), "f": 1, "s": 1, "m": 60, "h": 3
 
 
 def number(text: str) -> Fraction:
-    """The number that a text with a unit is, in bytes or flops a second, or seconds."""
+    """The value of a text with a unit, in bytes or flops a second, or seconds."""
     digits, unit = re.fullmatch(r"([0-9.]+(?:[eE][+-]?[0-9]+)?)(.*)", text).groups()
     if unit in UNITS:
         return Fraction(digits) * UNITS[unit]
@@ -71,7 +71,7 @@ class Router:
         return self.ways.get((x, y))
 
     def least(self, source):
-        """Of each point the list of fewest links, and of these the least by the order of links."""
+        """The shortest path to each point; of several the least by the order of links."""
         best, queue = {}, [(0, [], source, [])]
         while queue:
             _, _, here, links = heapq.heappop(queue)
@@ -85,7 +85,7 @@ class Router:
         return best
 
     def route(self, a: str, b: str) -> list[str] | None:
-        """The links from one host to another, each once, or None where a route is missing."""
+        """The links from one host to another, each once, or None if a route is missing."""
         ups, downs = self.upward(a), self.upward(b)
         while len(ups) > 2 and len(downs) > 2 and ups[-2] == downs[-2] and (ups[-2] in self.routing):
             ups.pop()

@@ -15,7 +15,7 @@
 
 
 class Refused(Exception):
-    """What can't be translated, with the file and line where it stands."""
+    """A construct that can't be translated, with its file and line."""
 
     def __init__(self, why, file=None, line=None):
         super().__init__(why)

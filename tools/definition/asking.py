@@ -1,4 +1,4 @@
-"""Asks the definition of the program: the words of a command line and what three parts give, to two streams and a status."""
+"""Runs the definition of the program: from a command line and the bytes of three files to two streams and a status."""
 
 import os
 import pathlib
@@ -18,7 +18,7 @@ PARTS = {"replay": 3, "run": 2, "churn": 0}
 
 @dataclass
 class Answer:
-    """The statuses that the definition allows, and both streams; it leaves these open for help, the version and refused words."""
+    """The allowed statuses and both streams; the streams are None for help, the version and an invalid command line."""
 
     statuses: set
     out: bytes | None
@@ -34,7 +34,7 @@ def roots(library):
         for name in ("outcome", "refusals"):
             if name in re.split(r",\s*", leaves):
                 found[name] = library.member(path, name).definition
-    # the job is told beside the refusals
+    # the job comes with the faults
     found["asked_of"] = found["refusals"].module.definitions["asked_of"]
     found["status_code"] = library.find("status_code")
     return found
@@ -51,7 +51,7 @@ def text(data):
 
 
 def source(name, is_script=False, folder="."):
-    """What a file gives: its bytes, or that it can't be read."""
+    """The bytes of a file, or that it can't be read."""
     try:
         if is_script and os.path.basename(name) == b"-":
             data = sys.stdin.buffer.read()
@@ -63,7 +63,7 @@ def source(name, is_script=False, folder="."):
 
 
 def ask(program, words, folder=".", contexts=CONTEXTS):
-    """What the definition answers to these words, with the files of a folder."""
+    """The answer of the definition to a command line, with the files of a folder."""
     words = list_of([text(word) for word in ("simgrid_replay", *words)])
     kinds = tuple(kind[0] for kind in items_of(program.refusals(words)))
     if kinds:
@@ -80,6 +80,6 @@ def ask(program, words, folder=".", contexts=CONTEXTS):
 
 
 def checked(top):
-    """Refuses a folder that isn't the repository."""
+    """Raises `Refused` if the folder isn't the repository."""
     if not (pathlib.Path(top) / "crates/simgrid_replay/src/whole_call.rt").exists():
         raise Refused(f"{top} isn't a checkout of simgrid_replay")

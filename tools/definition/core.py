@@ -1,4 +1,4 @@
-"""Definitions with every name resolved: of terms the names are gone, and what they mean stands there instead."""
+"""Definitions with every name resolved: terms have the meanings of names instead of the names."""
 
 from dataclasses import dataclass
 
@@ -12,7 +12,7 @@ COND = "mathlib.Core.Bool.cond"
 
 @dataclass(slots=True)
 class Local:
-    """An argument of a clause or of a lambda, or what a `let` binds; each has a name of its own in its definition."""
+    """An argument of a clause or of a lambda, or what a `let` binds; its name is unique in its definition."""
 
     name: str
 
@@ -79,7 +79,7 @@ class Resolver:
     # ---- patterns
 
     def pattern(self, pattern, bound):
-        """A pattern, whose names are put among those that are bound."""
+        """Resolves a pattern, and adds its names to the bound ones."""
         if isinstance(pattern, Binds):
             if pattern.name == "_":
                 return pattern
@@ -134,7 +134,7 @@ class Resolver:
         return Let([whole], False, value, body)
 
     def path(self, term, bound):
-        """What a path such as `ended.Script` means, with the fields behind it; None where it is a field of a term."""
+        """The meaning of a path such as `ended.Script`, with the fields after it; None if it is a field of a term."""
         labels = []
         while isinstance(term, Member):
             labels, line, term = [term.label, *labels], term.line, term.term

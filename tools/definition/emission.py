@@ -12,7 +12,7 @@ from .core import Construct, Equality, Global, Local, Primitive
 from .terms import Apply, Binds, If, Lambda, Let, Matches, Member, Number, Record, Splits, Text, Update
 from .values import CHEAP
 
-# How constructors stand as Python's own values: what tests for one, and what it is where it takes no arguments.
+# Constructors that are Python's own values: the test for one, and its value if it takes no arguments.
 TESTS = {"zero": "{0} == 0", "suc": "{0} > 0", "true": "{0}", "false": "not {0}", "nil": "not {0}", "cons": "{0}"}
 OWN = {"zero": "0", "true": "True", "false": "False", "nil": "()"}
 EQUAL = "(lambda one: lambda other: same(one, other))"
@@ -21,7 +21,7 @@ CODES = "lib.Chars.codes"
 
 @dataclass(slots=True)
 class Place:
-    """A place that a run may reach, or that may be bent: a clause, the branch or the test of an `if`, or a number."""
+    """A place that a run may reach, or that may be changed: a clause, the branch or the test of an `if`, or a number."""
 
     path: str
     clause: int
@@ -112,7 +112,7 @@ class Emitter:
         return ", ".join(f"{label(name)}={self.lazily(it, known)}" for name, it in fields)
 
     def alone(self, term):
-        """What is named without all its arguments."""
+        """A function without all its arguments."""
         match term:
             case Global(definition):
                 name = self.names[definition.path]
@@ -139,7 +139,7 @@ class Emitter:
         return f"({args[0]}, {args[1]})" if name == "cons" else f"({', '.join([repr(name), *args])})"
 
     def word(self, name, args, known):
-        """A word that isn't translated, with all its arguments."""
+        """A function that isn't translated, with all its arguments."""
         word = self.native[name]
         if name == CODES and isinstance(args[0], Text):
             return self.constant(f"codes({args[0].value!r})")
@@ -166,7 +166,7 @@ class Emitter:
         return python + "".join(f"({self.lazily(it, known)})" for it in args)
 
     def lazily(self, term, known):
-        """Python that gives a term without computing it, unless that is nothing."""
+        """Python for a lazy term, or for its value if that is as cheap."""
         match term:
             case Local(name):
                 return name
@@ -177,7 +177,7 @@ class Emitter:
         return f"Later(lambda: {self.strictly(term, known)})"
 
     def is_at_hand(self, term, known):
-        """Whether a term is as well computed at once."""
+        """Whether a term may be computed at once."""
         match term:
             case Number() | Text() | Lambda() | Record() | Primitive() | Construct() | Equality():
                 return True
@@ -220,7 +220,7 @@ class Emitter:
             self.out.append(f"k{name} = {self.curried(arity, lambda _: f'{name}({given})')}")
 
     def match(self, left, clause, known, env, depth, outer):
-        """Writes nested tests of the patterns that are left, and behind them the body; returns whether they always pass."""
+        """Writes nested tests of the remaining patterns, and then the body; returns whether they always succeed."""
         pad = "    " * depth
         while left and isinstance(left[0][1], Binds):
             python, pattern = left.pop(0)

@@ -11,7 +11,7 @@ PRELUDE = "Rattle.std.specs.Prelude"
 
 
 def evaluate(top, name, term, plain=False):
-    """What a term comes to, as a text."""
+    """The value of a term, as a text."""
     library = Library(top, plain=plain)
     crate, _, inner = name.partition(".")
     here = library.module(f"Rattle.{crate}.specs.{inner}")

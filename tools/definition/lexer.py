@@ -5,7 +5,7 @@ from dataclasses import dataclass
 
 from . import Refused
 
-# What is passed over, and a token: a string, a mark, a name in brackets, a name or number.
+# Blanks and comments, and a token: a string, a mark, a name in brackets, a name or number.
 TOKEN = re.compile(r"""((?:\s+|--[^\n]*)*)(?:("(?:\\.|[^"\\])*")|([(){};,@.])|«([^»]*)»|([^\s(){}.;,@"«»]+)|\Z)""")
 KINDS = {2: "string", 3: "mark", 4: "name", 5: "name"}
 NUMBER = re.compile(r"0[xob][0-9a-fA-F_]+|[0-9][0-9_]*")
@@ -15,7 +15,7 @@ PLAIN = {"n": "\n", "t": "\t", "r": "\r", "0": "\0"}
 
 @dataclass(slots=True)
 class Token:
-    """A token: `kind` is string, mark, name or number; `first` tells whether it is the first of its line."""
+    """A token: `kind` is string, mark, name or number; `first` is true for the first of a line."""
 
     kind: str
     text: str
@@ -57,7 +57,7 @@ def tokens(text, file=None):
 
 
 def unquoted(text):
-    """Returns the text that a literal stands for."""
+    """Returns the text of a literal."""
 
     def one(match):
         code = match[1] or match[2]
@@ -67,5 +67,5 @@ def unquoted(text):
 
 
 def depth_of(token):
-    """How much deeper in brackets what follows a token is."""
+    """The change of the depth of brackets after a token."""
     return (token.text in "({") - (token.text in ")}") if token.kind == "mark" else 0

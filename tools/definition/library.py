@@ -1,4 +1,4 @@
-"""Finds modules and the types of the code, in the repository and in the kit, and tells what a name means in a module."""
+"""Finds modules and the types of the code, in the repository and in the kit, and resolves the names of a module."""
 
 import os
 import pathlib
@@ -10,9 +10,9 @@ from . import Refused
 from .modules import Constructor, Definition, Module
 from .values import CONSTRUCTORS, FAST, NATIVE
 
-# The crates of the kit that `std` passes on.
+# The crates of the kit that `std` exports.
 STD = ("std", "core", "std_alloc", "std_collections")
-# The operators of whole numbers, truth values and lists, whose modules say no fixity of their own.
+# The operators of whole numbers, truth values and lists, whose modules declare no fixity.
 FIXITIES = {
     "◌+◌": ("infixl", 65), "◌-◌": ("infixl", 65), "◌*◌": ("infixl", 70), "◌/◌": ("infixl", 70), "◌%◌": ("infixl", 70),
     "◌^◌": ("infixr", 75), "◌≤◌": ("infix", 50), "◌<◌": ("infix", 50), "◌==◌": ("infix", 40), "◌∷◌": ("infixr", 67),
@@ -61,16 +61,16 @@ class IsEquality:
 
 
 def kit_folder():
-    """Returns the folder of the kit whose command `rt` is on PATH, or that the environment's RATTLE_KIT names."""
+    """Returns the folder of the kit: that of the environment variable RATTLE_KIT, or of the command `rt` on PATH."""
     named, command = os.environ.get("RATTLE_KIT"), shutil.which("rt")
     folder = pathlib.Path(named) if named else pathlib.Path(command).resolve().parents[1] if command else None
     if folder is None or not (folder / "rattle/core/specs").is_dir():
-        raise Refused("the Rattle kit is missing: no command `rt` of it is on PATH, and its definitions are needed")
+        raise Refused("the Rattle kit is missing: its command `rt` is not on PATH, and its definitions are needed")
     return folder
 
 
 class Library:
-    """The modules of a repository and of a kit. With `plain` the words of lists and bytes are the kit's, not those by hand."""
+    """The modules of a repository and of a kit. With `plain` the functions of lists and bytes are the kit's, not those by hand."""
 
     def __init__(self, top, kit=None, plain=False):
         self.native = NATIVE if plain else NATIVE | FAST
@@ -140,7 +140,7 @@ class Library:
     # ---- names
 
     def member(self, path, name, seen=()):
-        """What a module has under a name, its own or one that it passes on; None where it has none."""
+        """What a module defines or exports under a name; None if there is nothing."""
         declared = DECLARED.match(path)
         if declared:
             return self.declared(path, declared[1], declared[2].split("."), name)
@@ -151,7 +151,7 @@ class Library:
             return Constructs(*CONSTRUCTORS[whole])
         here = self.module(path)
         if here is None:
-            # of what the logic itself has, there is no file
+            # the logic's own names have no file
             return IsType(whole) if path.startswith("Prim.") else self.member_of_passed(path, name, seen)
         own = self.own(here, name)
         if own or (path, name) in seen:
@@ -170,7 +170,7 @@ class Library:
         return IsType(f"{path}.{name}")
 
     def member_of_passed(self, path, name, seen):
-        """A member of a module that the module above it passes on."""
+        """A member of a module that the module above it exports."""
         above, _, last = path.rpartition(".")
         over = self.module(above) if above else None
         for use in over.uses if over else ():
@@ -187,13 +187,13 @@ class Library:
         return IsType(f"{here.path}.{name}") if name in here.types else None
 
     def along(self, path, leaf, seen=()):
-        """What stands at the end of a path, where the leaf may have dots: a name of an inner module, or of a type."""
+        """The last name of a path, which may have dots: a name of an inner module, or of a type."""
         *inner, name = leaf.split(".")
         found = self.member(".".join([path, *inner]), name, seen)
         return self.member(path, name, seen) if found is None and inner else found
 
     def meaning(self, here, name):
-        """What a name means in a module; None where it means nothing."""
+        """The meaning of a name in a module, or None."""
         if name not in here.meanings:
             here.meanings[name] = self.meaning_anew(here, name)
         return here.meanings[name]
@@ -223,7 +223,7 @@ class Library:
         return rest if head == "package" else path
 
     def meaning_of_path(self, here, path):
-        """What a path such as `ended.Script` means: a name behind a module or a type; None where it is none."""
+        """The meaning of a path such as `ended.Script`: a name after a module or a type; None if it isn't one."""
         head = self.meaning(here, path[0])
         if isinstance(head, IsModule):
             return self.member(".".join([head.path, *path[1:-1]]), path[-1])
@@ -238,7 +238,7 @@ class Library:
         return self.member(".".join(path[:-1]), path[-1]) if head is None else None
 
     def fixity(self, here, operator):
-        """The fixity of an operator in a module, as ("infixl", 65), or None where it is none."""
+        """The fixity of an operator in a module, as ("infixl", 65), or None."""
         name = f"◌{operator}◌"
         if name not in here.operators:
             here.operators[name] = self.fixity_in(here, name, ())
@@ -257,7 +257,7 @@ class Library:
 
 
 def enum_in(text, kind):
-    """The variants of an enum in a text, each with the number of its fields; None where it isn't there."""
+    """The variants of an enum in a text, each with the number of its fields; None if the text doesn't have it."""
     match = re.search(rf"\benum {kind}\b[^{{;]*\{{", text)
     if not match:
         return None

@@ -7,7 +7,7 @@ from .lexer import depth_of, tokens
 
 MODIFIERS = {"pub", "abbrev", "unfoldable", "inline", "pattern", "axiom", "ghost"}
 FIXITIES = ("infixl", "infixr", "infix")
-# What stands among definitions and isn't needed to compute them.
+# Items that aren't needed to compute definitions.
 PASSED_OVER = {"unfolding", "open", "ruleset", "deriving", "instance"}
 
 
@@ -106,7 +106,7 @@ class Module:
                 self.constructors[token.text] = Constructor(self, rest[0].text, token.text, arity_of(row[colon + 1:]), rest[0].line)
 
     def use(self, rest):
-        """Reads what stands behind `use`."""
+        """Reads the rest of a `use`."""
         path, at = [rest[0].text], 1
         while at + 1 < len(rest) and rest[at].is_mark(".") and not rest[at + 1].is_mark("{"):
             path.append(rest[at + 1].text)
@@ -127,7 +127,7 @@ class Module:
 
 
 def items_of(body):
-    """Cuts tokens into items: each begins in the column of the first, and goes on in lines that are further in."""
+    """Cuts tokens into items: each begins in the column of the first, and includes the following indented lines."""
     found, indent = [], min((token.column for token in body if token.first), default=0)
     for token in body:
         if not found or token.first and token.column == indent and depth_of(token) >= 0:
@@ -163,7 +163,7 @@ def parameters(group):
 
 
 def arity_of(kind):
-    """How many explicit arguments a type takes: binders, and what stands before arrows."""
+    """The number of explicit arguments of a type: binders, and types before arrows."""
     count, group, depth = 0, [], 0
     for token in kind:
         depth += depth_of(token)
@@ -177,7 +177,7 @@ def arity_of(kind):
 
 
 def top_level_binder(group):
-    """Whether a group before an arrow binds names: a `:` stands directly in one of its brackets."""
+    """Whether a group before an arrow binds names: it has a `:` directly in its brackets."""
     depth = 0
     for token in group:
         depth += depth_of(token)

@@ -1,4 +1,4 @@
-"""The definitions that some roots stand on, as functions of Python."""
+"""The definitions that some roots use, as Python functions."""
 
 import pathlib
 import sys
@@ -21,7 +21,7 @@ def shared_definitions():
 
 @dataclass
 class Options:
-    """What else a program does: notes what it reaches, has places that can be bent, prints calls."""
+    """Options of a program: whether it notes the places it reaches, can be changed at places, prints calls."""
 
     marks: bool = False
     bends: bool = False
@@ -48,7 +48,7 @@ def short_name(path):
 
 
 class Program:
-    """Python of all definitions on which the roots stand, by the names that the roots have."""
+    """Python of all definitions that the roots use, by the names of the roots."""
 
     def __init__(self, library, roots, **options):
         self.library, self.definitions, self.clauses = library, {}, {}
@@ -86,7 +86,7 @@ class Program:
                 self.refused.append(why)
 
     def function(self, path):
-        """The function of a definition, which takes its arguments one by one; its value where it takes none."""
+        """The function of a definition, which takes its arguments one by one; its value if it takes none."""
         name = self.names[path]
         return self.space[f"k{name}"] if self.strictness.arity[path] else self.space[name]()
 

@@ -1,14 +1,14 @@
-"""Finds, for each definition, a case that shows it: a call of it with its arguments and what it gives."""
+"""Finds, for each definition, a case that shows it: a call with its arguments and its result."""
 
 from .asking import ask
 from .tracing import kinds_of, names_of, shown
 
-# Calls of one definition in one case of which the shortest is shown, and calls after which a case is left.
+# The number of calls of a definition in a case among which the shortest is chosen, and the limit of calls in a case.
 MOST_CALLS, MOST_STEPS, LONGEST = 12, 30_000, 700
 
 
 class Enough(Exception):
-    """A case makes more calls than it is followed."""
+    """A case makes more calls than the limit."""
 
 
 class Examples:
@@ -32,13 +32,13 @@ class Examples:
         return traced
 
     def of_case(self, case, folder):
-        """What the case shows of each definition that no case before it does, by its path: its arguments, and what it gives."""
+        """The arguments and the result of each definition that no earlier case shows, by its path."""
         self.calls, self.steps = {}, 0
         try:
             ask(self.program, case.words, folder, case.contexts)
         except Enough:
             pass
-        # what is computed now to be shown is no call of the case
+        # computing values to show them makes no calls of the case
         calls, self.calls, self.steps = self.calls, {}, -10**9
         found = {path: min((self.text(path, *call) for call in made), key=worth) for path, made in calls.items()}
         found = {path: text for path, text in found.items() if sum(map(len, text[1])) + len(text[2]) <= LONGEST}

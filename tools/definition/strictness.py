@@ -1,4 +1,4 @@
-"""Tells which arguments a function surely computes: these are computed before the call, and all else when it is asked for."""
+"""Finds the arguments that a function surely computes: these are computed before the call, all others on demand."""
 
 from .core import Construct, Global, Local, Primitive
 from .terms import Apply, Binds, If, Let, Member, Update

@@ -1,4 +1,4 @@
-"""Parses terms and patterns. What the definitions don't use (types, `elim`, record patterns) is refused."""
+"""Parses terms and patterns. Constructs that the definitions don't use (types, `elim`, record patterns) are errors."""
 
 from dataclasses import dataclass
 
@@ -42,7 +42,7 @@ class If:
 
 @dataclass(slots=True)
 class Member:
-    """A field of a record, or what stands behind a module or a type."""
+    """A field of a record, or a name after a module or a type."""
 
     term: object
     label: str
@@ -109,7 +109,7 @@ TYPES = {"→", "×", "Type"}
 
 
 class Parser:
-    """Reads the tokens of a clause. `line` is where it stands: a constructor that is declared further down isn't known there."""
+    """Reads the tokens of a clause in line `line`: constructors that are declared further down aren't known there."""
 
     def __init__(self, library, here, tokens, line):
         self.library, self.here, self.tokens, self.at, self.line = library, here, tokens, 0, line
@@ -140,7 +140,7 @@ class Parser:
         return self.take()
 
     def whole(self):
-        """A term, behind which nothing is left."""
+        """A term that takes all remaining tokens."""
         term = self.term()
         if self.peek() is not None:
             self.refuse(f"`{self.peek().text}` isn't understood here")
@@ -198,7 +198,7 @@ class Parser:
         return token.text not in STOPS and token.text != "if" and (token.text == "record" or self.library.fixity(self.here, token.text) is None)
 
     def pass_braces(self):
-        """Passes over an implicit argument."""
+        """Skips an implicit argument."""
         depth = 0
         while True:
             depth += depth_of(self.take())
@@ -231,7 +231,7 @@ class Parser:
             elif len(row) > 2 and row[1].text == "←":
                 body = Apply(Name("◌>>=◌", row[0].line), [self.part(row[2:]).whole(), Lambda([row[0].text], body)])
             else:
-                raise Refused("a line of `do` that isn't understood", self.here.file, row[0].line)
+                raise Refused("a line of `do` can't be parsed", self.here.file, row[0].line)
         return body
 
     def part(self, tokens):
@@ -299,7 +299,7 @@ class Parser:
         return Lambda(names, self.term())
 
     def typed_names(self):
-        """The names of `(a b : A)`, behind its bracket."""
+        """The names of `(a b : A)`, after its bracket."""
         names, depth = [], 1
         while not self.sees(":"):
             names.append(self.take().text)
@@ -382,7 +382,7 @@ class Parser:
         return self.matches(meaning, name, args)
 
     def pattern_head(self):
-        """A name, perhaps behind a module, and the constructor that it means; else it binds what is there."""
+        """A name, perhaps with a module, and the constructor that it means; any other name binds the value."""
         token = self.take()
         if token.kind != "name":
             self.at -= 1

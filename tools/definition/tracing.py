@@ -10,7 +10,7 @@ TEXTS = dict.fromkeys(("id", "name", "out", "err", "text", "bytes"), "Text")
 
 
 class Tracer:
-    """Calls a function for each call of the definitions that are traced, behind it: with the path, the arguments and the result."""
+    """Calls a function after each call of a traced definition, with the path, the arguments and the result."""
 
     def __init__(self, program):
         self.program, self.depth = program, 0
@@ -61,7 +61,7 @@ def kinds_of(tokens):
 
 
 def shown(value, kind="", force=True, depth=0):
-    """A value as a text; what wasn't computed is computed with `force`, and else shown as `_`."""
+    """A value as a text; parts that weren't computed are computed with `force`, and shown as `_` without."""
     if value.__class__ is Later:
         if value.how is not None and not force:
             return "_"

@@ -1,4 +1,4 @@
-"""Values at run time, and the words that aren't translated.
+"""Values at run time, and the functions that aren't translated.
 
 A whole number is Python's, as are the truth values. A list is `()`, or a pair of its first item and the rest; another
 constructor is a tuple that begins with its name, as `("Some", 3)`. A record is a `Record`. What isn't computed yet is a
@@ -13,7 +13,7 @@ CORE, CORE_LIST = "Rattle.core.specs.", "Rattle.core.specs.List."
 
 
 class Later:
-    """A value that is computed when it is asked for, once."""
+    """A value that is computed on demand, once."""
 
     __slots__ = ("how", "value")
 
@@ -64,7 +64,7 @@ def list_of(items, rest=()):
 
 
 def spine(items):
-    """The items of a list as they stand."""
+    """The items of a list, not computed."""
     found = []
     while items:
         found.append(items[0])
@@ -112,7 +112,7 @@ def same(one, other):
     return one == other
 
 
-# ---- words of lists and bytes, by hand for speed
+# ---- functions of lists and bytes, by hand for speed
 
 
 def appended(items, rest):
@@ -288,12 +288,12 @@ def is_utf8(items):
     return True
 
 
-# ---- which words these are
+# ---- the names of these functions
 
 
 @dataclass(slots=True)
 class Native:
-    """How many arguments a word takes, which are surely computed, which perhaps and then in place, and its Python."""
+    """The arguments of a function: their number, those that are surely computed, those that may be; and its Python."""
 
     arity: int
     strict: tuple
@@ -361,7 +361,7 @@ FAST = {
     "lib.Pointwise.pointwise": native(3, "are_pointwise({0}, {1}, {2})"),
 }
 
-# Cheap enough to be computed at once where the arguments are there.
+# Cheap enough to be computed at once if the arguments are known.
 CHEAP = {NAT + "◌+◌", NAT + "◌-◌", NAT + "◌*◌", NAT + "min", NAT + "max", DEC + "eqb", DEC + "ltb", DEC + "leb",
          CORE + "Bool.◌==◌", BOOL + "not"}
 
@@ -373,7 +373,7 @@ CONSTRUCTORS = {
 }
 
 
-# ---- calls that are computed once for the same arguments
+# ---- memoised calls
 
 
 class Keys:
@@ -388,7 +388,7 @@ class Keys:
             return value
         found = self.by_place.get(id(value))
         if found is None:
-            # the value is kept, so that no other one has its place
+            # the value is kept, so that no other value gets its id
             found = self.by_place[id(value)] = value, ("#", self.numbers.setdefault(self.whole(value), len(self.numbers)))
         return found[1]
 

@@ -1,1 +1,1 @@
-"""What tools/from_simgrid makes of SimGrid's files: platforms, deployments and traces."""
+"""Converts SimGrid's platforms, deployments and traces, for tools/from_simgrid."""

@@ -1,4 +1,4 @@
-"""SMPI's collectives as messages, by the algorithms that SMPI takes where no other is chosen."""
+"""SMPI's collectives as messages, by SMPI's default algorithms."""
 
 from . import values
 
@@ -6,13 +6,14 @@ COLLECTIVE = "collective"
 
 
 class Collectives:
-    """Writes collectives; whoever inherits it has `send`, `said` and the words of a line."""
+    """Writes collectives; its subclass has `send`, `said` and the parsing of a line."""
 
     def exchange(self, line, rank, sends, sources):
-        """Sends and receives at once, and waits for them: for what SMPI sends at once only where a later wait does.
+        """Sends and receives at once, and waits for the requests; those that SMPI sends at once are left to a later wait.
 
-        Waits are for the oldest requests. So they can stand here where there are none; what an earlier collective has sent is
-        waited for first, which every rank has received before it comes to this one. Else receives wait one after the other.
+        A `wait` is for the oldest request, so this works only without older requests. The sends of an earlier collective are
+        waited for first: every rank has received them before it reaches this line. With other older requests the receives block
+        one after the other.
         """
         alone = len(sends) + len(sources) == 1
         if rank.requests and not alone and all(request == COLLECTIVE for request in rank.requests):
@@ -49,7 +50,7 @@ class Collectives:
         self.said(line, rank, f"{action} p{other}")
 
     def as_line(self, line, rank, text, size, targets, sources):
-        """A collective as the line that stands for these messages."""
+        """Writes a collective as one line instead of its messages."""
         for other in targets:
             self.sizes[int(values.fraction(size)[0])] += 1
             rank.sent.setdefault(other, []).append((COLLECTIVE, line))
@@ -92,7 +93,7 @@ class Collectives:
             self.exchange(line, rank, [], [root])
 
     def computed(self, line, rank, flops):
-        """What a rank computes of a reduction: SMPI's replay has each rank compute all of it, behind the messages."""
+        """The computation of a reduction: in SMPI's replay each rank computes all of it, after the messages."""
         if values.fraction(flops)[0]:
             self.said(line, rank, f"compute {flops}")
 
@@ -103,7 +104,7 @@ class Collectives:
     # Lines of a trace ----------------------------------------------------------------------------------------------
 
     def do_barrier(self, line, rank, words):
-        """Nothing to rank 0, and nothing back."""
+        """A message of no bytes to rank 0, and one back."""
         if self.count == 1:
             return
         if not self.as_messages:
@@ -141,7 +142,7 @@ class Collectives:
         self.all_to_all(line, rank, self.amount(line, words[0], self.size(line, rank, words, 2)))
 
     def all_to_all(self, line, rank, size):
-        """The line of that name, or messages where requests are under way, or sends don't wait."""
+        """The line `alltoall`, or messages if requests are pending or sends don't wait."""
         if not rank.requests and not self.is_eager(size):
             self.as_line(line, rank, f"alltoall {size}", size, self.others(rank), self.others(rank))
         else:
@@ -179,7 +180,7 @@ class Collectives:
 
     def do_allgatherv(self, line, rank, words):
         self.need(line, words, self.count + 1)
-        # Behind the sizes stand types, or places in a buffer, which have no type before them.
+        # After the sizes come types, or offsets in a buffer, which have no type before them.
         places = self.count + 3 < len(words) <= 2 * self.count + 1
         size = self.amount(line, words[0], self.size(line, rank, words, len(words) if places else self.count + 1))
         self.exchange(line, rank, [(other, size) for other in self.others(rank)], self.others(rank))

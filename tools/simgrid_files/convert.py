@@ -1,4 +1,4 @@
-"""A whole study: what is read, what comes of it, and where it is written."""
+"""Converts a whole study: reads its files, and writes the results."""
 
 import os
 import shlex
@@ -7,18 +7,18 @@ from pathlib import Path
 
 from . import deployment, model, rows, traces, traffic, xmlfile, zones
 from .platform import Platform
-from .told import Notes, Unread
+from .notes import Notes, Unread
 
 RUN = """#!/bin/sh
-# Runs the study. The environment's SIMGRID_REPLAY names the program; options stand behind.
+# Runs the study. The environment variable SIMGRID_REPLAY names the program; arguments are passed to it.
 here=$(cd -- "$(dirname -- "$0")" && pwd) || exit
 """
-# Where the program is in a checkout, and where it is installed.
+# The program in a checkout, and where it is installed.
 BESIDE = [Path(__file__).resolve().parents[2] / "simgrid_replay", Path(__file__).resolve().parents[3] / "bin/simgrid_replay"]
 
 
 class Study:
-    """The texts that are written, by the names of their files."""
+    """The output files, by name."""
 
     def __init__(self):
         self.notes, self.texts, self.platform = Notes(), {}, None
@@ -32,7 +32,7 @@ class Study:
         for name in ("platform.toml", "deployment.toml", "script.txt", "run.sh"):
             path = os.path.join(folder, name)
             if name not in self.texts:
-                # What another study has left there is not of this one.
+                # A file of an earlier study.
                 if os.path.exists(path):
                     os.remove(path)
                 continue

@@ -1,13 +1,13 @@
-"""A deployment of SimGrid's, or a host file of SMPI's, as actors, with the script that they replay."""
+"""Converts a deployment of SimGrid, or a host file of SMPI, to actors with the script that they replay."""
 
 import os
 import re
 
 from . import smpi, traces, values, xmlfile
 from .rows import Rows
-from .told import Refused, Unread, quoted
+from .notes import Refused, Unread, quoted
 
-# Functions that look like ranks or replayed actors, where no trace says more.
+# Functions that look like ranks or replayed actors, if there is no trace.
 LIKE_REPLAY = re.compile(r"(p|rank[-_]?)?[0-9]+")
 MOST_TASKS = 10**9
 
@@ -23,7 +23,7 @@ class Actor:
 
 
 def date(element, key):
-    """A date in nanoseconds; 0 where there is none."""
+    """A date in nanoseconds; 0 without one."""
     text = element.get(key, "-1")
     if re.fullmatch(r"\s*-[0-9.]+([eE][+-]?[0-9]{1,3})?", text):
         return 0
@@ -40,7 +40,7 @@ def read(given, platform, notes):
         return of_ranks(given, platform, notes, hosts_of(given.deployment, data, platform), None)
     root = xmlfile.read(given.deployment, data)
     if root.tag != "platform":
-        raise Refused(root, f"{root} where <platform> should stand")
+        raise Refused(root, f"{root} instead of <platform>")
     actors = [actor(element, platform, notes) for element in root.children]
     read_traces = traces.read(given.trace)
     if smpi.is_smpi(read_traces, [actor.function for actor in actors]):
@@ -50,16 +50,16 @@ def read(given, platform, notes):
 
 def actor(element, platform, notes):
     if element.tag not in ("actor", "process"):
-        raise Refused(element, f"{element} in a deployment isn't here")
+        raise Refused(element, f"{element} in a deployment isn't supported")
     element.only(("host", "function", "start_time", "kill_time", "on_failure"))
     for child in element.children:
         if child.tag == "prop":
             notes.add(child, f"properties of <{element.tag}> are left out")
         elif child.tag != "argument":
-            raise Refused(child, f"{child} in {element} isn't here")
+            raise Refused(child, f"{child} in {element} isn't supported")
     if element.get("on_failure", "DIE") != "DIE":
-        raise Refused(element, f"{element}: on_failure {quoted(element.get('on_failure'))} isn't here: the actors of a host that "
-                      "goes off go on, and are never started again")
+        raise Refused(element, f"{element}: on_failure {quoted(element.get('on_failure'))} isn't supported: the actors of a host that "
+                      "fails continue, and are never restarted")
     host = platform.names.of.get(element.need("host"))
     if host not in platform.speeds:
         raise Refused(element, f"{element}: there is no host {quoted(element.get('host'))}")
@@ -89,13 +89,13 @@ def of_ranks(given, platform, notes, hosts, actors):
     """Ranks of SMPI: rank i is the actor `pI`, on the host of its place."""
     for actor in actors or ():
         if actor.start or actor.kill:
-            raise Refused(actor.element, f"{actor.element}: a rank of SMPI with a start_time or kill_time isn't here")
+            raise Refused(actor.element, f"{actor.element}: a rank of SMPI with a start_time or kill_time isn't supported")
     script = smpi.convert(traces.read(given.trace), given, notes, len(hosts))
     rows = Rows("deployment", ("actor",))
     for rank in range(script.ranks):
         place = actors[rank % len(actors)].element if actors else (given.deployment, 0)
         if not hosts:
-            raise Refused(place, "no host stands there")
+            raise Refused(place, "the file has no host")
         rows.add("actor", place, name=f"p{rank}", host=hosts[rank % len(hosts)], function="replay")
     return rows, script
 
@@ -140,7 +140,7 @@ class Deployment:
         return rows, script if replays else None
 
     def free(self, name):
-        """A name that no actor has yet: `name`, `name_2`, .."""
+        """A free name: `name`, `name_2`, .."""
         number, found = 1, name
         while found in self.taken:
             number += 1
@@ -153,21 +153,21 @@ class Deployment:
         actor.name, self.taken[name] = name, actor
 
     def replayed(self, actor):
-        """An actor whose name a trace has, or whose argument is one; else its function is code."""
+        """An actor whose name is in a trace, or whose argument is one; otherwise its function is code."""
         name = re.sub(r"[^A-Za-z0-9_.-]", "_", actor.function)
         path = xmlfile.find(actor.arguments[0], self.folder) if len(actor.arguments) == 1 else None
         if path and os.path.isfile(path):
             actor.trace = traces.lines_of(path)
         elif actor.arguments or actor.function not in self.traced and (self.traces or not LIKE_REPLAY.fullmatch(actor.function)):
-            raise Refused(actor.element, f"{actor.element}: the function {quoted(actor.function)} is code, which isn't here: actors "
-                          "replay a trace, or are masters and workers")
+            raise Refused(actor.element, f"{actor.element}: the function {quoted(actor.function)} is code, which isn't supported: actors "
+                          "replay a trace, or are masters or workers")
         elif not self.traces:
             self.notes.add(actor.element, f"{actor.element}: no trace is given for {quoted(actor.function)}: it has no lines")
         actor.kind = "replay"
         self.call(actor, name)
 
     def of_master(self, master, workers):
-        """TASKS, FLOPS, BYTES, and then hosts of workers, or how many there are, each with its number."""
+        """TASKS, FLOPS, BYTES, and then the hosts of workers, or the number of workers."""
         numbers, rest = master.arguments[:3], master.arguments[3:]
         if len(numbers) < 3 or not rest:
             raise Refused(master.element, f"{master.element}: a master here has tasks, flops, bytes and workers")
@@ -189,14 +189,14 @@ class Deployment:
         return [*texts, *wanted]
 
     def timed(self, rows, script):
-        """Who begins or is killed at a date is created or killed by one more actor, which sleeps between these."""
+        """Adds an actor that creates and kills others at their dates, and sleeps in between."""
         dates = sorted([(actor.start, place, "create", actor) for place, actor in enumerate(self.actors) if actor.start]
                        + [(actor.kill, place, "kill", actor) for place, actor in enumerate(self.actors)
                           if actor.kill > actor.start], key=lambda event: event[:2])
         if not dates:
             return
         if script.gathers:
-            raise Refused(script.gathers, "a line of all actors, where one more is needed for start_time and kill_time: it isn't here")
+            raise Refused(script.gathers, "a collective together with start_time or kill_time isn't supported: these need one more actor")
         name, now = self.free("timer"), 0
         rows.add("actor", dates[0][3].element, name=name, host=self.actors[0].host, function="replay")
         for at, _, action, actor in dates:
@@ -204,5 +204,5 @@ class Deployment:
                 script.line(f"{name} sleep {values.seconds(at - now)}", actor.element)
             script.line(f"{name} {action} {actor.name}", actor.element)
             now = at
-        self.notes.add(dates[0][3].element, f"start_time and kill_time: one more actor, {name}, creates and kills; a run ends no "
-                       f"sooner than at {values.seconds(now)} s")
+        self.notes.add(dates[0][3].element, f"start_time and kill_time: one more actor, {name}, creates and kills; the run doesn't end "
+                       f"before {values.seconds(now)} s")

@@ -1,29 +1,29 @@
-"""The model of the network: the row that it has, and what is told of it."""
+"""The model of the network: its row, and the notes about it."""
 
 import re
 
 from . import values
-from .told import Refused, quoted
+from .notes import Refused, quoted
 
-# What SimGrid's models have, by our keys.
+# The keys of SimGrid's models.
 MODELS = {"LV08": {"latency_factor": "13.01", "bandwidth_factor": "0.97", "window": "4194304"}, "CM02": {},
           "SMPI": {"window": "4194304"}}
-# SMPI's factors by the size of a message: those of the greatest of these sizes that is below it.
+# SMPI's factors by the size of a message: those of the greatest of these sizes below it.
 BY_SIZE = {"smpi/lat-factor": "65472:11.6436;15424:3.48845;9376:2.59299;5776:2.18796;3484:1.88101;1426:1.61075;732:1.9503;257:1.95341;"
            "0:2.01467",
            "smpi/bw-factor": "65472:0.940694;15424:0.697866;9376:0.58729;5776:1.08739;3484:0.77493;1426:0.608902;732:0.341987;"
            "257:0.338112;0:0.812084"}
-# The sizes of which there is no message: those of long ones.
+# The size that is used without messages: that of long ones.
 NO_MESSAGE = 10**6
 KEYS = {"network/latency-factor": "latency_factor", "network/bandwidth-factor": "bandwidth_factor", "network/TCP-gamma": "window"}
 LOOPBACK = "10GBps", "0"
-# Settings that change no date, but for its last digits.
+# Settings that change at most the last digits of dates.
 WITHOUT_EFFECT = ("tracing", "contexts/", "path", "maxmin/", "precision/", "surf/", "cpu/optim", "network/optim", "host/model",
                   "debug/", "cpu/maxmin", "network/maxmin", "exception/")
 
 
 def settle(platform, model, sizes):
-    """The row of the network, by the model and the sizes of messages, and then by what <config> sets."""
+    """Adds the row of the network, from the model, the sizes of messages, and the settings of <config>."""
     settings, notes = dict(platform.settings), platform.notes
     model = chosen(settings.pop("network/model", None), model, notes)
     row = dict(MODELS[model])
@@ -43,19 +43,19 @@ def settle(platform, model, sizes):
     platform.loopback = loopback(settings, notes)
     for setting, prop in settings.items():
         if not setting.startswith(WITHOUT_EFFECT):
-            notes.add(prop, f"<config> {setting}={quoted(prop.get('value'))} isn't here")
+            notes.add(prop, f"<config> {setting}={quoted(prop.get('value'))} isn't supported")
     if row:
         platform.rows.add("network", platform.root.element, **row)
-    tell(notes, model, row, weighed, "network/TCP-gamma" in platform.settings)
+    note(notes, model, row, weighed, "network/TCP-gamma" in platform.settings)
 
 
 def chosen(prop, model, notes):
-    """The model that <config> names, where it is here, else the one of the command line."""
+    """The model of <config> if it is supported, else the one of the command line."""
     if prop is None:
         return model
     if prop.get("value") in MODELS:
         return prop.get("value")
-    notes.add(prop, f"<config> network/model={quoted(prop.get('value'))} isn't here: {model} is taken")
+    notes.add(prop, f"<config> network/model={quoted(prop.get('value'))} isn't supported: using {model}")
     return model
 
 
@@ -93,7 +93,7 @@ def table(prop, name, notes):
 
 
 def factor(prop, setting, key, notes):
-    """A key of the row, where the setting is a plain number."""
+    """A key of the row, if the setting is a plain number."""
     text = prop.get("value").strip()
     value, end = values.fraction(text)
     if value is None or text[end:]:
@@ -119,14 +119,14 @@ def loopback(settings, notes):
     return bandwidth, latency
 
 
-def tell(notes, model, row, weighed, windowed):
-    """What of the model isn't here, and what that changes."""
+def note(notes, model, row, weighed, windowed):
+    """Notes the features of the model that aren't supported, and their effect."""
     has = ", ".join(f"{key} {value}" for key, value in row.items()) or "no factors, no window"
     by_default = {"LV08": ", as SimGrid by default", "SMPI": ", as smpirun by default"}
     notes.of_model(f"model {model}{by_default.get(model, '')}: {has}")
     if model == "CM02" and not windowed:
-        notes.of_model("no window: SimGrid's CM02 bounds a flow by network/TCP-gamma 4194304 over twice its latency, where "
-                       "<config> doesn't set it to 0")
+        notes.of_model("no window: SimGrid's CM02 bounds a flow by network/TCP-gamma 4194304 over twice its latency, unless "
+                       "<config> sets it to 0")
     if model != "CM02" if weighed is None else values.fraction(weighed.get("value"))[0] != 0:
         notes.of_model("no network/weight-S: flows that meet on a link share it equally here, and in SimGrid by their latencies "
                        "and the bandwidths of their links; a flow that meets no other has the same dates")

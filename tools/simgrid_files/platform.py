@@ -1,4 +1,4 @@
-"""A platform of SimGrid's, read into rows of a platform here."""
+"""Converts a platform of SimGrid to the rows of a platform."""
 
 import os
 import re
@@ -7,19 +7,19 @@ from . import values, xmlfile
 from .profiles import Profile
 from .routing import MOST_CHILDREN, Routes, Way, Zone
 from .rows import Rows
-from .told import Refused, quoted
+from .notes import Refused, quoted
 from .topologies import KINDS, limiter
 
 TABLES = ("zone", "host", "router", "link", "route", "zone_route", "spoke", "network", "profile", "state_profile")
 ROUTINGS = {"full": "Full", "none": "Empty", "empty": "Empty", "dijkstra": "Dijkstra", "dijkstracache": "Dijkstra",
             "floyd": "Floyd", "cluster": "Star", "star": "Star"}
 POLICIES = {"SHARED": "SHARED", "FATPIPE": "FATPIPE", "SPLITDUPLEX": "SPLITDUPLEX", "FULLDUPLEX": "SPLITDUPLEX"}
-NO_ROUTING = {"vivaldi": "its latencies come from coordinates, and a link per pair would be needed",
-              "wifi": "its stations share the medium by their rates, and there is no such link here"}
-NOT_HERE = {"peer": "it is of a Vivaldi zone, whose latencies come from coordinates", "storage": "there are no disks here",
-            "storage_type": "there are no disks here", "mount": "there are no disks here", "random": "nothing is drawn here",
-            "actor": "a deployment stands in a file of its own", "process": "a deployment stands in a file of its own"}
-# What is connected to a trace by each kind that is here, and to which table.
+NO_ROUTING = {"vivaldi": "its latencies come from coordinates, so it would need a link for each pair",
+              "wifi": "its stations share the medium by their rates, which no link does"}
+NOT_HERE = {"peer": "it is of a Vivaldi zone, whose latencies come from coordinates", "storage": "disks aren't supported",
+            "storage_type": "disks aren't supported", "mount": "disks aren't supported", "random": "random values aren't supported",
+            "actor": "a deployment is a separate file", "process": "a deployment is a separate file"}
+# The supported kinds of traces, each with what it is connected to and its table.
 CONNECTED = {"SPEED": ("host", "profile"), "BANDWIDTH": ("link", "profile"), "HOST_AVAIL": ("host", "state_profile"),
              "LINK_AVAIL": ("link", "state_profile")}
 ALIASES = {"AS": "zone", "ASroute": "zoneRoute", "bypassASroute": "bypassZoneRoute"}
@@ -28,7 +28,7 @@ GREATEST_DEPTH = 16
 
 
 class Use:
-    """A link in a list: its name, and the one that takes its place on the way back."""
+    """A link in a list: its name, and its name on the reverse route."""
 
     def __init__(self, name, back, half=False):
         self.name, self.back, self.half = name, back, half
@@ -47,20 +47,20 @@ class Row:
         return Way(tuple(use.back for use in reversed(self.uses)), *reversed(self.gateways), self.element)
 
     def plain(self):
-        """Whether the way back is the one that a symmetrical row has here."""
+        """Whether the reverse route is that of a symmetrical row."""
         return not any(use.half for use in self.uses)
 
 
 class Names:
-    """Names as they are here: what a name can't have is `_`."""
+    """Converted names: characters that aren't allowed become `_`."""
 
     def __init__(self, notes):
         self.notes, self.of, self.taken, self.long = notes, {}, {}, 0
 
     def new(self, element, text, sort, most=64):
-        """The name here of something new."""
+        """The name of something new."""
         if text in self.of:
-            raise Refused(element, f"{element}: the name {quoted(text)} stands in line {self.taken[self.of[text]][1]} already")
+            raise Refused(element, f"{element}: the name {quoted(text)} is taken in line {self.taken[self.of[text]][1]}")
         name = re.sub(r"[^A-Za-z0-9_.-]", "_", text)
         if not name:
             raise Refused(element, f"{element}: an empty name")
@@ -81,7 +81,7 @@ class Names:
 
 
 class Cluster:
-    """The attributes of <cluster>, judged."""
+    """The attributes of <cluster>, checked."""
 
     def __init__(self, platform, element):
         element.only(("id", "prefix", "suffix", "radical", "speed", "core", "bw", "lat", "sharing_policy", "topology",
@@ -92,7 +92,7 @@ class Cluster:
         self.radicals = values.radicals(element, element.need("radical"))
         policy = element.get("sharing_policy", "SPLITDUPLEX")
         if policy not in POLICIES:
-            raise Refused(element, f"{element}: sharing_policy {quoted(policy)} isn't here")
+            raise Refused(element, f"{element}: sharing_policy {quoted(policy)} isn't supported")
         self.split = POLICIES[policy] == "SPLITDUPLEX"
         if policy == "FATPIPE":
             platform.notes.add(element, f"{element}: its links are SHARED, as SimGrid makes them, not FATPIPE")
@@ -132,7 +132,7 @@ class Written:
 
 
 class Platform:
-    """The rows, and what is told of them."""
+    """The rows, and the notes about them."""
 
     def __init__(self, folder, notes):
         self.folder, self.notes, self.rows = folder, notes, Rows("platform", TABLES)
@@ -146,9 +146,9 @@ class Platform:
 
     def read(self, root):
         if root.tag != "platform":
-            raise Refused(root, f"{root} where <platform> should stand")
+            raise Refused(root, f"{root} instead of <platform>")
         if not root.get("version", "4").startswith("4"):
-            raise Refused(root, f"a platform of version {root.get('version')}: simgrid_update_xml brings it to 4")
+            raise Refused(root, f"a platform of version {root.get('version')}: simgrid_update_xml updates it to 4")
         self.including = [os.path.abspath(root.file)]
         self.inside(root, None)
         if self.root is None:
@@ -160,7 +160,7 @@ class Platform:
         return self
 
     def inside(self, element, zone):
-        """What stands in an element; properties are left out with a note where nothing else takes them."""
+        """Reads the contents of an element; unused properties are left out with a note."""
         for child in element.children:
             self.one(child, zone)
 
@@ -170,7 +170,7 @@ class Platform:
         top = tag in ("zone", "cluster", "trace", "trace_connect", "include", "config", "prop")
         if known is None or zone is None and not top or zone is not None and tag == "config":
             reason = NOT_HERE.get(tag) or ("at the top level" if zone is None else f"in zone {zone.id}")
-            raise Refused(element, f"{element} isn't here: {reason}")
+            raise Refused(element, f"{element} isn't supported: {reason}")
         known(element, zone)
 
     def in_include(self, element, zone):
@@ -186,11 +186,11 @@ class Platform:
         self.notes.add(element, "properties of <zone> are left out")
 
     def props(self, element, used=()):
-        """The properties by name; those that aren't used are told."""
+        """The properties by name; notes those that aren't used."""
         found = {}
         for child in element.children:
             if child.tag != "prop":
-                raise Refused(child, f"{child} in {element} isn't here")
+                raise Refused(child, f"{child} in {element} isn't supported")
             if child.get("id") in used:
                 found[child.get("id")] = child
             else:
@@ -201,7 +201,7 @@ class Platform:
     def in_config(self, element, zone):
         for child in element.children:
             if child.tag != "prop":
-                raise Refused(child, f"{child} in <config> isn't here")
+                raise Refused(child, f"{child} in <config> isn't supported")
             self.settings[child.get("id").replace("_", "-")] = child
 
     # Zones ---------------------------------------------------------------------------------------------------------
@@ -210,7 +210,7 @@ class Platform:
         if parent is None and self.root is not None:
             raise Refused(element, f"{element}: a second zone at the top level")
         if parent is not None and parent.routing == "Star":
-            raise Refused(element, f"{element} isn't here: it stands in a zone of hosts behind links of their own")
+            raise Refused(element, f"{element} isn't supported: it is in a zone of hosts with their own links")
         name = self.names.new(element, element.need("id"), "zone")
         zone = Zone(element, name, routing, parent)
         if sum(1 for _ in zone.upward()) > GREATEST_DEPTH:
@@ -224,8 +224,8 @@ class Platform:
         element.only(("id", "routing"))
         routing = element.get("routing", "Full")
         if routing.lower() not in ROUTINGS:
-            reason = NO_ROUTING.get(routing.lower(), "SimGrid hasn't it either")
-            raise Refused(element, f"{element}: routing {quoted(routing)} isn't here: {reason}")
+            reason = NO_ROUTING.get(routing.lower(), "SimGrid doesn't have it either")
+            raise Refused(element, f"{element}: routing {quoted(routing)} isn't supported: {reason}")
         self.inside(element, self.new_zone(element, ROUTINGS[routing.lower()], parent))
 
     def in_router(self, element, zone):
@@ -291,11 +291,11 @@ class Platform:
 
     def in_link(self, element, zone):
         if element.get("latency_file"):
-            raise Refused(element, f"{element}: latency_file isn't here: a link keeps its latency")
+            raise Refused(element, f"{element}: latency_file isn't supported: a link keeps its latency")
         element.only(("id", "bandwidth", "latency", "sharing_policy", "bandwidth_file", "state_file"))
         policy = element.get("sharing_policy", "SHARED")
         if policy not in POLICIES:
-            raise Refused(element, f"{element}: sharing_policy {quoted(policy)} isn't here")
+            raise Refused(element, f"{element}: sharing_policy {quoted(policy)} isn't supported")
         name = self.link(element, element.need("id"), values.bandwidth(element, element.need("bandwidth")),
                          values.latency(element, element.get("latency", "0"), self.notes), POLICIES[policy])
         self.props(element)
@@ -318,7 +318,7 @@ class Platform:
                 raise Refused(element, f"{element}: link {quoted(id)} isn't SPLITDUPLEX, and has no direction")
             return Use(f"{name}_{direction}", f"{name}_{'DOWN' if direction == 'UP' else 'UP'}")
         for end in ("_UP", "_DOWN"):
-            # One way of a link by its name: SimGrid takes it on the way back too.
+            # One direction of a link by its name: SimGrid takes it on the reverse route too.
             if id.endswith(end) and id not in self.link_names.of and self.link_names.of.get(id[:-len(end)]) in self.split:
                 name = self.link_names.of[id[:-len(end)]] + end
                 return Use(name, name, True)
@@ -334,7 +334,7 @@ class Platform:
             raise Refused(element, f"{element} without links")
         for child in element.children:
             if child.tag not in ("link_ctn", "prop"):
-                raise Refused(child, f"{child} in {element} isn't here")
+                raise Refused(child, f"{child} in {element} isn't supported")
         return [self.use(child, child.need("id"), child.get("direction", "NONE")) for child in element.children
                 if child.tag == "link_ctn"]
 
@@ -352,21 +352,21 @@ class Platform:
     def route(self, element, zone, gateways):
         ends, symmetrical = self.ends(element, zone), element.get("symmetrical", "YES").upper() in ("YES", "TRUE", "1")
         if zone.routing == "Star":
-            raise Refused(element, f"{element} in a zone of hosts behind links of their own isn't here")
+            raise Refused(element, f"{element} in a zone of hosts with their own links isn't supported")
         row = Row(element, ends, gateways, self.uses(element), symmetrical and ends[0] != ends[1])
         for pair, way in ((ends, row.way()), (ends[::-1], row.way_back()))[:1 + row.symmetrical]:
             if pair in zone.ways:
-                raise Refused(element, f"{element}: the route from {pair[0]} to {pair[1]} stands in line "
-                              f"{zone.ways[pair].place.line} already")
+                raise Refused(element, f"{element}: line {zone.ways[pair].place.line} already has the route from {pair[0]} to "
+                              f"{pair[1]}")
             zone.ways[pair] = way
         zone.rows.append(row)
         self.gateways.update(name for name in gateways if name)
-        self.told_of_links(element, row)
+        self.note_links(element, row)
 
-    def told_of_links(self, element, row):
+    def note_links(self, element, row):
         names = [use.name for use in row.uses]
         if len(set(names)) < len(names):
-            self.notes.add(element, f"{element}: a link that stands twice counts once here; SimGrid adds its latency each time")
+            self.notes.add(element, f"{element}: a link that is on a route twice counts once here; SimGrid adds its latency each time")
 
     def in_bypassRoute(self, element, zone):
         element.only(("src", "dst"))
@@ -379,7 +379,7 @@ class Platform:
     def bypass(self, element, zone, gateways, children):
         ends = self.ends(element, zone)
         if ends in zone.bypass:
-            raise Refused(element, f"{element}: a bypass of that pair stands in line {zone.bypass[ends].place.line} already")
+            raise Refused(element, f"{element}: line {zone.bypass[ends].place.line} already has a bypass of that pair")
         below = children is not None and set(ends) <= set(children) or children is None and all(
             end in self.of_zone and zone in self.of_zone[end].upward() for end in ends)
         if not below:
@@ -396,9 +396,9 @@ class Platform:
         points = [name for other in (zone, *below) for name in other.points
                   if name in other.hosts or name in self.gateways]
         if len(points) > MOST_CHILDREN:
-            raise Refused(zone.element, f"{zone.element}: a bypass between zones deeper down, and over {MOST_CHILDREN} points")
+            raise Refused(zone.element, f"{zone.element}: a bypass between zones deeper down, with more than {MOST_CHILDREN} points")
         ways = {(a, b): self.routes.between(a, b) if a != b else self.to_itself(a) for a in points for b in points}
-        self.notes.add(zone.element, f"{zone.element}: its zones are put together, since a bypass leads between ends deeper down")
+        self.notes.add(zone.element, f"{zone.element}: its zones are merged, since a bypass leads between ends deeper down")
         gone = {other.id for other in below}
         for table in ("zone", "router"):
             self.rows.tables[table] = [row for row in self.rows.tables[table] if row[0]["id"] not in gone and (
@@ -413,7 +413,7 @@ class Platform:
         zone.ways = {pair: Way(tuple(links), place=zone.element) for pair, links in ways.items() if links}
 
     def to_itself(self, point):
-        """The links from a point to itself, where they are declared or a cluster gives them."""
+        """The links from a point to itself, if they are declared or a cluster has them."""
         zone = self.of_point[point]
         way = zone.ways.get((point, point)) or (zone.topology or zone.routing == "Star") and self.routes.local(zone, point, point)
         return way.links if way else None
@@ -423,7 +423,7 @@ class Platform:
     def in_cluster(self, element, parent):
         topology = element.get("topology", "FLAT")
         if topology not in ("FLAT", *KINDS):
-            raise Refused(element, f"{element}: topology {quoted(topology)} isn't here")
+            raise Refused(element, f"{element}: topology {quoted(topology)} isn't supported")
         zone = self.new_zone(element, "Star" if topology == "FLAT" else "Full", parent)
         cluster = Cluster(self, element)
         props = self.props(element, ("wattage_per_state", "wattage_off"))
@@ -439,7 +439,7 @@ class Platform:
         if element.get("bb_bw"):
             policy = element.get("bb_sharing_policy", "SHARED")
             if policy not in ("SHARED", "FATPIPE"):
-                raise Refused(element, f"{element}: bb_sharing_policy {quoted(policy)} isn't here")
+                raise Refused(element, f"{element}: bb_sharing_policy {quoted(policy)} isn't supported")
             zone.backbone = self.link(element, f"{cluster.id}_backbone", values.bandwidth(element, element.get("bb_bw"), "bb_bw"),
                                       values.latency(element, element.get("bb_lat", "0"), self.notes, "bb_lat"), policy)
         elif values.value_of(element, element.get("bb_lat", "0"), values.TIMES, "bb_lat", values.GREATEST_LATENCY, 0):
@@ -519,7 +519,7 @@ class Platform:
     # Profiles ------------------------------------------------------------------------------------------------------
 
     def in_trace(self, element, zone):
-        """A trace that stands here, or in a file, which says itself whether it begins anew."""
+        """A trace in the element or in a file, which itself says whether it repeats."""
         element.only(("id", "file", "periodicity"))
         if element.get("file"):
             self.traces[element.get("id")] = self.file_profile(element.get("file"))
@@ -530,7 +530,7 @@ class Platform:
         element.only(("trace", "element", "kind"))
         kind = element.get("kind", "HOST_AVAIL")
         if kind not in CONNECTED:
-            raise Refused(element, f"{element}: kind {quoted(kind)} isn't here" + (
+            raise Refused(element, f"{element}: kind {quoted(kind)} isn't supported" + (
                 ": a link keeps its latency" if kind == "LATENCY" else ""))
         if any(other.get("trace") == element.get("trace") and other.get("kind", "HOST_AVAIL") == kind
                for other in self.connections):
@@ -544,7 +544,7 @@ class Platform:
         space, trace = self.names if of == "host" else self.link_names, self.traces.get(element.get("trace"))
         name = space.of.get(element.get("element"))
         if trace is None or name not in (self.speeds if of == "host" else space.taken):
-            raise Refused(element, f"<trace_connect> of a {of} {element.get('element')} that isn't there, or to no trace")
+            raise Refused(element, f"<trace_connect> of a {of} {element.get('element')} that doesn't exist, or to no trace")
         self.profile(of, table, name, element, trace)
 
     def file_profile(self, name):
@@ -556,7 +556,7 @@ class Platform:
             self.profile(of, table, name, element, self.file_profile(file))
 
     def profile(self, of, table, name, element, trace):
-        """The profile of a host, or of each link of a row, where a trace says anything."""
+        """The profile of a host, or of each link of a row, if the trace isn't empty."""
         things = [name + "_UP", name + "_DOWN"] if of == "link" and name in self.split else [name]
         if any(keys.get(of) == things[0] for keys, _ in self.rows.tables[table]):
             raise Refused(element, f"{of} {name} has two traces")
@@ -564,6 +564,6 @@ class Platform:
             return
         given = trace.states() if table == "state_profile" else trace.rates(self.speeds[name] if of == "host" else 1)
         if table == "state_profile" and of == "host":
-            self.notes.add(element, "the actors of a host that goes off go on, and its activities fail; SimGrid kills them")
+            self.notes.add(element, "the actors of a host that fails continue, and its activities fail; SimGrid kills them")
         for thing in things:
             self.rows.add(table, element, **{of: thing}, **trace.keys(given))

@@ -3,7 +3,7 @@
 import re
 from fractions import Fraction
 
-from .told import Refused, quoted
+from .notes import Refused, quoted
 from .values import GREATEST_RATE, GREATEST_TIME, seconds
 
 MOST_DATES = 1024
@@ -12,7 +12,7 @@ TRACED = re.compile(r"\+?([0-9]+\.?[0-9]*|\.[0-9]+)([eE][+-]?[0-9]{1,3})?")
 
 
 class Profile:
-    """The values of one of SimGrid's traces by their dates in nanoseconds, and the gap behind the last one."""
+    """The values of one of SimGrid's traces by their dates in nanoseconds, and the gap after the last one."""
 
     def __init__(self, file, line, text, periodicity="-1"):
         """`line` is the one at which the text begins."""
@@ -34,9 +34,9 @@ class Profile:
             self.loop_after(words[1])
             return
         if words[0] == "STOCHASTIC":
-            self.refuse("values that are drawn aren't here")
+            self.refuse("random values aren't supported: they would be drawn")
         if len(words) != 2 or not all(TRACED.fullmatch(word) for word in words):
-            self.refuse("this isn't a date and a value, neither below zero")
+            self.refuse("this isn't a date and a value, both from 0 on")
         date = Fraction(words[0])
         if date < self.last:
             self.refuse("the date is before the one above")
@@ -52,12 +52,12 @@ class Profile:
         return time
 
     def loop_after(self, text):
-        """SimGrid begins anew where the number is above zero."""
+        """The period; SimGrid repeats the trace if the number is above zero."""
         if not TRACED.fullmatch(text.strip().removeprefix("-")):
             self.refuse(f"{quoted(text)} isn't a time")
         self.gap = None if text.strip().startswith("-") or Fraction(text) == 0 else self.time(Fraction(text))
         if self.gap == 0:
-            self.refuse("it begins anew after less than a nanosecond")
+            self.refuse("its period is less than a nanosecond")
 
     def rates(self, factor):
         """The values times a factor, rounded down."""
@@ -67,9 +67,9 @@ class Profile:
         return {"values": [str(value) for value in values]}
 
     def states(self):
-        """On where a value is above zero."""
+        """On if a value is above zero."""
         return {"states": ["on" if value else "off" for value in self.values.values()]}
 
     def keys(self, given):
-        """The keys of a row beside what it is of: the dates, what is given for each, and the gap."""
+        """The keys of a row except its host or link: the dates, their values, and the gap."""
         return {"dates": [seconds(date) for date in self.values], **given, **({"loop": seconds(self.gap)} if self.gap else {})}

@@ -1,15 +1,15 @@
-"""Zones with the routes that SimGrid takes in them, for those that need other rows here than they have there."""
+"""Zones with SimGrid's routes, for zones whose rows differ from SimGrid's."""
 
 import heapq
 from typing import NamedTuple
 
-from .told import Refused
+from .notes import Refused
 
 MOST_CHILDREN = 512
 
 
 class Way(NamedTuple):
-    """A local route: links, and the gateways where an end is a zone."""
+    """A local route: links, and the gateway of each end that is a zone."""
     links: tuple
     gw_src: str = None
     gw_dst: str = None
@@ -62,7 +62,7 @@ class Routes:
         return zone.ways.get((source, target))
 
     def least(self, zone, source, target):
-        """The way of fewest links that SimGrid's search takes."""
+        """The shortest path that SimGrid's search finds."""
         if zone.found is None:
             zone.found = floyd(zone) if zone.routing == "Floyd" else {}
         if zone.routing == "Dijkstra" and source not in zone.found:
@@ -76,7 +76,7 @@ class Routes:
         return self.joined(steps[::-1])
 
     def joined(self, steps):
-        """Steps one behind the other, with what lies between the gateways in a zone."""
+        """Joins steps, with the routes between the gateways in a zone."""
         links = []
         for place, step in enumerate(steps):
             if place and steps[place - 1].gw_dst != step.gw_src:
@@ -88,7 +88,7 @@ class Routes:
         return Way(tuple(links), steps[0].gw_src, steps[-1].gw_dst)
 
     def between(self, source, target):
-        """The links from a point to another, or None where a route is missing."""
+        """The links from a point to another, or None if a route is missing."""
         ups, downs = [list(self.of_point[point].upward()) for point in (source, target)]
         while len(ups) > 1 and len(downs) > 1 and ups[-2:-1] == downs[-2:-1]:
             ups.pop()
@@ -120,7 +120,7 @@ class Routes:
 def floyd(zone):
     """By source and target the child before the target, as SimGrid's FloydZone finds them."""
     if len(zone.children) > MOST_CHILDREN:
-        raise Refused(zone.element, f"{zone.element}: over {MOST_CHILDREN} children, and their routes have to be written out")
+        raise Refused(zone.element, f"{zone.element}: more than {MOST_CHILDREN} children in a zone that needs a row for each route")
     names = zone.children
     cost = {a: {} for a in names}
     before = {a: {} for a in names}

@@ -1,14 +1,14 @@
-"""Rows of the texts that are written, each with the place in SimGrid's files from which it comes."""
+"""Rows of the output files, each with its place in SimGrid's files."""
 
 import importlib.machinery
 import importlib.util
 import os
 import re
 
-from .told import Refused, plain
+from .notes import Refused, plain
 
 MOST_BYTES = 16 * 1024 * 1024
-# Above so many rows those that are written out of a topology aren't read again; they are made of names that were judged.
+# Above this number the rows that a topology gives aren't checked again; they are made of checked names.
 MOST_READ = 20_000
 PLACED = re.compile(r"\(table ([0-9]+), row ([0-9]+), key [0-9]+\)")
 
@@ -40,14 +40,14 @@ class Rows:
         return "".join(lines).lstrip("\n")
 
     def place(self, line, otherwise):
-        """Where in SimGrid's files a row comes from that a line of a fault tells by its table and row."""
+        """The place in SimGrid's files of the row that a fault line names."""
         number, row = map(int, PLACED.search(line).groups() if PLACED.search(line) else (0, 0))
         rows = list(self.tables.values())[number - 1] if number else []
         return rows[row - 1][1] if 0 < row <= len(rows) else otherwise
 
 
 def explain():
-    """The tool that has the rules of the three texts, from beside this package."""
+    """Loads the tool that has the rules of the three files."""
     path = os.path.join(os.path.dirname(os.path.dirname(os.path.abspath(__file__))), "explain")
     loader = importlib.machinery.SourceFileLoader("explain_of_from_simgrid", path)
     module = importlib.util.module_from_spec(importlib.util.spec_from_loader(loader.name, loader))
@@ -56,10 +56,10 @@ def explain():
 
 
 def judge(rows, text, part, otherwise):
-    """Refuses what the program would refuse, by the place in SimGrid's files."""
+    """Raises `Refused` for a fault that the program would report, with the place in SimGrid's files."""
     if len(text.encode()) > MOST_BYTES:
-        raise Refused(otherwise, f"the {rows.name} would have {len(text.encode()):,} bytes, and at most {MOST_BYTES:,} are taken"
-                      + (": fewer hosts in topologies, or shorter names" if rows.name == "platform" else ""))
+        raise Refused(otherwise, f"the {rows.name} would have {len(text.encode()):,} bytes, but at most {MOST_BYTES:,} are allowed"
+                      + (": use fewer hosts in topologies, or shorter names" if rows.name == "platform" else ""))
     for finding in part.first():
         place = rows.place(finding.line, otherwise)
         raise Refused(place, f"{finding.line}: {finding.found}" + (f"; allowed: {finding.allowed}" if finding.allowed else ""))

@@ -5,7 +5,7 @@ from collections import Counter
 
 from . import values
 from .collectives import COLLECTIVE, Collectives
-from .told import Notes, Refused
+from .notes import Notes, Refused
 from .traces import Script
 
 # The sizes of SMPI's types by their codes.
@@ -15,7 +15,7 @@ DOUBLE, BYTE = 0, 6
 ANY_SOURCE, ANY_TAG, NO_RANK = "-555", -444, "-333"
 MOST_RANKS = 4096
 DROPPED = {"finalize": None, "location": None, "comm_split": "communicators are all ranks", "comm_dup": "communicators are all ranks"}
-# What a request is that no line of the trace waits for: SMPI sends it at once, by itself or in a collective.
+# A request that no line of the trace waits for: SMPI sends it at once, alone or in a collective.
 EAGER = "eager"
 
 
@@ -26,7 +26,7 @@ def is_smpi(read_traces, functions):
 
 
 class Rank:
-    """What one rank has under way: its requests, oldest first; the waits that stand together; and what was waited for too early."""
+    """The state of a rank: its requests, oldest first; consecutive waits; and requests that were waited for too early."""
 
     def __init__(self, number):
         self.number, self.requests, self.type = number, [], BYTE
@@ -41,21 +41,21 @@ def convert(read_traces, given, notes, hosts):
             raise Refused(line, f"{line.words[0]}: a line of a trace of SMPI begins with a rank and an action")
     ranks = max((int(line.words[0]) for line in lines), default=-1) + 1
     if not ranks:
-        raise Refused((given.deployment, 0), "a host file, and no trace of ranks")
+        raise Refused((given.deployment, 0), "a host file without a trace of ranks")
     if ranks > MOST_RANKS:
-        raise Refused(lines[0], f"{ranks} ranks, and a run has up to {MOST_RANKS} actors")
+        raise Refused(lines[0], f"{ranks} ranks, but a run has at most {MOST_RANKS} actors")
     if hosts < ranks and hosts:
-        notes.add((given.deployment, 1), f"{ranks} ranks on {hosts} places: they go round")
+        notes.add((given.deployment, 1), f"{ranks} ranks on {hosts} places: the places are used in turn")
     found = converted(lines, ranks, given.eager)
     if isinstance(found.other_order(), Refused) and found.barriers:
-        # Barriers as messages would meet receives of other messages; a line of a barrier meets nothing.
+        # The messages of barriers would match receives of other messages; a barrier line matches none.
         found = converted(lines, ranks, given.eager, False)
-        found.notes.add(found.barriers_at, "barriers take no time: their messages would be met by receives that are under way")
+        found.notes.add(found.barriers_at, "barriers take no time: their messages would match receives that are pending")
     if isinstance(found.other_order(), Refused):
         raise found.other_order()
     notes.found.update(found.notes.found)
     notes.of_model("traces of SMPI: one latency and bandwidth factor for all messages, no overheads, and collectives by the algorithms "
-                   "that SMPI takes by default")
+                   "that SMPI uses by default")
     found.script.notes, found.script.sizes = notes, found.sizes
     return found.script
 
@@ -86,7 +86,7 @@ class Converted(Collectives):
                 self.notes.add(line, f"{action} is left out: {DROPPED[action]}")
             return
         if known is None:
-            raise Refused(line, f"the action {action} isn't here")
+            raise Refused(line, f"the action {action} isn't supported")
         if action != "wait":
             self.wait(rank)
         known(line, rank, words)
@@ -116,10 +116,10 @@ class Converted(Collectives):
 
     def rank_of(self, line, text):
         if text == ANY_SOURCE:
-            raise Refused(line, "a message from any rank isn't here: a receive names who sends")
+            raise Refused(line, "a message from any rank isn't supported: a receive names the sender")
         if text == NO_RANK:
-            raise Refused(line, f"{NO_RANK} stands for MPI_ANY_SOURCE or MPI_PROC_NULL, which a trace doesn't tell apart: a receive "
-                          "here names who sends; where it is MPI_PROC_NULL, leave the line and its wait out")
+            raise Refused(line, f"{NO_RANK} stands for MPI_ANY_SOURCE or MPI_PROC_NULL, which a trace doesn't distinguish: a receive "
+                          "must name the sender; if it is MPI_PROC_NULL, remove the line and its wait")
         if not re.fullmatch("[0-9]{1,9}", text) or int(text) >= self.count:
             raise Refused(line, f"there is no rank {text}: {self.count} ranks have lines")
         return int(text)
@@ -140,7 +140,7 @@ class Converted(Collectives):
     def do_comm_size(self, line, rank, words):
         self.need(line, words, 1)
         if words[0] != str(self.count):
-            raise Refused(line, f"comm_size {words[0]}, and {self.count} ranks have lines")
+            raise Refused(line, f"comm_size {words[0]}, but {self.count} ranks have lines")
 
     def do_compute(self, line, rank, words):
         self.need(line, words, 1)
@@ -160,11 +160,11 @@ class Converted(Collectives):
         return other, tag, size
 
     def is_eager(self, size):
-        """Whether SMPI's send of so many bytes ends at once."""
+        """Whether SMPI's send of this size ends at once."""
         return values.fraction(size)[0] < self.eager
 
     def send(self, line, rank, other, size, of=EAGER):
-        """A send that is waited for, where SMPI waits for it."""
+        """A send, which waits if SMPI's does."""
         self.sizes[int(values.fraction(size)[0])] += 1
         if of == COLLECTIVE:
             rank.sent.setdefault(other, []).append((COLLECTIVE, line))
@@ -175,7 +175,7 @@ class Converted(Collectives):
             self.said(line, rank, f"send p{other} {size}")
 
     def to_nobody(self, line, words):
-        """Whether it is a send to MPI_PROC_NULL, which is none."""
+        """Whether it is a send to MPI_PROC_NULL, which has no effect."""
         if words and words[0] == NO_RANK:
             self.notes.add(line, "a send to MPI_PROC_NULL is left out")
             return True
@@ -187,7 +187,7 @@ class Converted(Collectives):
         other, tag, size = self.message(line, rank, words)
         rank.sent.setdefault(other, []).append((tag, line))
         if self.is_eager(size):
-            self.notes.add(line, f"sends below {self.eager} bytes are isend: they don't wait for who receives")
+            self.notes.add(line, f"sends below {self.eager} bytes are isend: they don't wait for the receiver")
         elif values.fraction(size)[0] < 65536:
             self.notes.add(line, "send waits until the message has arrived; SMPI's doesn't, below smpi/send-is-detached-thresh, "
                            "65536 bytes: --eager 65536")
@@ -214,7 +214,7 @@ class Converted(Collectives):
         self.said(line, rank, f"irecv p{other}")
 
     def do_wait(self, line, rank, words):
-        """Waits that stand together are taken together: they end when all are done, in whichever order they stand."""
+        """Collects consecutive waits: they end when all requests have completed, in any order."""
         self.need(line, words, 3)
         if words[1] == NO_RANK and words[0] == str(rank.number):
             return
@@ -226,20 +226,20 @@ class Converted(Collectives):
         place = next((place for place, request in enumerate(rank.requests) if request[:3] == wanted
                       and all(place != other for _, other in rank.waits)), None)
         if place is None:
-            raise Refused(line, "wait for a request that isn't under way")
+            raise Refused(line, "wait for a request that isn't pending")
         rank.waits.append((line, place))
 
     def do_waitall(self, line, rank, words):
         self.wait_for(rank, [(line, place) for place, request in enumerate(rank.requests) if request not in (EAGER, COLLECTIVE)])
 
     def wait(self, rank):
-        """Writes the waits that stand together."""
+        """Writes the consecutive waits."""
         self.wait_for(rank, rank.waits)
         rank.waits = []
 
     def wait_for(self, rank, waits):
-        """Waits for the requests at these places. A wait here is for the oldest, so the older ones are waited for too; what SMPI has
-        sent at once isn't waited for, unless a later request is."""
+        """Waits for the requests at these places. A `wait` is for the oldest request, so older ones are waited for too. Requests that
+        SMPI sends at once are waited for only if a later request is."""
         places = {place for _, place in waits}
         waits = [(line, place) for line, place in waits if not rank.requests[place][3:] == (True,)]
         for place in places - {place for _, place in waits}:
@@ -258,7 +258,7 @@ class Converted(Collectives):
         del rank.requests[:last + 1]
 
     def do_test(self, line, rank, words):
-        self.notes.add(line, "test is left out: what it finds is waited for by a later wait")
+        self.notes.add(line, "test is left out: a later wait waits for its request")
 
     def do_sendrecv(self, line, rank, words):
         self.need(line, words, 4)
@@ -269,14 +269,14 @@ class Converted(Collectives):
         self.exchange(line, rank, [(other, size)], [source])
 
     def other_order(self):
-        """Messages of two ranks meet in their order here, and by their tags in SMPI: the refusal of what would meet another one."""
+        """The error for a receive that would match another message than in SMPI: here messages of two ranks match in order, in SMPI by tags."""
         for rank in self.ranks:
             for other, sent in rank.sent.items():
                 received = self.ranks[other].received.get(rank.number, [])
                 for (tag, _), (wanted, line) in zip(sent, received):
                     if tag != wanted and (wanted != ANY_TAG or tag == COLLECTIVE):
                         return Refused(line, f"a receive of {tagged(wanted)} from rank {rank.number}, whose message is one of {tagged(tag)}: "
-                                       "messages of two ranks meet in their order here")
+                                       "messages of two ranks match in order here")
         return None
 
 

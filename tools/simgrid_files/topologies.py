@@ -5,7 +5,7 @@ routes end with _UP or _DOWN. `limiters` are the numbers by which links that lim
 
 import re
 
-from .told import Refused, quoted
+from .notes import Refused, quoted
 
 MOST_HOSTS = 512
 
@@ -31,7 +31,7 @@ def at_most(element, size):
 
 
 class Torus:
-    """Dimension after dimension, each the shorter way round."""
+    """One dimension after the other, each in the shorter direction."""
 
     def __init__(self, element, cluster, count):
         self.cluster, self.split, self.limited = cluster.id, cluster.split, cluster.limiter
@@ -107,7 +107,7 @@ class FatTree:
         self.connect(element)
 
     def make_nodes(self, element):
-        # SimGrid goes on counting the places of hosts, and the links, over all fat trees of a platform.
+        # SimGrid numbers hosts and links across all fat trees of a platform.
         first = self.count.get("places", 0)
         self.count["places"] = first + self.size
         self.by_level = [[Node(i, 0, first + i) for i in range(self.size)]]
@@ -115,7 +115,7 @@ class FatTree:
         for level in range(1, self.levels + 1):
             size = product(self.up[:level]) * product(self.down[level:])
             if size > 4096:
-                raise Refused(element, f"{element}: {size} switches at a level, and up to 4096 are here")
+                raise Refused(element, f"{element}: {size} switches at a level, but at most 4096 are supported")
             self.by_level.append([Node(number - 1 - i, level, i) for i in range(size)])
             number -= size
         self.limiters = [node.number for nodes in self.by_level for node in nodes]
@@ -151,7 +151,7 @@ class FatTree:
             child.parents[parent.label[level] + port * self.up[level]] = name, parent
 
     def holds(self, root, node):
-        """Whether a node stands below another."""
+        """Whether a node is below another."""
         return root.level > node.level and all(root.label[i] == node.label[i] for i in range(self.levels)
                                                if i < node.level or i >= root.level)
 
@@ -172,7 +172,7 @@ class FatTree:
         return links + ([limiter(self.cluster, target.number)] if self.limited else [])
 
     def way_down(self, source, node, target):
-        """SimGrid looks on from the port that it took last, also once it has come to the next switch."""
+        """SimGrid continues its search from the last port that it took, even at the next switch."""
         links = []
         while node is not target:
             port, before = source.place % self.ports[node.level - 1] * self.down[node.level - 1], node
@@ -257,7 +257,7 @@ class Dragonfly:
             group, chassis, blade = to_group, 0, group
         if blade != to_blade:
             yield "green", (group, chassis, blade), (group, chassis, to_blade)
-            # From here SimGrid goes on as from the first chassis, whatever the chassis was.
+            # From here SimGrid continues as from the first chassis, whatever the chassis was.
             chassis = 0
         if chassis != to_chassis:
             yield "black", (group, chassis, to_blade), (group, to_chassis, to_blade)
@@ -274,7 +274,7 @@ class Dragonfly:
             here = self.router(*one)
             step = [self.ports[kind, here, self.router(*other)]]
             if self.limited:
-                # The blue link stands before its router's limiter.
+                # The blue link comes before its router's limiter.
                 step.insert(kind == "blue", limiter(self.cluster, 2 * self.size - 1 - here))
             links += step
         if self.limited:

@@ -1,11 +1,11 @@
-"""Traces that are replayed as they stand, and the script."""
+"""Traces that are replayed unchanged, and the script."""
 
 import os
 from collections import Counter
 from typing import NamedTuple
 
 from . import xmlfile
-from .told import Refused
+from .notes import Refused
 
 # Lines that all actors have a part in.
 GATHER = ("barrier", "bcast", "reduce", "allreduce", "alltoall")
@@ -29,29 +29,29 @@ def lines_of(path):
 
 
 def read(paths):
-    """The lines of each trace. One that is an index, as `smpirun -trace-ti` writes it, stands for the traces that it names."""
+    """The lines of each trace. An index, as `smpirun -trace-ti` writes it, is replaced by the traces that it names."""
     found = []
     for path in paths:
         lines = lines_of(path)
-        told = [line for line in lines if line.words]
-        if told and all(len(line.words) == 1 for line in told) and not all(line.words[0].isdecimal() for line in told):
-            found += [lines_of(named(line)) for line in told]
+        given = [line for line in lines if line.words]
+        if given and all(len(line.words) == 1 for line in given) and not all(line.words[0].isdecimal() for line in given):
+            found += [lines_of(named(line)) for line in given]
         else:
             found.append(lines)
     return found
 
 
 def named(line):
-    """The trace that a line of an index names: beside the index, or from the working folder, as for SimGrid."""
+    """The trace that a line of an index names: in the folder of the index, or relative to the working folder, as in SimGrid."""
     name = line.words[0]
     for path in (os.path.join(os.path.dirname(line.file), name), name):
         if os.path.isfile(path):
             return path
-    raise Refused(line, f"{name}: there is no such file beside the index, nor from here; a trace of SMPI has a rank and an action a line")
+    raise Refused(line, f"{name}: there is no such file in the folder of the index, nor in this one; a line of an SMPI trace has a rank and an action")
 
 
 class Script:
-    """The lines of script.txt, each with the place from which it comes; of SMPI's ranks also how many messages have which size."""
+    """The lines of script.txt, each with its place in SimGrid's files; for SMPI's ranks also the number of messages by size."""
 
     def __init__(self, notes, ranks=0):
         self.notes, self.ranks, self.lines, self.places, self.gathers = notes, ranks, [], [], None
@@ -62,7 +62,7 @@ class Script:
         self.places.append(place)
 
     def add(self, lines, actor=None):
-        """A trace as it stands. One that is of a single actor may name it otherwise, and is replayed by it all the same."""
+        """Adds a trace unchanged. The trace of a single actor may use another name; it becomes the actor's."""
         for line in lines:
             text = line.text
             if actor and line.words and line.words[0] != actor:
@@ -77,7 +77,7 @@ class Script:
 
 
 def judge(script, explain, deployment):
-    """Refuses the first line that the program would refuse, by its place."""
+    """Raises `Refused` for the first line that the program would reject, with its place."""
     judged = explain.Script("script.txt", script.text().encode(), deployment)
     for finding in judged.findings():
         number = int(finding.line.split()[2].rstrip(":")) if finding.line.startswith("script line") else 0

@@ -3,11 +3,11 @@
 import re
 from fractions import Fraction
 
-from .told import Refused, quoted
+from .notes import Refused, quoted
 
-# What strtod takes of a number, without hexadecimal ones, infinities and the like.
+# The numbers that strtod accepts, without hexadecimal ones, infinities and the like.
 NUMBER = re.compile(r"\s*([+-]?)([0-9]+\.?[0-9]*|\.[0-9]+)(?:[eE]([+-]?[0-9]+))?")
-# What simgrid_replay takes.
+# The numbers that simgrid_replay accepts.
 OURS = re.compile(r"[0-9]{1,20}(\.[0-9]+)?([eE][+-]?[0-9]{1,3})?")
 GREATEST_RATE, GREATEST_TIME, GREATEST_LATENCY, GREATEST_POWER, MOST_CORES = 10**15, 10**18, 10**15, 10**9, 1024
 
@@ -34,13 +34,13 @@ TAKEN = {id(SPEEDS): {"", "f", "kf", "Mf", "Gf", "Tf", "Pf"},
 
 
 def fraction(text):
-    """The number with which a text begins, and where it ends; None where there is none, or it is out of all bounds."""
+    """The number at the beginning of a text, and its end; None if there is no number."""
     number = NUMBER.match(text)
     if not number:
         return None, 0
     sign, digits, exponent = number.groups()
     if len(digits) > 400 or len(exponent or "") > 5 or abs(int(exponent or 0)) > 400:
-        # Beyond 10^400 or below 10^-400: no bound is there, and nothing is left.
+        # Above 10^400 or below 10^-400: beyond every limit, or zero.
         small = (exponent or "").startswith("-") or not digits.strip("0.")
         value = Fraction(0) if small else Fraction(10**400)
     else:
@@ -57,20 +57,20 @@ def number_of(element, text, what):
 
 
 def value_of(element, text, units, what, greatest, least=1):
-    """The whole value of a text with a unit, judged."""
+    """The value of a text with a unit, checked."""
     value, end = fraction(text)
     if value is None:
         raise Refused(element, f"{what} {quoted(text)} isn't a number")
     if text[end:] not in units:
-        raise Refused(element, f"{what} {quoted(text)} has a unit that SimGrid hasn't")
+        raise Refused(element, f"{what} {quoted(text)} has a unit that SimGrid doesn't have")
     value *= units[text[end:]]
     if value < 0:
         raise Refused(element, f"{what} {quoted(text)} is below zero")
     if int(value) > greatest:
-        raise Refused(element, f"{what} {quoted(text)} is too large: simgrid_replay has up to "
+        raise Refused(element, f"{what} {quoted(text)} is too large: simgrid_replay takes at most "
                       + (f"{greatest // 10**9} s" if units is TIMES else f"{greatest}"))
     if int(value) < least:
-        raise Refused(element, f"{what} {quoted(text)} is nothing in whole numbers")
+        raise Refused(element, f"{what} {quoted(text)} is zero when rounded down")
     return value
 
 

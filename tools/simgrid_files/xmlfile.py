@@ -1,23 +1,23 @@
-"""XML files as elements that know their lines."""
+"""XML files as elements with line numbers."""
 
 import os
 import sys
 import xml.parsers.expat as expat
 
-from .told import Refused, Unread, quoted
+from .notes import Refused, Unread, quoted
 
 DEEPEST = 64
 
 
 class Element:
-    """An element with its attributes, what stands in it, and its place."""
+    """An element with its attributes, its contents and its place."""
 
     def __init__(self, tag, attrib, file, line):
         self.tag, self.attrib, self.file, self.line = tag, attrib, file, line
         self.children, self.text = [], ""
 
     def get(self, key, default=""):
-        """An attribute; SimGrid takes an empty one for none."""
+        """An attribute; SimGrid ignores empty ones."""
         return self.attrib.get(key) or default
 
     def need(self, key):
@@ -26,10 +26,10 @@ class Element:
         return self.attrib[key]
 
     def only(self, known):
-        """Refuses an attribute that isn't known."""
+        """Raises `Refused` for an unknown attribute."""
         for key, value in self.attrib.items():
             if key not in known and value:
-                raise Refused(self, f"<{self.tag} {key}={quoted(value)}> isn't here")
+                raise Refused(self, f"<{self.tag} {key}={quoted(value)}> isn't supported")
 
     def __str__(self):
         name = next((f" {key}={quoted(self.attrib[key])}" for key in ("id", "src", "host") if key in self.attrib), "")
@@ -55,7 +55,7 @@ def read_lines(name):
 
 
 def find(name, folder):
-    """A file that is named from here, or from a folder."""
+    """The path of a file that is named relative to the working folder, or to another folder."""
     return name if name == "-" or os.path.exists(name) else os.path.join(folder, name)
 
 
@@ -80,5 +80,5 @@ def read(name, data=None):
     try:
         parser.Parse(read_bytes(name) if data is None else data, True)
     except (expat.ExpatError, ValueError, LookupError) as fault:
-        raise Unread(f"{name}: no XML: {fault}") from None
+        raise Unread(f"{name}: not XML: {fault}") from None
     return root[0]

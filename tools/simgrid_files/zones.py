@@ -1,8 +1,8 @@
-"""The rows of routes: by zone, those that are declared, or written out where SimGrid finds them by a search."""
+"""The rows of routes, by zone: those that are declared, or all routes if SimGrid finds them by a search."""
 
 from .platform import LOOPBACK, MOST_ZONES
 from .routing import MOST_CHILDREN, Way
-from .told import Refused
+from .notes import Refused
 
 
 def write(platform):
@@ -37,7 +37,7 @@ def add(platform, zone, source, target, way, symmetrical):
 
 
 def declared(platform, zone):
-    """The routes of a Full zone, with bypasses in the place of what they pass by."""
+    """The routes of a Full zone, with bypasses instead of the routes that they replace."""
     given = set()
     for row in zone.rows:
         there, back = row.ends, row.ends[::-1]
@@ -48,14 +48,14 @@ def declared(platform, zone):
         for pair in (there, back):
             add(platform, zone, *pair, zone.bypass.get(pair, zone.ways[pair]), False)
     for pair in [*zone.bypass, *zone.ways]:
-        # Bypasses where no route is, and ways that stand in no row.
+        # Bypasses without a route, and routes without a row.
         if pair not in given:
             given.add(pair)
             add(platform, zone, *pair, zone.bypass.get(pair) or zone.ways[pair], pair[0] == pair[1])
 
 
 def loopbacks(platform, zone):
-    """A route of each host to itself, where SimGrid gives it one: in a zone without zones."""
+    """Adds a route from each host to itself, if SimGrid has one: in a zone without zones."""
     if zone.zones:
         return
     for host in zone.hosts:
@@ -70,26 +70,26 @@ def loopback(platform):
 
 
 def searched(platform, zone):
-    """A zone with ways of fewest links: a Dijkstra zone here, or its routes one by one."""
+    """A zone with shortest paths: a Dijkstra zone, or a row for each of its routes."""
     if zone.zones or zone.bypass:
         pairs(platform, zone)
         loopbacks(platform, zone)
         return
     zone.row["routing"] = "Dijkstra"
-    told = f"zone {zone.id}: {zone.element.get('routing')} is Dijkstra here; "
-    platform.notes.add(zone.element, told + "of paths with as many links it takes the one whose links are declared first, and "
-                       "SimGrid the one that its search meets first")
+    note = f"zone {zone.id}: {zone.element.get('routing')} is Dijkstra here; "
+    platform.notes.add(zone.element, note + "of equally short paths it takes the one whose links are declared first, and "
+                       "SimGrid the one that its search finds first")
     if zone.hosts:
-        platform.notes.add(zone.element, told + "a host reaches itself over a loopback of 498 MBps and 15 us, in SimGrid of "
+        platform.notes.add(zone.element, note + "a host reaches itself over a loopback of 498 MBps and 15 us, in SimGrid of "
                            f"{platform.loopback[0]} and {platform.loopback[1]} s")
     declared(platform, zone)
 
 
 def pairs(platform, zone):
-    """A row for each ordered pair, or one for both where the way back is the same."""
+    """A row for each ordered pair, or one for both directions if the reverse route is the same."""
     if len(zone.children) > MOST_CHILDREN:
-        raise Refused(zone.element, f"{zone.element}: {len(zone.children)} children, and up to {MOST_CHILDREN} where routes are "
-                      "written out")
+        raise Refused(zone.element, f"{zone.element}: {len(zone.children)} children, but at most {MOST_CHILDREN} are supported in a zone "
+                      "with a row for each route")
     ways = {}
     for source in zone.children:
         for target in zone.children:
@@ -130,7 +130,7 @@ def star(platform, zone):
         if not up:
             if not zone.backbone and name not in zone.hosts and name not in platform.gateways:
                 continue
-            # A spoke has at least one link. The backbone counts once on a route; a link as wide as can be has no effect.
+            # A spoke has at least one link. The backbone counts once on a route; a link of the greatest bandwidth has no effect.
             up = down = (zone.backbone or ideal(platform, zone, name),)
         keys = {"zone": zone.id, "child": name, "up": list(up)}
         if name in own:
@@ -144,7 +144,7 @@ def ideal(platform, zone, name):
 
 
 def own_loops(platform, zone):
-    """A Full zone for each host that has a loopback of its own, since a Star zone has no routes."""
+    """Adds a Full zone for each host that has its own loopback, since a Star zone has no routes."""
     loops = [name for name in zone.hosts if (name, name) in zone.ways]
     if len(platform.of_zone) + platform.more_zones + len(loops) > MOST_ZONES:
         platform.notes.add(zone.element, f"{zone.element}: its loopbacks are left out: a zone for each of {len(loops)} hosts would "

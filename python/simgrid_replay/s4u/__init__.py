@@ -2,8 +2,8 @@
 
     from simgrid_replay.s4u import Actor, Engine, Host, Mailbox, this_actor
 
-Names and calls are those of SimGrid 3.32's module `simgrid`. A program that was written for it runs unchanged by
-`python3 -m simgrid_replay.s4u PROGRAM.py ARGUMENTS..`. Needs the library greenlet.
+Names and calls are those of SimGrid 3.32's module `simgrid`. A program that was written for it runs unchanged with
+`python3 -m simgrid_replay.s4u PROGRAM.py ARGUMENTS..`. It needs the library greenlet.
 """
 
 from .actors import Actor, this_actor

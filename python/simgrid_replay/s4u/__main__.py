@@ -1,6 +1,6 @@
 """Runs a program written for SimGrid: python3 -m simgrid_replay.s4u [--trace FILE] [--workers N] PROGRAM.py ARGUMENTS..
 
-In this process alone `import simgrid` finds this package.
+Only in this process, `import simgrid` finds this package.
 """
 
 import argparse
@@ -11,8 +11,8 @@ import sys
 from simgrid_replay import s4u
 from simgrid_replay.s4u.engine import Settings
 
-STATUSES = """exit status: that of the program; 1 where an actor raised an exception, 3 where something isn't here or
-simgrid_replay ended by itself, 6 where the run is in a deadlock"""
+STATUSES = """exit status: that of the program; 1 if an actor raised an exception, 3 if a feature isn't supported or
+simgrid_replay ended unexpectedly, 6 if the run ended in a deadlock"""
 
 
 def words() -> argparse.Namespace:

@@ -42,7 +42,7 @@ class Actor(Waitable):
         return f"the end of actor {self.name}"
 
     def _main(self) -> None:
-        """Runs the actor's function, and then what it asked for by `on_exit`."""
+        """Runs the actor's function, and then the functions of `on_exit`."""
         failed = False
         try:
             if self.doomed:
@@ -138,12 +138,12 @@ class Actor(Waitable):
         simcall(self._move, host)
 
     def set_auto_restart(self, restart: bool = True) -> None:
-        """Has the actor start anew whenever its host is turned on again."""
+        """Restarts the actor whenever its host is turned on again."""
         if restart:
             self._host.boot.append((self.name, self._function, self._words))
 
     def daemonize(self) -> "Actor":
-        """Makes the actor a daemon, which ends as soon as only daemons are left."""
+        """Makes the actor a daemon, which ends as soon as all other actors have ended."""
         def become() -> None:
             maestro.stay -= not (self.daemon or self.dead)
             self.daemon = True
@@ -157,7 +157,7 @@ class Actor(Waitable):
         return self.suspended
 
     def suspend(self) -> None:
-        """Blocks the actor until another one calls `resume`. Its executions stand still; its messages go on."""
+        """Blocks the actor until another one calls `resume`. Its executions are suspended; its messages continue."""
         if self is maestro.current:
             this_actor.suspend()
         else:
@@ -189,7 +189,7 @@ class Actor(Waitable):
 
     @staticmethod
     def kill_all() -> None:
-        """Kills all actors but the one that calls."""
+        """Kills all actors except the caller."""
         me = maestro.current
 
         def kill() -> None:
@@ -261,7 +261,7 @@ class ThisActor:
 
     @staticmethod
     def execute(flops: float, priority: float = 1) -> None:
-        """Blocks for an execution of so many flops on the actor's host."""
+        """Blocks for an execution of `flops` flops on the actor's host."""
         execution = executions.Exec(flops, priority)
         execution.start()
         execution.wait()
@@ -292,7 +292,7 @@ class ThisActor:
 
     @staticmethod
     def sleep_for(duration: float) -> None:
-        """Blocks for so many seconds."""
+        """Blocks for a number of seconds."""
         if nanoseconds(duration) > 0:
             begin = maestro.now
             block(Sleep, duration)
@@ -326,7 +326,7 @@ class ThisActor:
 
     @staticmethod
     def on_exit(function: Callable[[bool], Any]) -> None:
-        """Has the function called when the actor ends, with whether it was killed."""
+        """Calls the function when the actor ends, with whether it was killed."""
         simcall(maestro.current.exits.append, function)
 
     @staticmethod

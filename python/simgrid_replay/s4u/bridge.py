@@ -1,4 +1,4 @@
-"""Runs activities on the program simgrid_replay: starts each by a line of its script, and reads its end from the trace.
+"""Runs activities on the program simgrid_replay: starts each with a line of the script, and reads its end from the trace.
 
 An activity is an execution, a sleep or a message. It is done by actors of the program that have no other task, called
 *workers*: one for an execution or a sleep, two for a message. An idle worker has suspended itself.
@@ -31,13 +31,13 @@ NEW, RUNNING, SUSPENDED, OVER = range(4)
 
 
 class Owner(Protocol):
-    """Who is told that an activity completed."""
+    """The owner of an activity, which learns that it completed."""
 
     def completed(self) -> None: ...
 
 
 class Worker:
-    """An actor of the program that does activities. Hosts are numbers here."""
+    """An actor of the program that runs activities. Hosts are numbers here."""
 
     __slots__ = ("name", "host", "job")
 
@@ -48,11 +48,11 @@ class Worker:
 class Job:
     """An activity on the program: `compute AMOUNT` or `sleep TIME` on a host, or an amount that is sent to the host `to`."""
 
-    __slots__ = ("owner", "host", "text", "to", "serial", "state", "started", "workers")
+    __slots__ = ("owner", "host", "text", "to", "number", "state", "started", "workers")
 
     def __init__(self, owner: Owner, host: int, text: str, to: int | None = None):
         self.owner, self.host, self.text, self.to = owner, host, text, to
-        self.serial, self.state, self.started, self.workers = 0, NEW, False, ()
+        self.number, self.state, self.started, self.workers = 0, NEW, False, ()
 
 
 def rows_of(workers: Sequence[Worker], hosts: Sequence[str]) -> str:
@@ -103,15 +103,15 @@ class Bridge:
 
     # What is decided at a date ---------------------------------------------------------------------------------------
 
-    def start(self, job: Job, serial: int) -> Job:
-        """Starts an activity with the next wave. Those that complete at one date are ordered by their serials."""
-        job.serial = serial
+    def start(self, job: Job, number: int) -> Job:
+        """Starts an activity with the next wave. Those that complete at one date are ordered by their numbers."""
+        job.number = number
         self.new.append(job)
         self.running += 1
         return job
 
     def cancel(self, job: Job) -> None:
-        """Ends an activity. One that had been told to the program takes a worker with it, for good."""
+        """Ends an activity. If the program has started it, its worker is lost for the rest of the run."""
         if job.state == OVER:
             return
         self.running -= job.state != SUSPENDED
@@ -120,7 +120,7 @@ class Bridge:
             first, *others = job.workers
             self.orders.append(f"kill {first.name}")
             first.job = None
-            # The receiver is told of the failure at this date, and asks for its next line.
+            # The receiver learns of the failure at this date, and fetches its next line.
             for other in others:
                 other.job = None
                 self.hand.append(other)
@@ -160,12 +160,12 @@ class Bridge:
 
     def out_of_workers(self, host: int) -> str:
         if self.started == CONTEXTS:
-            return (f"all {CONTEXTS:,} contexts of a run are taken: one is taken for each activity that runs at once with others, "
-                    "and by each kill, cancellation or timeout of an activity for good")
-        return f"no worker is left for activities on host {self.hosts[host]}: give more by --workers"
+            return (f"all {CONTEXTS:,} contexts of a run are in use: each simultaneous activity needs one, and each kill, "
+                    "cancellation or timeout of an activity uses one up")
+        return f"no worker is free for activities on host {self.hosts[host]}: use --workers for more"
 
     def wave(self) -> str:
-        """The lines of all that was decided at this date."""
+        """The lines of all decisions at this date."""
         hand, new = self.hand, self.new
         self.hand, self.new = [], []
         issuer = hand[0].name
@@ -204,7 +204,7 @@ class Bridge:
         return "".join(lines)
 
     def write(self, text: str) -> None:
-        """Writes script lines; meanwhile the trace is read, since the program may wait for room in it."""
+        """Writes script lines, and reads the trace meanwhile, since the program may wait for room in the pipe."""
         data = text.encode()
         try:
             done = os.write(self.pipe, data)
@@ -224,7 +224,7 @@ class Bridge:
                 return
 
     def read(self) -> bytes:
-        """What the program writes next."""
+        """The next output of the program."""
         piece = self.early.pop(0) if self.early else self.receive(2 * WRITE)
         if not piece:
             raise Stopped(self.ending())
@@ -232,7 +232,7 @@ class Bridge:
         return piece
 
     def advance(self) -> list[Job]:
-        """Goes on to the next date at which activities complete, and returns these."""
+        """Advances to the next date at which activities complete, and returns these."""
         self.write(self.wave())
         ended: list[Job] = []
         while True:
@@ -261,9 +261,10 @@ class Bridge:
         self.now = int(date.replace(b".", b""))
 
     def take_rest(self, ended: list[Job]) -> None:
-        """Reads on where the trace of this date may take a further write.
+        """Reads further if the trace of this date may have another write.
 
-        Each worker in hand yields: the program does these lines only once all whose activities completed have been asked.
+        Each worker in hand yields: the program executes these lines only after all workers with completed activities have
+        fetched a line.
         """
         asked = 0
         while True:
@@ -280,7 +281,7 @@ class Bridge:
         """Ends all workers at this date, and returns the last lines of the program: the end of the run, and energies."""
         me, *others = self.hand
         fresh = {worker for some in self.fresh for worker in some}
-        # Each worker in hand is asked for a line before any of these lines is done.
+        # Each worker in hand fetches a line before any of these lines is executed.
         lines = [f"{worker.name} suspend {worker.name}\n" for worker in others]
         lines += [f"{me.name} kill {worker.name}\n" for worker in self.workers if worker is not me and worker not in fresh]
         self.write("".join(lines) + f"{me.name} kill {me.name}\n")
@@ -295,16 +296,16 @@ class Bridge:
         return last
 
     def ending(self) -> str:
-        """How the program ended by itself."""
+        """How the program ended unexpectedly."""
         status = self.process.wait()
         faults = self.process.stderr.read().decode("ascii", "replace").strip()
         lines = [line for line in self.said.decode("ascii", "replace").splitlines() if line and not line.startswith("[")]
-        told = faults.splitlines()[-1] if faults else lines[0] if lines else "it wrote nothing more"
+        cause = faults.splitlines()[-1] if faults else lines[0] if lines else "it wrote nothing more"
         how = f"was ended by signal {-status}" if status < 0 else f"ended with status {status}"
-        return f"simgrid_replay {how} while actors were running: {told}"
+        return f"simgrid_replay {how} while actors were running: {cause}"
 
     def close(self) -> None:
-        """Ends the program, where it still runs."""
+        """Ends the program if it is still running."""
         if self.process.poll() is None:
             self.process.kill()
             self.process.wait()
@@ -313,7 +314,7 @@ class Bridge:
 
 
 def memory_file(name: str, text: str) -> int:
-    """A file that is nowhere but in memory."""
+    """A file that is only in memory."""
     file = os.memfd_create(name)
     with os.fdopen(os.dup(file), "wb") as out:
         out.write(text.encode())

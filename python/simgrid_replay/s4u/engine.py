@@ -15,7 +15,7 @@ from .rounds import SECOND, Maestro, maestro, nanoseconds
 from .trace import Trace
 from .zones import NetPoint, NetZone
 
-# How many workers a run has, over all hosts; hosts on which actors start have most of them.
+# The number of workers of a run over all hosts; hosts on which actors start have most of them.
 WORKERS = 16384
 
 
@@ -36,7 +36,7 @@ class EngineClass(type):
 
     @property
     def instance(cls) -> "Engine":
-        """The engine, which is made where there is none."""
+        """The engine, which is created if necessary."""
         return Engine.made or Engine([])
 
     def get_clock(cls) -> float:
@@ -68,7 +68,7 @@ class Engine(metaclass=EngineClass):
 
     @staticmethod
     def set_config(setting: str) -> None:
-        """Takes a setting `NAME:VALUE` of SimGrid's. Those that change no date here are passed over."""
+        """Takes a setting `NAME:VALUE` of SimGrid. Settings that change no date here are ignored."""
         name, _, value = setting.partition(":")
         if name == "network/crosstraffic":
             network.cross = value.lower() not in loading.OFF
@@ -80,7 +80,7 @@ class Engine(metaclass=EngineClass):
     # Platforms and deployments ---------------------------------------------------------------------------------------
 
     def load_platform(self, path: str) -> None:
-        """Loads a platform: SimGrid's XML, or TOML where the file's name ends so."""
+        """Loads a platform: TOML if the file's name ends in .toml, else SimGrid's XML."""
         loading.load_platform(path, self.model)
 
     def load_deployment(self, path: str) -> None:
@@ -151,11 +151,11 @@ class Engine(metaclass=EngineClass):
             raise
 
     def begin(self) -> None:
-        """Starts the program, where it isn't running yet."""
+        """Starts the program if it isn't running yet."""
         if maestro.bridge is not None:
             return
         if not network.hosts:
-            raise NotHere("a run without hosts: load a platform, or make one")
+            raise NotHere("a run without hosts: load or create a platform")
         hosts = list(network.hosts.values())
         bridge = Bridge(find_program(), toml_text(network.text_document()), [host.id for host in hosts], shares(hosts))
         maestro.bridge = bridge
@@ -182,7 +182,7 @@ class Engine(metaclass=EngineClass):
 
 
 def shares(hosts: list[Host]) -> list[int]:
-    """How many workers each host has. Those on which actors start have most."""
+    """The number of workers of each host. Hosts on which actors start have most."""
     total = Settings.workers or WORKERS
     busy = sum(1 for host in hosts if host.actors) or len(hosts)
     least = max(1, total // 4 // len(hosts))
@@ -191,7 +191,7 @@ def shares(hosts: list[Host]) -> list[int]:
 
 
 def deadlock() -> Deadlock:
-    """Tells what each actor waits for."""
+    """Logs what each actor waits for, and returns the exception."""
     logs.write("CRITICAL", "Oops! Deadlock detected, some activities are still around but will never complete. This usually happens "
                "when the user code is not perfectly clean.", "ker_engine")
     lines = []
@@ -205,7 +205,7 @@ def deadlock() -> Deadlock:
 
 
 def reset() -> None:
-    """Forgets the run before, so that a process can make several."""
+    """Resets the state, so that a process can make several runs."""
     if maestro.bridge is not None:
         maestro.bridge.close()
     maestro.__init__()

@@ -2,7 +2,7 @@
 
 
 class ActorKilled(BaseException):
-    """Ends an actor that was killed. It is no Exception, so that `except Exception` doesn't keep a killed actor alive."""
+    """Ends an actor that was killed. It isn't an Exception, so that `except Exception` doesn't keep a killed actor alive."""
 
 
 class NetworkFailureException(Exception):
@@ -18,11 +18,11 @@ class HostFailureException(Exception):
 
 
 class StorageFailureException(Exception):
-    """Exists for SimGrid's sake: there are no disks."""
+    """Exists for compatibility: disks aren't supported."""
 
 
 class VmFailureException(Exception):
-    """Exists for SimGrid's sake: there are no virtual machines."""
+    """Exists for compatibility: virtual machines aren't supported."""
 
 
 class CancelException(Exception):
@@ -30,16 +30,16 @@ class CancelException(Exception):
 
 
 class AssertionError(AssertionError):  # SimGrid has this name
-    """A call was made that its object doesn't allow, as the release of another actor's mutex."""
+    """An object doesn't allow the call, for example the release of another actor's mutex."""
 
 
 class NotHere(Exception):
-    """The program simgrid_replay lacks what the call asks for."""
+    """The call needs a feature that simgrid_replay doesn't support."""
 
 
 class Deadlock(Exception):
-    """Actors are blocked, and nothing that runs can wake them."""
+    """Deadlock: actors are blocked, no activity is running and no profile event is pending."""
 
 
 class Stopped(Exception):
-    """The program simgrid_replay ended by itself, or couldn't be started."""
+    """The program simgrid_replay ended unexpectedly, or couldn't be started."""

@@ -1,4 +1,4 @@
-"""Executions. What is left of one isn't in the trace, so each host mirrors how its executions share it."""
+"""Executions. The trace doesn't show their remaining work, so each host computes how its executions share it."""
 
 from .bridge import Job
 from .errors import CancelException, HostFailureException, NotHere, TimeoutException
@@ -21,8 +21,8 @@ class Exec(Waitable):
     @property
     def rank(self) -> tuple:
         mirror = self._host.mirror
-        date, serial = mirror.touched
-        return 1, date, 1, serial, -mirror.executions.get(self, 0)
+        date, number = mirror.touched
+        return 1, date, 1, number, -mirror.executions.get(self, 0)
 
     def describe(self) -> str:
         return f"an execution on {self._host.name}"
@@ -38,7 +38,7 @@ class Exec(Waitable):
         self.actor.activities[self] = None
 
     def put(self) -> None:
-        """Starts what is left on the host."""
+        """Starts the remaining work on the host."""
         priority = self.priority
         if priority != int(priority) or not 1 <= priority <= 1000:
             raise NotHere(f"priority {priority}: they are whole numbers from 1 to 1,000")
@@ -46,7 +46,7 @@ class Exec(Waitable):
         if amount > MOST_FLOPS:
             raise NotHere(f"an execution of {self.left:g} flops: at most 10^15")
         text = f"compute {amount}" if priority == 1 else f"compute {amount} {int(priority)}"
-        self.job = maestro.bridge.start(Job(self, self._host.index, text), next(maestro.serials))
+        self.job = maestro.bridge.start(Job(self, self._host.index, text), next(maestro.numbers))
         self._host.mirror.enter(self)
 
     def completed(self) -> None:
@@ -86,7 +86,7 @@ class Exec(Waitable):
             self._host = host
 
     def restart(self) -> None:
-        """Starts what is left anew, since its host's speed has changed."""
+        """Restarts the remaining work, since its host's speed has changed."""
         maestro.bridge.cancel(self.job)
         self._host.mirror.leave(self)
         self.put()
@@ -128,21 +128,23 @@ class Exec(Waitable):
         return self
 
     def wait(self) -> "Exec":
-        """Blocks until the execution is over."""
+        """Blocks until the execution has completed or failed."""
         return self.wait_for(-1)
 
     def wait_for(self, timeout: float) -> "Exec":
-        """Blocks until the execution is over. After so many seconds TimeoutException is raised, and the execution goes on."""
+        """Blocks until the execution has completed or failed. After `timeout` seconds TimeoutException is raised, and the
+        execution continues."""
         if self.state == "INITED":
             self.start()
         begin = maestro.now
         block(self.await_by, timeout if timeout >= 0 else None)
         if maestro.trace:
-            maestro.trace.add(maestro.current, begin, f"compute {round(self.flops)}")
+            flops = round(self.flops)
+            maestro.trace.add(maestro.current, begin, f"compute {flops}")
         return self
 
     def test(self) -> bool:
-        """Whether the execution is over, done or failed."""
+        """Whether the execution has completed or failed."""
         if self.state == "INITED":
             self.start()
         return simcall(self.test_now)
@@ -153,23 +155,23 @@ class Exec(Waitable):
         return self
 
     def suspend(self) -> "Exec":
-        """Has the execution stand still."""
+        """Suspends the execution."""
         simcall(self.hold)
         return self
 
     def resume(self) -> "Exec":
-        """Lets a suspended execution go on."""
+        """Resumes a suspended execution."""
         simcall(self.go_on)
         return self
 
     @property
     def remaining(self) -> float:
-        """The flops that are left."""
+        """The remaining flops."""
         return simcall(self.left_now)
 
     @property
     def remaining_ratio(self) -> float:
-        """What is left, from 1 at the start to 0."""
+        """The remaining part, from 1 at the start to 0."""
         return self.remaining / self.flops if self.flops else 0.0
 
     @property
@@ -189,15 +191,15 @@ class Mirror:
 
     def __init__(self, host):
         self.host, self.executions, self.last, self.ratio = host, {}, 0, 1.0
-        self.touched = (-1, 0)    # the date of the last change, and the serial of the first one at that date
+        self.touched = (-1, 0)    # the date of the last change, and the number of the first one at that date
 
     def touch(self) -> None:
-        """Something begins or ends on the host."""
+        """Notes that an execution begins or ends on the host."""
         if self.touched[0] != maestro.now:
-            self.touched = maestro.now, next(maestro.serials)
+            self.touched = maestro.now, next(maestro.numbers)
 
     def update(self) -> None:
-        """Brings what is left of each up to date."""
+        """Updates the remaining work of each execution."""
         now = maestro.now
         if now != self.last:
             past, self.last = (now - self.last) / SECOND, now
@@ -231,7 +233,7 @@ class Mirror:
     def enter(self, execution: Exec) -> None:
         self.update()
         self.touch()
-        self.executions[execution] = next(maestro.serials)
+        self.executions[execution] = next(maestro.numbers)
 
     def leave(self, execution: Exec) -> None:
         self.update()

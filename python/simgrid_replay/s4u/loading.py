@@ -1,4 +1,4 @@
-"""Loads platforms (SimGrid's in XML, and our own in TOML) and deployments."""
+"""Loads platforms (SimGrid's XML and this program's TOML) and deployments."""
 
 import os
 import tomllib
@@ -38,12 +38,12 @@ def load_platform(path: str, model: str) -> None:
 
 
 def read_xml(path: str, model: str) -> tuple[dict[str, str], dict[str, str]]:
-    """Reads a platform of SimGrid's, and returns the names there of hosts and links by their names here."""
+    """Reads a platform of SimGrid, and returns SimGrid's names of hosts and links by their names here."""
     simgrid_files()
-    from simgrid_files import convert, told
+    from simgrid_files import convert, notes
     try:
         study = convert.study(SimpleNamespace(platform=path, deployment=None, model=model, crosstraffic="no", unit="1"))
-    except (told.Refused, told.Unread) as fault:
+    except (notes.Refused, notes.Unread) as fault:
         raise NotHere(str(fault)) from None
     network.document = tomllib.loads(study.texts["platform.toml"])
     setting = study.platform.settings.get("network/crosstraffic")
@@ -75,12 +75,12 @@ def seconds(text: str) -> float:
 
 
 def period_of(row: dict) -> float:
-    """After how long a profile begins anew, or -1."""
+    """The period of a profile, or -1."""
     return seconds(row["loop"]) + seconds(row["dates"][-1]) if "loop" in row else -1
 
 
 def follow_states() -> None:
-    """Takes over what turns hosts and links off and on: the program doesn't kill the actors of a host."""
+    """Applies state profiles here, since the program doesn't kill the actors of a host."""
     for row in network.document.pop("state_profile", []):
         thing = next(host for host in network.hosts.values() if host.id == row["host"]) if "host" in row else network.by_id[row["link"]]
         points = [(seconds(date), float(state == "on")) for date, state in zip(row["dates"], row["states"])]
@@ -90,7 +90,7 @@ def follow_states() -> None:
 
 
 def follow_speeds() -> None:
-    """Has hosts mirror the profiles of their speeds."""
+    """Lets hosts follow the profiles of their speeds."""
     for row in network.document.get("profile", []):
         if "host" in row:
             host = next(host for host in network.hosts.values() if host.id == row["host"])

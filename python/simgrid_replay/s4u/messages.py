@@ -11,7 +11,7 @@ WAITING, STARTED, DONE, FAILED, CANCELED = range(5)
 
 
 class Message(Waitable):
-    """What one send and one receive make, or a send between two hosts: it starts once both sides are there."""
+    """A message of one send and one receive, or between two hosts: it starts once both actors have made their calls."""
 
     __slots__ = ("box", "is_send", "state", "source", "target", "sender", "receiver", "data", "size", "rate", "job", "detached",
                  "blocking", "began", "ended")
@@ -21,12 +21,12 @@ class Message(Waitable):
         self.box, self.is_send, self.state = box, is_send, WAITING
         self.source = self.target = self.sender = self.receiver = None
         self.data, self.size, self.rate, self.job, self.detached = None, 0, None, None, False
-        self.blocking = 0    # how many of its sides have called put or get
+        self.blocking = 0    # how many of its actors have called put or get
         self.began = self.ended = -1
 
     @property
     def rank(self) -> tuple:
-        return 2, self.began, self.job.serial
+        return 2, self.began, self.job.number
 
     def describe(self) -> str:
         return f"a message at mailbox {self.box.name}" if self.box is not None else "a message between hosts"
@@ -52,12 +52,12 @@ class Message(Waitable):
         unit = 1 if self.source is self.target and not network.declares_loopback(self.source) else network.unit
         text = str(round(self.size * unit))
         if self.rate:
-            text += f" {max(1, round(self.rate * unit))}"
-        self.job = maestro.bridge.start(Job(self, self.source.index, text, self.target.index), next(maestro.serials))
+            text += " " + str(max(1, round(self.rate * unit)))
+        self.job = maestro.bridge.start(Job(self, self.source.index, text, self.target.index), next(maestro.numbers))
         network.messages[self] = None
 
     def over(self) -> None:
-        """Takes it off the network, and from what its actors have to end."""
+        """Removes it from the network and from its actors."""
         network = self.source.network
         network.messages.pop(self, None)
         if network.limited:
@@ -91,7 +91,7 @@ class Message(Waitable):
             self.fail(NetworkFailureException("Link failure"))
 
     def cancel(self) -> None:
-        """Ends it: at once where only one side is there, else after the calls of this round."""
+        """Ends it: at once if it is unmatched, else after the calls of this scheduling round."""
         if self.state == WAITING:
             self.fail(CancelException("Communication canceled"), CANCELED)
         elif self.state == STARTED:
@@ -131,7 +131,7 @@ class Mailbox:
 
     @staticmethod
     def by_name(name: str) -> "Mailbox":
-        """The mailbox of this name, which is made where there is none."""
+        """The mailbox of this name, which is created if necessary."""
         return simcall(box_of, name)
 
     @property
@@ -141,7 +141,7 @@ class Mailbox:
         return first is not None and first.state == DONE
 
     def set_receiver(self, actor) -> None:
-        """Makes the actor the one that receives here: messages to it start before it asks for them."""
+        """Makes the actor the only receiver of the mailbox: messages to it start before it calls get."""
         simcall(setattr, self, "owner", actor)
 
     # What the maestro does -------------------------------------------------------------------------------------------
@@ -200,7 +200,7 @@ class Mailbox:
         return comm
 
     def put_async(self, data: Any, size: float) -> "Comm":
-        """Starts a send of so many bytes, and returns at once."""
+        """Starts a send of `size` bytes, and returns at once."""
         return self.put_init(data, size).start()
 
     def put(self, data: Any, size: float, timeout: float = -1) -> None:
@@ -237,7 +237,7 @@ def box_of(name: str) -> Mailbox:
 
 
 class PyGetAsync:
-    """What a receive will have."""
+    """The data of a receive."""
 
     __slots__ = ("_comm",)
 
@@ -245,12 +245,12 @@ class PyGetAsync:
         self._comm = comm
 
     def get(self) -> Any:
-        """What has arrived."""
+        """The data that has arrived."""
         return self._comm._message.data
 
 
 class Comm:
-    """One side of a message, or a message between two hosts, without a mailbox."""
+    """A send or a receive, or a message between two hosts without a mailbox."""
 
     __slots__ = ("_box", "_is_send", "_actor", "_state", "_data", "_size", "_rate", "_message", "_detached", "_source", "_target")
 
@@ -312,12 +312,12 @@ class Comm:
         return self.start()
 
     def set_payload_size(self, bytes: float) -> "Comm":
-        """Sets how many bytes are sent."""
+        """Sets the number of bytes."""
         self._size = bytes
         return self
 
     def set_rate(self, rate: float) -> "Comm":
-        """Bounds the message to so many bytes a second."""
+        """Limits the message to a rate in bytes a second."""
         self._rate = rate
         return self
 
@@ -326,7 +326,7 @@ class Comm:
         return self.wait_for(-1)
 
     def wait_for(self, timeout: float) -> "Comm":
-        """Blocks until the message has arrived; after so many seconds it fails, and TimeoutException is raised."""
+        """Blocks until the message has arrived; after `timeout` seconds it fails, and TimeoutException is raised."""
         if self._state == "FINISHED":
             return self
         if self._state == "FAILED":
@@ -350,7 +350,7 @@ class Comm:
         return self.wait_for(max(0.0, time_limit - maestro.now / SECOND))
 
     def test(self) -> bool:
-        """Whether the message is over: it has arrived, or failed."""
+        """Whether the message has arrived or failed."""
         if self._state in ("FINISHED", "CANCELED"):
             return True
         if self._state == "INITED":
@@ -366,7 +366,7 @@ class Comm:
         return self
 
     def suspend(self) -> "Comm":
-        """Keeps a message that isn't started from its start, as SimGrid does; one that is under way can't be suspended."""
+        """Delays the start of a message, as SimGrid does; a running message can't be suspended."""
         if self._state == "INITED" or self._state == "FINISHED" or self._message.state == DONE:
             return self
         raise NotHere("Comm.suspend of a message that has started")
@@ -415,7 +415,7 @@ class Comm:
 
     @staticmethod
     def wait_any_for(comms: list["Comm"], timeout: float) -> int:
-        """As `wait_any`; -1 where the time limit in seconds is reached before."""
+        """As `wait_any`; -1 if the time limit in seconds is reached before."""
         begin = maestro.now
         try:
             place = block(await_any, comms, timeout)
@@ -461,7 +461,7 @@ class Comm:
 
     @property
     def remaining(self) -> float:
-        """The bytes that are left, where that is known: before the start, at the start, and at the end."""
+        """The remaining bytes, if known: before the start, at the start, and at the end."""
         message = self._message
         if message is None:
             return float(self._size)
@@ -469,7 +469,7 @@ class Comm:
             return 0.0
         if message.state == WAITING or message.began == maestro.now:
             return float(message.size)
-        raise NotHere("Comm.remaining of a message that is under way")
+        raise NotHere("Comm.remaining of a message that is running")
 
     @property
     def start_time(self) -> float:

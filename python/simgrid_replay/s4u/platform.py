@@ -12,12 +12,12 @@ from .executions import Mirror
 from .profiles import points_of, unrolled
 from .rounds import SECOND, simcall
 
-# A platform has at most so many zones.
+# The most zones of a platform.
 MOST_ZONES = 1024
 
 
 class Network:
-    """The platform: the tables of its TOML in `document`, its hosts and links by name, and the messages that are under way."""
+    """The platform: the tables of its TOML in `document`, its hosts and links by name, and the running messages."""
 
     def __init__(self) -> None:
         self.document: dict[str, list[dict]] = {}
@@ -36,13 +36,13 @@ class Network:
         return self.document.setdefault(name, [])
 
     def text_document(self) -> dict:
-        """The platform as the program gets it."""
+        """The platform in the form that the program reads."""
         self.add_loops()
         self.unit = unit_of(self.document)
         return finer(self.document, self.unit, self.cross and is_symmetrical(self.document))
 
     def add_loops(self) -> None:
-        """Has each host of a Star zone reach itself up and down its own links, as in SimGrid: in a zone of its own.
+        """Routes each host of a Star zone to itself up and down its own links, as in SimGrid: in its own zone.
 
         A platform has at most 1,024 zones; with more hosts they keep the program's loopback.
         """
@@ -75,10 +75,10 @@ class Network:
     def declares_loopback(self, host: "Host") -> bool:
         return bool(self.links_between(host, host))
 
-    # Links with a limit of how many messages use them at once
+    # Links with a limit of simultaneous messages
 
     def queue(self, message) -> bool:
-        """Whether a message has to wait, since a link of its route is used by as many as it may be."""
+        """Whether a message has to wait, since a link of its route has reached its limit."""
         links = [link for link in self.links_between(message.source, message.target) if link.limit]
         full = any(len(link.users) >= link.limit for link in links)
         for link in links:
@@ -89,7 +89,7 @@ class Network:
         return full
 
     def unqueue(self, message) -> None:
-        """Lets those go on that have waited for a message that is over."""
+        """Starts the messages that have waited for one that has completed or failed."""
         for link in self.links_between(message.source, message.target):
             if link.limit and message in link.users:
                 del link.users[message]
@@ -157,7 +157,7 @@ class Host:
     @core_count.setter
     def core_count(self, count: int) -> None:
         if maestro.bridge:
-            raise NotHere("Host.core_count while the run goes on")
+            raise NotHere("Host.core_count during the run")
         self._row["core"] = count
 
     def set_core_count(self, count: int) -> "Host":
@@ -182,7 +182,7 @@ class Host:
 
     @property
     def pstate(self) -> int:
-        """The state, by which the speed is chosen from those that the platform has. What is running goes on with the new speed."""
+        """The state, which selects one of the host's speeds. Running executions continue at the new speed."""
         return self._pstate
 
     @pstate.setter
@@ -199,7 +199,7 @@ class Host:
 
     def set_sharing_policy(self, policy, cb=None) -> "Host":
         if policy == Host.NONLINEAR:
-            raise NotHere("hosts that are shared by a function of one's own")
+            raise NotHere("hosts with a user-defined sharing function")
         return self
 
     def set_state_profile(self, profile: str, period: float) -> "Host":
@@ -299,7 +299,7 @@ class Link:
 
     def _fixed(self, what: str) -> None:
         if maestro.bridge:
-            raise NotHere(f"a new {what} of a link while the run goes on; a profile can change the bandwidth")
+            raise NotHere(f"a new {what} of a link during the run; a profile can change the bandwidth")
 
     def set_bandwidth_profile(self, profile: str, period: float) -> "Link":
         """Changes the bandwidth at dates: lines `DATE BYTES_A_SECOND`."""
@@ -325,7 +325,7 @@ class Link:
         return self
 
     def set_concurrency_limit(self, limit: int) -> "Link":
-        """Lets at most so many messages use the link at once. The others wait before their latency passes."""
+        """Limits the number of messages that use the link at once. The others wait before their latency passes."""
         self.limit = limit
         network.limited = True
         return self
@@ -400,7 +400,7 @@ class LinkInRoute:
 
 
 def fail_messages(text: str, chosen: Callable) -> None:
-    """Has messages that are under way fail, after the calls of this round."""
+    """Lets running messages fail, after the calls of this scheduling round."""
     for message in network.messages:
         if chosen(message):
             maestro.after[1].append(lambda message=message: message.break_off(text))

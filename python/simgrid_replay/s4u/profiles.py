@@ -1,8 +1,8 @@
-"""Profiles: values by their dates, which may begin anew after a period."""
+"""Profiles: values by their dates, which may repeat after a period."""
 
 from collections.abc import Iterator
 
-# Profiles that begin anew are followed up to here, in seconds.
+# The date in seconds up to which periodic profiles are followed.
 HORIZON = 1e9
 
 
@@ -12,7 +12,7 @@ def points_of(text: str) -> list[tuple[float, float]]:
 
 
 def unrolled(points: list[tuple[float, float]], period: float) -> Iterator[tuple[float, float]]:
-    """The changes in order. A period that is not above 0 doesn't begin anew."""
+    """The changes in order. A period that isn't above 0 means no repetition."""
     base = 0.0
     while base < HORIZON:
         yield from ((base + date, value) for date, value in points)

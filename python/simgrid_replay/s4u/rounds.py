@@ -1,7 +1,7 @@
 """Runs actors in scheduling rounds, as SimGrid's maestro does.
 
-In a round each ready actor runs up to its next call that the maestro answers. Then these calls are answered, in the order in
-which their actors ran; an actor whose call is answered is ready in the next round. When nobody is ready, time advances.
+In a scheduling round each ready actor runs up to its next call to the maestro. Then these calls are answered, in the order in
+which their actors ran; an actor whose call is answered is ready in the next scheduling round. When nobody is ready, time advances.
 """
 
 from collections.abc import Callable
@@ -18,7 +18,7 @@ SECOND = 10**9
 
 
 class Maestro:
-    """The state of the run, of which there is one in a process, as in SimGrid."""
+    """The state of the run; a process has one, as in SimGrid."""
 
     # puts what completes at one date in order: `order.in_order`
     in_order: Callable[[list], list] = staticmethod(list)
@@ -27,14 +27,14 @@ class Maestro:
         self.bridge = None
         self.current = None     # the actor that runs now
         self.main = getcurrent()
-        self.ready: list = []   # the actors of the next round
-        self.turn: list = []    # the actors of this round that are still to run, last first
-        self.calls: list = []   # the calls of this round: actor, function, arguments, and whether the function answers later
-        self.after: tuple[list, list] = ([], [])    # what is done once this round's calls are answered: on hosts, and on messages
+        self.ready: list = []   # the actors of the next scheduling round
+        self.turn: list = []    # the actors of this scheduling round that are still to run, last first
+        self.calls: list = []   # the calls of this scheduling round: actor, function, arguments, and whether it answers later
+        self.after: tuple[list, list] = ([], [])    # what follows once these calls are answered: on hosts, and on messages
         self.actors: dict = {}
         self.last_pid = 0
         self.stay = 0           # how many actors are no daemons
-        self.serials = count(1)  # activities and timers by when they started, by which those that complete at one date are ordered
+        self.numbers = count(1)  # activities and timers by when they started, by which those that complete at one date are ordered
         self.fault: BaseException | None = None
         self.alarms = Alarms(self)
         self.trace = None
@@ -45,7 +45,7 @@ class Maestro:
         return self.bridge.now if self.bridge else 0
 
     def next(self):
-        """The next actor of this round that runs, or None."""
+        """The next actor of this scheduling round that runs, or None."""
         turn = self.turn
         while turn:
             actor = turn.pop()
@@ -64,7 +64,7 @@ class Maestro:
         return None
 
     def run_ready(self) -> None:
-        """Makes rounds until nobody is ready."""
+        """Runs scheduling rounds until nobody is ready."""
         while self.ready:
             self.turn, self.ready = self.ready[::-1], []
             self.main = getcurrent()
@@ -97,7 +97,7 @@ class Maestro:
         self.ready.append(actor)
 
     def settle(self) -> None:
-        """Does what was left until the calls were answered."""
+        """Does what had to wait until the calls were answered."""
         for after in self.after:
             while after:
                 some = after[:]
@@ -106,7 +106,7 @@ class Maestro:
                     function()
 
     def advance(self) -> None:
-        """Goes on to the next date at which something completes, and completes it."""
+        """Advances to the next date at which something completes, and completes it."""
         self.alarms.arm()
         ended = self.bridge.advance()
         if len(ended) > 1 or ended[0].owner is self.alarms:
@@ -125,7 +125,7 @@ class Maestro:
     # What actors call ------------------------------------------------------------------------------------------------
 
     def leave(self, actor) -> Any:
-        """Lets the next actor of this round run, and returns the answer of the call once there is one."""
+        """Runs the next actor of this scheduling round, and returns the answer of the call once there is one."""
         following = self.next()
         self.current = following
         (following.greenlet if following is not None else self.main).switch()
@@ -142,12 +142,12 @@ class Maestro:
 class Timer:
     """A function that is called at a date."""
 
-    __slots__ = ("serial", "function", "alarms", "wanted", "off", "rank")
+    __slots__ = ("number", "function", "alarms", "wanted", "off", "rank")
 
-    def __init__(self, serial: int, function: Callable[[], None], alarms: "Alarms", wanted: bool, is_sleep: bool):
-        self.serial, self.function, self.alarms, self.wanted, self.off = serial, function, alarms, wanted, False
+    def __init__(self, number: int, function: Callable[[], None], alarms: "Alarms", wanted: bool, is_sleep: bool):
+        self.number, self.function, self.alarms, self.wanted, self.off = number, function, alarms, wanted, False
         # Sleeps are activities of a host in SimGrid; of those that began at one date the last one comes first.
-        self.rank = (1, alarms.maestro.now, 0, -serial) if is_sleep else (0, serial)
+        self.rank = (1, alarms.maestro.now, 0, -number) if is_sleep else (0, number)
 
     def stop(self) -> None:
         if not self.off:
@@ -161,7 +161,7 @@ class Timer:
 
 
 class Alarms:
-    """All sleeps and time limits. The program sleeps for the earliest alone, so that a stopped one holds up nothing.
+    """All sleeps and time limits. The program sleeps only for the earliest, so that a cancelled one delays nothing.
 
     `wanted` counts the timers that may wake an actor, `sleeping` has the dates for which the program sleeps.
     """
@@ -170,9 +170,9 @@ class Alarms:
         self.maestro, self.heap, self.wanted, self.sleeping = maestro, [], 0, []
 
     def add(self, date: int, function: Callable[[], None], wanted: bool = True, is_sleep: bool = False) -> Timer:
-        timer = Timer(next(self.maestro.serials), function, self, wanted, is_sleep)
+        timer = Timer(next(self.maestro.numbers), function, self, wanted, is_sleep)
         self.wanted += wanted
-        heappush(self.heap, (date, timer.serial, timer))
+        heappush(self.heap, (date, timer.number, timer))
         return timer
 
     def after(self, seconds: float, function: Callable[[], None], wanted: bool = True) -> Timer:
@@ -192,10 +192,10 @@ class Alarms:
             date = heap[0][0]
             heappush(sleeping, date)
             bridge = self.maestro.bridge
-            bridge.start(Job(self, 0, f"sleep {date - bridge.now}ns"), next(self.maestro.serials))
+            bridge.start(Job(self, 0, f"sleep {date - bridge.now}ns"), next(self.maestro.numbers))
 
     def due(self) -> list[Timer]:
-        """The timers of this date, where the program slept up to it."""
+        """The timers of this date, if the program slept up to it."""
         heap, now = self.heap, self.maestro.bridge.now
         while self.sleeping and self.sleeping[0] <= now:
             heappop(self.sleeping)
@@ -215,7 +215,7 @@ maestro = Maestro()
 
 
 def simcall(function: Callable, *words) -> Any:
-    """Has the maestro call a function, and returns what it returns. Outside of actors it is called at once."""
+    """Lets the maestro call a function, and returns its result. Outside of actors it is called at once."""
     actor = maestro.current
     if actor is None:
         return function(*words)
@@ -224,7 +224,7 @@ def simcall(function: Callable, *words) -> Any:
 
 
 def block(function: Callable, *words) -> Any:
-    """Has the maestro call a function of the actor, which is answered later by `answer`, and returns the answer."""
+    """Lets the maestro call a function of the actor, which `answer` answers later, and returns the answer."""
     actor = maestro.current
     if actor is None:
         raise RuntimeError("only actors can block")
@@ -233,20 +233,21 @@ def block(function: Callable, *words) -> Any:
 
 
 def block_next(actor, function: Callable, *words) -> None:
-    """Has the actor make this blocking call in the next round, where it has nothing else to do in between."""
+    """Makes this blocking call in the next scheduling round, if the actor has nothing else to do in between."""
     actor.then = function, words
     maestro.ready.append(actor)
 
 
 def answer(actor, value: Any = None, error: BaseException | None = None) -> None:
-    """Answers the call in which an actor is blocked: it is ready in the next round."""
+    """Answers the call in which an actor is blocked: it is ready in the next scheduling round."""
     actor.wait = None
     actor.value, actor.error = value, error
     maestro.ready.append(actor)
 
 
 class Wait:
-    """An actor's wait for an activity, which answers with `value`. After the time limit `late` is called, or the activity is told."""
+    """An actor's wait for an activity, which answers with `value`. After the time limit `late` is called, or the activity's own
+    function."""
 
     __slots__ = ("actor", "activity", "timer", "late", "value")
 
@@ -272,7 +273,7 @@ class Wait:
             self.timer = None
 
     def fire(self, activity) -> None:
-        """The activity is over."""
+        """The activity has completed or failed."""
         activity.waits.remove(self)
         if self.timer is not None:
             self.stop()
@@ -294,7 +295,7 @@ class Wait:
 
 
 class WaitAny(Wait):
-    """An actor's wait for any of several activities, which answers with the number of the first that is over."""
+    """An actor's wait for any of several activities, which answers with the number of the first that completed or failed."""
 
     __slots__ = ("activities",)
 
@@ -339,7 +340,7 @@ class Waitable:
             self.waits[0].fire(self)
 
     def expire(self) -> None:
-        """The time limit of a wait without a function of its own is reached."""
+        """The time limit of a wait without its own function is reached."""
 
     def describe(self) -> str:
         """What an actor waits for, in words."""

@@ -31,7 +31,7 @@ class Place(Waitable):
 
 
 class SemaphorePlace(Place):
-    """The place of an actor that waits for a token. Who is killed keeps its place at a mutex or a barrier, as in SimGrid, but not here."""
+    """The place of an actor that waits for a token. A killed actor loses it; at a mutex or a barrier it keeps it, as in SimGrid."""
 
     __slots__ = ()
 
@@ -49,7 +49,7 @@ def recorded(function: Callable, words: tuple, text: str):
 
 
 class Mutex:
-    """A lock that one actor has at a time; those that wait get it in the order in which they came."""
+    """A lock that one actor holds at a time; waiting actors get it in the order of their calls."""
 
     made = 0
 
@@ -70,7 +70,7 @@ class Mutex:
             Place(actor, self._queue, f"mutex {self._name}")
 
     def try_lock(self) -> bool:
-        """Takes the mutex where it is free, and returns whether it was."""
+        """Takes the mutex if it is free, and returns whether it was."""
         return simcall(self._try_lock, maestro.current)
 
     def _try_lock(self, actor) -> bool:
@@ -100,7 +100,7 @@ class Mutex:
 
 
 class Semaphore:
-    """A count of tokens; who takes one where there is none waits."""
+    """A count of tokens; an actor that takes one waits until there is one."""
 
     made = 0
 
@@ -136,7 +136,7 @@ class Semaphore:
 
     @property
     def capacity(self) -> int:
-        """How many tokens there are now."""
+        """The current number of tokens."""
         return self._count
 
     @property
@@ -151,7 +151,7 @@ class Semaphore:
 
 
 class Barrier:
-    """Where actors wait until so many are there."""
+    """Blocks actors until a given number of them wait."""
 
     def __init__(self, expected_actors: int):
         self._expected = expected_actors

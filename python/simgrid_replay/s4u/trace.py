@@ -16,9 +16,9 @@ MOVED = 10**6
 
 
 class Trace:
-    """Writes the lines. The number of an actor is its pid, and a name that an earlier one has gets it at its end.
+    """Writes the lines. The number of an actor is its pid, which is appended to a name that an earlier actor has.
 
-    In a trace an actor stays on its host; where it moves, it is another one from then on.
+    In a trace an actor stays on its host; an actor that moves becomes another one.
     """
 
     def __init__(self, out: TextIO):
@@ -48,8 +48,9 @@ class Trace:
         self.out.write(f"{self.id_of(actor)[1]} {seconds(now)}] {text} {seconds(now - begin)}\n")
 
     def sent(self, message, begin: int) -> None:
-        """Adds a send. Both sides of a message are told where they have called put and get; else what one waited for."""
-        text = f"send {self.name_of(message.receiver)} {round(message.size)}" if message.blocking == 2 else "wait"
+        """Adds a send, if the actors have called put and get; else a wait."""
+        size = round(message.size)
+        text = f"send {self.name_of(message.receiver)} {size}" if message.blocking == 2 else "wait"
         self.add(maestro.current, begin, text)
 
     def received(self, message, begin: int) -> None:

@@ -1,4 +1,4 @@
-"""Platforms that a program makes itself: zones with their hosts, links and routes."""
+"""Platforms that a program creates: zones with their hosts, links and routes."""
 
 import re
 import sys
@@ -22,10 +22,10 @@ class NetPoint:
 
 
 def simgrid_files():
-    """The modules that read SimGrid's files, which stand with the tools."""
+    """Finds the modules that read SimGrid's files, which belong to the tools."""
     folder = tool_folder()
     if folder is None:
-        raise NotHere("the tools of simgrid_replay aren't installed beside this package, and they read SimGrid's platforms")
+        raise NotHere("the tools of simgrid_replay, which read SimGrid's platforms, aren't installed with this package")
     if str(folder) not in sys.path:
         sys.path.append(str(folder))
     import simgrid_files
@@ -78,7 +78,7 @@ class NetZone:
 
     @staticmethod
     def create_floyd_zone(name: str) -> "NetZone":
-        """A zone in which routes are paths of fewest links."""
+        """A zone in which routes are shortest paths."""
         return NetZone(name, "Dijkstra")
 
     create_dijkstra_zone = create_floyd_zone
@@ -93,7 +93,7 @@ class NetZone:
 
     @staticmethod
     def create_torus_zone(name, parent, dimensions, callbacks, bandwidth, latency, policy) -> "NetZone":
-        """A torus of so many points by dimension."""
+        """A torus, given by its number of points in each dimension."""
         return topology("TORUS", name, parent, ",".join(map(str, dimensions)), callbacks, (bandwidth, latency, policy))
 
     @staticmethod
@@ -117,14 +117,14 @@ class NetZone:
         return self
 
     def create_host(self, name: str, speed) -> Host:
-        """A host with so many flops a second, or with several speeds to choose from."""
+        """A host with a speed in flops a second, or with several speeds to select from."""
         row = {"id": id_of(name, NetZone.points), "zone": self.netpoint.id, "speed": quantity(speed)}
         network.table("host").append(row)
         speeds = [speed] if isinstance(speed, (int, float, str)) else list(speed)
         return Host(name, row, [speed_of(one) for one in speeds], netpoint=NetPoint(name, row["id"]))
 
     def create_link(self, name: str, bandwidth) -> Link:
-        """A link of so many bytes a second."""
+        """A link with a bandwidth in bytes a second."""
         row = {"id": id_of(name, NetZone.ways), "bandwidth": quantity(bandwidth)}
         network.table("link").append(row)
         return Link(name, row)
@@ -136,7 +136,7 @@ class NetZone:
         return SplitDuplexLink(name, row)
 
     def create_router(self, name: str) -> NetPoint:
-        """A point of routes that is no host."""
+        """A point of routes that isn't a host."""
         row = {"id": id_of(name, NetZone.points), "zone": self.netpoint.id}
         network.table("router").append(row)
         return NetPoint(name, row["id"])

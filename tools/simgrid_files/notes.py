@@ -1,8 +1,8 @@
-"""What is told of SimGrid's files: refusals and notes, each with its file and line."""
+"""Messages about SimGrid's files: errors and warnings, each with its file and line."""
 
 
 class Refused(Exception):
-    """Something in a file has nothing that corresponds. `place` is an element, or a file and a line."""
+    """A file uses an unsupported feature. `place` is an element, or a file and a line."""
 
     def __init__(self, place, text):
         super().__init__(text)
@@ -13,7 +13,7 @@ class Refused(Exception):
 
 
 class Unread(Exception):
-    """A file can't be read, or is no XML."""
+    """A file can't be read, or isn't XML."""
 
 
 def place_of(place):
@@ -25,7 +25,7 @@ def at(file, line):
 
 
 def plain(text):
-    """A text on one line, in ASCII, without what a comment of TOML can't hold."""
+    """A text on one line, in ASCII, without characters that a TOML comment can't have."""
     text = text.encode("ascii", "backslashreplace").decode()
     return "".join(letter if letter.isprintable() else "?" for letter in text)
 
@@ -35,13 +35,13 @@ def quoted(text):
 
 
 class Notes:
-    """What is left out or differs: each text once, with its first place, how often it was met, and in how many files."""
+    """Warnings: each text once, with its first place, the number of its places and of their files."""
 
     def __init__(self):
         self.model, self.found = [], {}
 
     def of_model(self, text):
-        """A note on the model as such, which stands in no line of a file and isn't refused by --strict."""
+        """Adds a note on the model, which has no line in a file and isn't an error with --strict."""
         if text not in self.model:
             self.model.append(text)
 
