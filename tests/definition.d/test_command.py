@@ -33,7 +33,7 @@ class Command(unittest.TestCase):
         self.told(define("replay", "p", "d", "none"), 10, "", "cannot read the script")
 
     def test_refused_words(self):
-        self.told(define("replay", "p"), 2, "", "these words come to MissingRequiredArgument; the definition leaves the text open")
+        self.told(define("replay", "p"), 2, "", "this command line gives MissingRequiredArgument; the definition doesn't fix the text")
 
     def test_a_trace(self):
         done = define("--trace", "Fill.share_at", "replay", "p", "d", "s")
@@ -41,15 +41,15 @@ class Command(unittest.TestCase):
         self.assertIn("level = 5\n    -> 5\n", done.stderr)
 
     def test_what_it_refuses(self):
-        self.told(define("--trace", "nothing", "replay", "p", "d", "s"), 101, "", "no definition that the program stands on is called nothing")
-        self.told(define("--seconds", "soon", "replay", "p", "d", "s"), 101, "", "--seconds takes a number")
+        self.told(define("--trace", "nothing", "replay", "p", "d", "s"), 101, "", "the program has no definition nothing")
+        self.told(define("--seconds", "soon", "replay", "p", "d", "s"), 101, "", "--seconds needs a number")
 
     def test_a_term(self):
         self.told(define("--eval", "sg_maxmin.Fill", "fill (10 ∷ []) (flow (0 ∷ []) 1 (Some 2) ∷ flow (0 ∷ []) 1 None ∷ [])"), 0, "[2, 8]\n", "")
 
     def test_what_is_too_large(self):
         many = "p0 yield\n" * 4000
-        self.told(define("--seconds", "4", "replay", "p", "d", "s", files={"p": PLATFORM, "d": DEPLOYMENT, "s": many}), 101, "", "beyond what it can do in 4 seconds")
+        self.told(define("--seconds", "4", "replay", "p", "d", "s", files={"p": PLATFORM, "d": DEPLOYMENT, "s": many}), 101, "", "no answer within 4 seconds")
 
 
 if __name__ == "__main__":

@@ -136,7 +136,7 @@ def many():
         each.wait()
 Actor.create("a", hosts[0], many)
 e.run()
-""", workers="4"), 3, "no worker is left for activities on host h0: give more by --workers")
+""", workers="4"), 3, "no worker is free for activities on host h0: use --workers for more")
 
     def test_no_route(self):
         self.check(Done("""

@@ -60,7 +60,7 @@ COLLECTIVES = ["bcast 10", "reduce 10 1e3", "allreduce 5 1", "alltoall 7"]
 
 
 def script(rng):
-    """Rounds that complete, and now and then a bad line."""
+    """Exchanges that complete, and now and then a bad line."""
     lines = ["# a script", ""]
     for _ in range(rng.randint(0, 4)):
         lines += rng.choice([

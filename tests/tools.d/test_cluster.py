@@ -63,7 +63,7 @@ class Clusters(unittest.TestCase):
                     self.assertEqual(durations(folder, list(ends)), [latency + MEGABYTE for latency in ends.values()])
 
     def test_all_pairs_of_a_torus(self):
-        """A message takes the latency of as many links as its ends are apart, the shorter way round along each side."""
+        """A message takes the latency of as many links as its ends are apart, in the shorter direction of each dimension."""
         folder = made(["torus", "--dimensions", "4x3"])
         pairs = list(itertools.permutations(range(12), 2))
         apart = [sum(min((p - q) % side, (q - p) % side) for p, q, side in ((a % 4, b % 4, 4), (a // 4, b // 4, 3))) for a, b in pairs]

@@ -46,19 +46,19 @@ NESTED = ('zone = [{id = "z", routing = "Full"}, {id = "s", parent = "z", routin
           'zone_route = [{src = "s", dst = "d", gw_src = "gw", gw_dst = "d2", links = ["p"]}, {src = "x1", dst = "s", gw_dst = "gw", links = ["o"]}, '
           '{src = "x1", dst = "d", gw_dst = "d1", links = ["l_UP"]}]\n')
 
-# The platform's text, the program's line, the line and column, what stands over the carets, and a part of what is told.
+# The platform's text, the program's line, the line and column, what stands over the carets, and a part of the explanation.
 PLATFORMS = [
     ("", "no root zone (table 1, row 0, key 0)", "1:1", "", "there is no zone"),
     (GOOD + "x = \n", "not TOML", "8:5", "", "a value was expected"),
     ("[[host]\n", "not TOML", "1:7", "]", "`]]` was expected"),
-    (GOOD + 'speed = "2Gf"\n', "not TOML", "8:1", "speed", "stands twice in this table, first in line 7"),
-    (GOOD.replace('"1Gf"', "1Gf"), "not TOML", "7:9", "1Gf", 'a text stands in quotes: "1Gf"'),
+    (GOOD + 'speed = "2Gf"\n', "not TOML", "8:1", "speed", "twice, first in line 7"),
+    (GOOD.replace('"1Gf"', "1Gf"), "not TOML", "7:9", "1Gf", 'a text needs quotes: "1Gf"'),
     (GOOD.replace('"1Gf"', "\u201c1Gf\u201d"), "not TOML", "7:9", "\u201c", "typographic quotation mark"),
     ('<?xml version="1.0"?>\n<platform>\n', "not TOML", "1:1", "<", "this looks like XML"),
     (GOOD + "x = 9223372036854775808\n", "not TOML", "8:5", "9223372036854775808", "64 bits"),
-    (ZONE.encode() + b"# caf\xe9\n", "not TOML", "4:6", "\ufffd", "0xe9 is no UTF-8"),
+    (ZONE.encode() + b"# caf\xe9\n", "not TOML", "4:6", "\ufffd", "0xe9 is not UTF-8"),
     (GOOD.encode("utf-16"), "not TOML", "1:1", "\ufffd", "UTF-16"),
-    (b"\x7fELF\x02\x01\x01" + b"\0" * 9, "not TOML", "1:1", "\x7f", "no text file"),
+    (b"\x7fELF\x02\x01\x01" + b"\0" * 9, "not TOML", "1:1", "\x7f", "not a text file"),
     (GOOD + 'x = "abc\n', "not TOML", "8:5", '"abc', "never closed"),
     (GOOD + "x = [1,\n", "not TOML", "8:5", "[", "never closed"),
     (ZONE + "[host]\nid = 1\n[[host]]\n", "not TOML", "6:1", "[[host]]", "was defined before, in line 4"),
@@ -80,13 +80,13 @@ PLATFORMS = [
     (ZONE + LINK + "latency = 0\n", "wrong type (table 4, row 1, key 3)", "7:11", "0", 'as `latency = "0"`'),
     (ZONE + TWO + LINK + ROUTE + 'symmetrical = "NO"\n', "wrong type (table 5, row 1, key 4)", "19:15", '"NO"', "symmetrical = false"),
     (ZONE + TWO + LINK + ROUTE.replace('["l"]', '"l"'), "wrong type (table 5, row 1, key 3)", "18:9", '"l"', 'as `links = ["l"]`'),
-    (GOOD.replace("1Gf", "1 Gf"), "bad value (table 2, row 1, key 3)", "7:9", '"1 Gf"', "in front of the unit: `1Gf`"),
+    (GOOD.replace("1Gf", "1 Gf"), "bad value (table 2, row 1, key 3)", "7:9", '"1 Gf"', "before the unit: `1Gf`"),
     (GOOD.replace("1Gf", "1GHz"), "bad value (table 2, row 1, key 3)", "7:9", '"1GHz"', "did you mean `1Gf`?"),
     (GOOD.replace("1Gf", "1gf"), "bad value (table 2, row 1, key 3)", "7:9", '"1gf"', "did you mean `1Gf`?"),
     (GOOD.replace("1Gf", "1e20f"), "bad value (table 2, row 1, key 3)", "7:9", '"1e20f"', "above 10^15"),
     (GOOD.replace("1Gf", "0"), "bad value (table 2, row 1, key 3)", "7:9", '"0"', "it is zero"),
-    (GOOD.replace("1Gf", ".5Gf"), "bad value (table 2, row 1, key 3)", "7:9", '".5Gf"', "a zero in front: `0.5Gf`"),
-    (GOOD.replace("1Gf", "1,5Gf"), "bad value (table 2, row 1, key 3)", "7:9", '"1,5Gf"', "behind a point: `1.5Gf`"),
+    (GOOD.replace("1Gf", ".5Gf"), "bad value (table 2, row 1, key 3)", "7:9", '".5Gf"', "a leading zero: `0.5Gf`"),
+    (GOOD.replace("1Gf", "1,5Gf"), "bad value (table 2, row 1, key 3)", "7:9", '"1,5Gf"', "is a point: `1.5Gf`"),
     (ZONE + LINK.replace("1MBps", "500kB/s"), "bad value (table 4, row 1, key 2)", "6:13", '"500kB/s"', "did you mean `500kBps`?"),
     (ZONE + LINK.replace("1MBps", "500 kBps"), "bad value (table 4, row 1, key 2)", "6:13", '"500 kBps"', "unit: `500kBps`"),
     (ZONE + LINK + 'latency = "1000001s"\n', "bad value (table 4, row 1, key 3)", "7:11", '"1000001s"', "10^15 ns (1,000,000 s)"),
@@ -116,12 +116,12 @@ PLATFORMS = [
     (GOOD + LINK + PROFILE + 'link = "l"\n', "bad value (table 9, row 1, key 2)", "15:8", '"l"', "the row has `host` too"),
     (GOOD + SPLIT + PROFILE.replace('host = "h1"', 'link = "l"'), "unknown name (table 9, row 1, key 2)", "13:8", '"l"', "write `l_UP` or `l_DOWN`"),
     (GOOD + PROFILE.replace('"2"', '"1s"'), "bad value (table 9, row 1, key 3)", "10:15", '"1s"', "isn't later than the date before"),
-    (GOOD + PROFILE.replace('"2"', '"2 s"'), "bad value (table 9, row 1, key 3)", "10:15", '"2 s"', "in front of the unit: `2s`"),
+    (GOOD + PROFILE.replace('"2"', '"2 s"'), "bad value (table 9, row 1, key 3)", "10:15", '"2 s"', "before the unit: `2s`"),
     (GOOD + PROFILE.replace('["1", "2"]', "[]"), "bad value (table 9, row 1, key 3)", "10:9", "[]", "at least one date"),
     (GOOD + PROFILE.replace('["1", "2"]', "[" + ",".join(f'"{i}"' for i in range(1025)) + "]"), "over a limit (table 9, row 1, key 3)",
      "10:6068", '"1024"', "at most 1,024 dates"),
     (GOOD + PROFILE.replace(', "0"', ""), "bad value (table 9, row 1, key 4)", "11:10", '["5Mf"]', "1 values for 2 dates"),
-    (GOOD + PROFILE.replace("5Mf", "5MBps"), "bad value (table 9, row 1, key 4)", "11:11", '"5MBps"', "is no unit of a speed"),
+    (GOOD + PROFILE.replace("5Mf", "5MBps"), "bad value (table 9, row 1, key 4)", "11:11", '"5MBps"', "is not a unit of a speed"),
     (GOOD + PROFILE + "loop = 5\n", "wrong type (table 9, row 1, key 5)", "12:8", "5", 'as `loop = "5"`'),
     (GOOD + PROFILE + 'loop = "0"\n', "bad value (table 9, row 1, key 5)", "12:8", '"0"', "it is zero"),
     (GOOD + PROFILE + STATES * 2, "duplicate (table 10, row 2, key 1)", "17:8", '"h1"', "row 1, in line 12, gives a profile already"),
@@ -138,7 +138,7 @@ PLATFORMS = [
     (GOOD + "power = [9, 5, 4]\n", "bad value (table 2, row 1, key 5)", "8:16", "4", "4 with all cores in use, 5 with next to none"),
     (GOOD + "power_off = -1\n", "bad value (table 2, row 1, key 6)", "8:13", "-1", "milliwatts from 0 to 10^9"),
     (ZONE.replace("Full", "full"), "bad value (table 1, row 1, key 3)", "3:11", '"full"', "did you mean `Full`?"),
-    (ZONE.replace("Full", "Floyd"), "bad value (table 1, row 1, key 3)", "3:11", '"Floyd"', "the same paths"),
+    (ZONE.replace("Full", "Floyd"), "bad value (table 1, row 1, key 3)", "3:11", '"Floyd"', "the same shortest paths"),
     (ZONE.replace("Full", "Cluster"), "bad value (table 1, row 1, key 3)", "3:11", '"Cluster"', "tools/cluster"),
     (ZONE + LINK + 'sharing_policy = "shared"\n', "bad value (table 4, row 1, key 4)", "7:18", '"shared"', "did you mean `SHARED`?"),
     (ZONE + TWO + LINK + ROUTE.replace('["l"]', "[]"), "bad value (table 5, row 1, key 3)", "18:9", "[]", "at least one link"),
@@ -148,7 +148,7 @@ PLATFORMS = [
     (GOOD + HOST, "duplicate (table 2, row 2, key 1)", "9:6", '"h1"', "`h1` is taken by row 1 of table `host`, in line 4"),
     (ZONE + LINK.replace('"l"', '"l_UP"') + SPLIT, "duplicate (table 4, row 2, key 1)", "8:6", '"l"', "`l_UP` is taken by row 1"),
     (ZONE + TWO + LINK + ROUTE + ROUTE.replace("h1", "x").replace("h2", "h1").replace("x", "h2"),
-     "duplicate (table 5, row 2, key 2)", "21:7", '"h1"', "serves the way back too"),
+     "duplicate (table 5, row 2, key 2)", "21:7", '"h1"', "gives the reverse route too"),
     (STAR + HOST + LINK + SPOKE * 2, "duplicate (table 7, row 2, key 2)", "17:9", '"h1"', "a child has one spoke"),
     (GOOD.replace('zone = "z"', 'zone = "zz"'), "unknown name (table 2, row 1, key 2)", "6:8", '"zz"', "did you mean `z`?"),
     (GOOD.replace('zone = "z"', 'zone = "h1"'), "unknown name (table 2, row 1, key 2)", "6:8", '"h1"', "`h1` is a host"),
@@ -164,7 +164,7 @@ PLATFORMS = [
     ("".join(f'[[zone]]\nid = "z{i}"\nrouting = "Full"\n' + (f'parent = "z{i - 1}"\n' if i else "") for i in range(17)),
      "zones too deep (table 1, row 17, key 2)", "67:10", '"z15"', "a depth of 17"),
     (NEST + HOST.replace('"z"', '"in"') + HOST.replace("h1", "h2") + LINK + ZROUTE.replace('gw_src = "h1"', 'gw_src = "h2"'),
-     "gateway outside (table 6, row 1, key 3)", "22:10", '"h2"', "stands in the zone `z`, which isn't inside `in`"),
+     "gateway outside (table 6, row 1, key 3)", "22:10", '"h2"', "is in the zone `z`, which isn't inside `in`"),
     (STAR + TWO + LINK + SPOKE + 'gateway = "h2"\n', "gateway outside (table 7, row 1, key 3)", "19:11", '"h2"', "whose gateway is itself"),
     (STAR + TWO + LINK + ROUTE, "wrong routing (table 5, row 1, key 1)", "16:7", '"h1"', "`z` is a Star zone"),
     (GOOD + LINK + SPOKE, "wrong routing (table 7, row 1, key 1)", "12:8", '"z"', "`z` is a Full zone"),
@@ -196,7 +196,7 @@ DEPLOYMENTS = [
 SCRIPTS = [
     (b"p0 compute 1\x00\n", "not ASCII", "1:13", "U+0000"),
     (b"\xef\xbb\xbfp0 compute 1\n", "not ASCII", "1:1", "byte order mark"),
-    ("p0\xa0compute 1\n", "not ASCII", "1:3", "type it anew"),
+    ("p0\xa0compute 1\n", "not ASCII", "1:3", "a no-break space"),
     (b"\x7fELF\n", "not ASCII", "1:1", "U+007F"),
     (b"p0 wait\r\r\n", "not ASCII", "1:8", "a carriage return"),
     ("p0 compute 1" + " " * 4085 + "\n", "line too long", "1:4097", "4,097 bytes"),
@@ -204,14 +204,14 @@ SCRIPTS = [
     ("h1 compute 1\n", "unknown actor", "1:1", "on the host `h1` is `p0`"),
     ("w recv p0\n", "unknown actor", "1:1", "`w` is an actor of function `worker`"),
     ("p0 send nobody 1\n", "unknown actor", "1:9", "no actor has the name `nobody`"),
-    ("p0\n", "unknown action", "1:3", "no action behind the actor"),
+    ("p0\n", "unknown action", "1:3", "no action after the actor"),
     ("p0 sned p0 1\n", "unknown action", "1:4", "did you mean `send`?"),
     ("p0 Compute 1\n", "unknown action", "1:4", "did you mean `compute`?"),
     ("p0 Isend p0 1\n", "unknown action", "1:4", "did you mean `isend`?"),
-    ("p0 waitall\n", "unknown action", "1:4", "as many `wait`"),
-    ("p0 init\n", "unknown action", "1:4", "leave the line out"),
-    ("p0 compute 1e9 # note\n", "wrong number of arguments", "1:16", "a comment stands on a line of its own"),
-    ("p0 sleep 1 s\n", "wrong number of arguments", "1:12", "in front of the unit: `1s`"),
+    ("p0 waitall\n", "unknown action", "1:4", "one `wait` for each request"),
+    ("p0 init\n", "unknown action", "1:4", "remove the line"),
+    ("p0 compute 1e9 # note\n", "wrong number of arguments", "1:16", "a comment needs its own line"),
+    ("p0 sleep 1 s\n", "wrong number of arguments", "1:12", "before the unit: `1s`"),
     ("p0 wait 0 1 0\n", "wrong number of arguments", "1:9", "`wait` takes none"),
     ("p0 send p0\n", "wrong number of arguments", "1:11", "`send` takes an actor and an amount and perhaps a rate"),
     ("p0 reduce 1e6\n", "wrong number of arguments", "1:14", "`reduce` takes an amount and an amount"),
@@ -224,19 +224,19 @@ SCRIPTS = [
     ("p0 bcast 5B\n", "bad amount", "1:10", "without a unit: `5`"),
     ("p0 bcast 5Mb\n", "bad amount", "1:10", "write the number without a unit\n"),
     ("p0 bcast 5x\n", "bad amount", "1:10", "write the number without a unit\n"),
-    ("p0 compute 1 #note\n", "bad amount", "1:14", "a comment stands on a line of its own"),
+    ("p0 compute 1 #note\n", "bad amount", "1:14", "a comment needs its own line"),
     ("p0 compute 1 0\n", "bad amount", "1:14", "a priority: a number above 0 up to 10^3"),
     ("p0 compute 1 1001\n", "bad amount", "1:14", "above 10^3"),
-    ("p0 send p0 1 1Gf\n", "bad amount", "1:14", "`Gf` is no unit of a bandwidth"),
+    ("p0 send p0 1 1Gf\n", "bad amount", "1:14", "`Gf` is not a unit of a bandwidth"),
     ("p0 isend p0 1 7bps\n", "bad amount", "1:15", "zero when rounded down"),
     ("p0 compute 1e16\n", "bad amount", "1:12", "above 10^15"),
     ("p0 compute 1Gf\n", "bad amount", "1:12", "without a unit: `1e9`"),
     ("p0 compute 3Tflops\n", "bad amount", "1:12", "without a unit: `3e12`"),
     ("p0 compute -5\n", "bad amount", "1:12", "numbers are never below 0"),
-    ("p0 compute 1.5.5\n", "bad amount", "1:12", "`.5` is no unit"),
+    ("p0 compute 1.5.5\n", "bad amount", "1:12", "`.5` is not a unit"),
     ("p0 compute 123456789012345678901234\n", "bad amount", "1:12", "more than 20 digits"),
     ("p0 compute 1e9999\n", "bad amount", "1:12", "more than 3 digits"),
-    ("p0 sleep 1.5x\n", "bad amount", "1:10", "`x` is no unit"),
+    ("p0 sleep 1.5x\n", "bad amount", "1:10", "`x` is not a unit"),
     ("p0 kill nobody\n", "unknown actor", "1:9", "allowed: `p0` and `w`"),
     ("p0 create\n", "wrong number of arguments", "1:10", "`create` takes any actor"),
     ("p0 suspended w\n", "unknown action", "1:4", "did you mean `suspend`?"),
@@ -245,22 +245,22 @@ SCRIPTS = [
 ]
 
 ENDINGS = [
-    ("Simulation time 0.000000000", "All actors that began have ended"),
+    ("Simulation time 0.000000000", "All actors that started have ended"),
     ("deadlock at 1.000000000\nsuspended [h1:a:(1)]\nblocked [h2:b:(2)] join a", "`a` is suspended, and waits for a `resume`"),
     ("deadlock at 1.000000000\nblocked [h2:b:(2)] join a", "`b` on `h2` waits until `a` has ended"),
-    ("energy h1 200.000000000000", "so many joules"),
-    ("[h1:p0:(1) 0.000000000] create p1 refused", "has begun before"),
-    ("deadlock at 1.000000000\nblocked [h1:a:(1)] recv b\nblocked [h2:b:(2)] recv a", "a circle: `a` waits for `b` waits for `a`"),
+    ("energy h1 200.000000000000", "in joules"),
+    ("[h1:p0:(1) 0.000000000] create p1 refused", "has already started"),
+    ("deadlock at 1.000000000\nblocked [h1:a:(1)] recv b\nblocked [h2:b:(2)] recv a", "a cycle: `a` waits for `b` waits for `a`"),
     ("deadlock at 1.000000000\nblocked [h1:a:(1)] recv b", "`b`, for which `a` waits, isn't blocked: it has ended"),
     ("deadlock at 1.000000000\nblocked [h1:a:(1)] lock m\nblocked [h1:b:(2)] barrier", "`a` on `h1` waits for the mutex `m`"),
     ("starved at 2.000000000\nblocked [h1:a:(1)] compute 5", "more users than units a second"),
     ("budget of 100 events used at 2.000000000", "--budget"),
     ("route from a to b: more than 64 links", "more than 64 different links"),
-    ("2 actors, 3 events", "So many actors had so many events"),
+    ("2 actors, 3 events", "The number of actors and events"),
     ("[h1:p0:(1) 0.000000000] wait refused", "no request left"),
     ("[h1:p0:(1) 0.000000000] unlock m refused", "only the actor that holds"),
     ("[h1:p0:(1) 0.500000000] compute 1000000000 failed", "its host is off"),
-    ("[h1:p0:(1) 0.500000000] send p1 1000000 failed", "the other side was killed"),
+    ("[h1:p0:(1) 0.500000000] send p1 1000000 failed", "actor of the message was killed"),
     ("error: unrecognized subcommand 'x'", "--help"),
     ("error: 'simgrid_replay' requires a subcommand but one was not provided", "a file's name must be UTF-8"),
     ("script line 100000001: too many lines", "at most 100,000,000 lines"),
@@ -276,10 +276,10 @@ def under_carets(told):
 
 
 class Kinds(unittest.TestCase):
-    """One example of each kind of fault: the program tells it, and `explain` leads to its place."""
+    """One example of each kind of fault: the program reports it, and `explain` leads to its place."""
 
     def told(self, folder, line, *names):
-        """What is told of a line, where the files fit it."""
+        """The explanation of a line whose files match it."""
         paths = {part: str(folder.path / name) for part, name in zip(("platform", "deployment", "script"), names)}
         text, fits = EXPLAIN.recognise(line, EXPLAIN.Files(paths))
         self.assertTrue(fits, text)
@@ -326,7 +326,7 @@ class Kinds(unittest.TestCase):
         for text, help in ((spokes, '      [[spoke]]\n      zone = "z"\n      child = "h2"'),
                            (ZONE + TWO + LINK, '      [[route]]\n      src = "h1"\n      dst = "h2"'),
                            (ZONE + TWO + LINK + ROUTE.replace('"h1"\ndst = "h2"', '"h2"\ndst = "h1"') + "symmetrical = false\n",
-                            "only the way back is there, in line 15")):
+                            "only the reverse route exists, in line 15")):
             folder = Folder(p=text, **send)
             with self.subTest(text):
                 self.check(folder, "no route from h1 to h2: zone z, h1 to h2", ["p"], "3:11", None, help)
@@ -339,10 +339,10 @@ class Kinds(unittest.TestCase):
         for part, names, cause in (
                 ("platform", ["plattform"], "did you mean `platform`?"), ("platform", ["folder"], "`folder` is a directory"),
                 ("platform", ["link"], "a symbolic link to `nowhere`"), ("platform", ["no/p"], "there is no folder `no`"),
-                ("platform", ["-"], "for the script alone"), ("platform", ["--platform", ""], "the name is empty"),
-                ("platform", ["fifo"], "no regular file"), ("deployment", ["platform", "folder"], "is a directory"),
+                ("platform", ["-"], "only for the script"), ("platform", ["--platform", ""], "the name is empty"),
+                ("platform", ["fifo"], "not a regular file"), ("deployment", ["platform", "folder"], "is a directory"),
                 ("script", ["platform", "d", "nowhere"], "there is no file `nowhere`"),
-                ("script", ["platform", "d", "-"], "standard input, which is gone")):
+                ("script", ["platform", "d", "-"], "standard input, which can't be read again")):
             with self.subTest(names):
                 done = tool("explain", *names, given=f"cannot read the {part}\n".encode(), folder=folder.name)
                 self.assertEqual(done.returncode, 0)
@@ -358,7 +358,7 @@ class Kinds(unittest.TestCase):
         self.assertIn("script line 2: unknown action\n  --> s:2:4\n", done.stdout.decode())
 
     def ended(self, script, *options, deployment=None, platform=None):
-        """What is told of how a run of three actors ends, with the files of the run at hand."""
+        """The explanation of the end of a run of three actors, with the files of the run."""
         folder = Folder(p=platform or THREE, d=deployment or "".join(
             ACTOR.replace("p0", name).replace("h1", host) for name, host in (("a", "h1"), ("b", "h2"), ("c", "h3"))), s=script)
         done = tool("explain", "p", "d", "s", given=folder.replayed(*options).stdout, folder=folder.name)
@@ -383,28 +383,28 @@ class Kinds(unittest.TestCase):
     def test_what_a_wait_waits_for(self):
         script = "a isend b 1000\na irecv b\nb recv a\na wait\na wait\n"
         self.assertIn("waits for its oldest request, in line 5 of the script: `irecv b` of 0; `b` has sent 0 of 1 messages for which `a` asked\n", self.ended(script))
-        self.assertIn("with the trace lines", self.ended(script, "--quiet"))
+        self.assertIn("the trace lines (a run without `--quiet`)", self.ended(script, "--quiet"))
         self.assertIn("waits for its oldest request, in line 3 of the script: `isend b 7` of 1; `b` has received 0 of 1 messages from `a`\n",
                       self.ended("a compute 1e9\na isend b 7\na wait\n"))
         self.assertIn("waits for its oldest request, in line 2 of the script: `isend b 7`\n", self.ended("a isend b 7\na wait\n", "--quiet"))
-        self.assertIn("a circle: `a` waits for `b` waits for `a`\n", self.ended("a irecv b\nb irecv a\na wait\nb wait\n"))
+        self.assertIn("a cycle: `a` waits for `b` waits for `a`\n", self.ended("a irecv b\nb irecv a\na wait\nb wait\n"))
 
     def test_what_has_no_share_left(self):
         """A host of 1 flop a second and a link of 1 byte a second are each used twice."""
         twice = "".join(ACTOR.replace("p0", name).replace("h1", host) for name, host in (("a", "h1"), ("b", "h2"), ("c", "h3"), ("d", "h3")))
         told = self.ended("c compute 9\nd compute 9\n", deployment=twice)
-        self.assertIn("the host `h3` has no share left: 1 flop a second (in line 12 of p) for 2 users, `c`, `d`\n", told)
+        self.assertIn("the host `h3` has no capacity left: 1 flop a second (in line 12 of p) for 2 users, `c`, `d`\n", told)
         told = self.ended("a send b 9\na send c 9\nb irecv a\nb irecv c\nb wait\nc send b 9\n")
-        self.assertIn("the link `l` has no share left: 1 byte a second (in line 16 of p) for 2 users, `a` to `b`, `c` to `b`\n", told)
+        self.assertIn("the link `l` has no capacity left: 1 byte a second (in line 16 of p) for 2 users, `a` to `b`, `c` to `b`\n", told)
         self.assertNotIn("the link `k`", told)
-        self.assertNotIn("circle", told)
+        self.assertNotIn("cycle", told)
         told = self.ended("a compute 5e8\na compute 1e9\n", platform=THREE + PROFILE.replace('"2"', '"1.5"'))
-        self.assertIn("the host `h1` has no share left: 0 flops a second (in line 34 of p) for 1 user, `a`\n", told)
+        self.assertIn("the host `h1` has no capacity left: 0 flops a second (in line 34 of p) for 1 user, `a`\n", told)
         told = self.ended("c compute 9 2\n")
-        self.assertIn("the host `h3` has no share left: 1 flop a second (in line 12 of p) for 1 user, `c`; their priorities add up to more\n", told)
+        self.assertIn("the host `h3` has no capacity left: 1 flop a second (in line 12 of p) for 1 user, `c`; their priorities add up to more\n", told)
 
     def test_the_route_of_a_message(self):
-        """The routes over stars, zones and least paths are those that the trace of a run must have taken: each link has a latency of its own."""
+        """The routes over stars, zones and shortest paths are those that the trace of a run must have taken: each link has a latency of its own."""
         explained = module("explain")
         platform = explained.Platform("p", NESTED.encode())
         self.assertEqual(platform.first(), [])
@@ -435,7 +435,7 @@ class Kinds(unittest.TestCase):
         folder = Folder(p=GOOD)
         done = tool("explain", "platform: bad value (table 2, row 1, key 3)", "p", folder=folder.name)
         self.assertEqual(done.returncode, 3)
-        self.assertIn("was it changed since?", done.stdout.decode())
+        self.assertIn("has it changed since?", done.stdout.decode())
 
     def test_other_lines_are_refused(self):
         for line in ("", "hello", "platform: bad value (table 11, row 1, key 1)", "platform: nonsense (table 1, row 1, key 1)",
@@ -467,7 +467,7 @@ def followed(text, told):
     lines = text.split("\n")
     help = told.split("   = help: ")[1].split("\n   = ")[0]
     at = int(re.search("^  --> [^:]+:([0-9]+)", told, re.M)[1]) - 1
-    array, pasted = re.search(r"behind the `\[` of line ([0-9]+)\n\n([^\0]+)", help), re.search(r"\n\n( +\[\[[^\0]*)", help)
+    array, pasted = re.search(r"after the `\[` of line ([0-9]+)\n\n([^\0]+)", help), re.search(r"\n\n( +\[\[[^\0]*)", help)
     if array:
         row = int(array[1]) - 1
         lines[row] = lines[row].replace("[", "[" + array[2], 1)
@@ -496,7 +496,7 @@ class Advice(unittest.TestCase):
                 return
             told = tool("explain", "p", "d", "s", given=done.stdout + done.stderr, folder=folder.name).stdout.decode()
             text = followed(text, told)
-        self.fail(f"{told}\n{text}")
+        self.fail(told + "\n" + text)
 
     def test_routes_and_spokes(self):
         message = "p0 send p1 5\np1 recv p0\n"
@@ -521,11 +521,11 @@ class Advice(unittest.TestCase):
         self.mended({}, "", "# nobody\n")
 
     def test_rows_in_two_forms(self):
-        """A block behind an array is told where its row belongs."""
+        """The help for a block after an array says where its row belongs."""
         folder = Folder(p=as_text(ROWS["star"], False) + "[[spoke]]\nzone = 'in'\n")
         told = tool("explain", "--all", "p", folder=folder.name).stdout.decode()
         line = as_text(ROWS["star"], False).split("\n").index("spoke = [") + 1
-        self.assertIn(f"write it as a row in braces, as `{{...}},`, behind the `[` of line {line}\n", told)
+        self.assertIn(f"write it as a row in braces, as `{{...}},`, after the `[` of line {line}\n", told)
 
     def test_amounts(self):
         """A number whose unit makes it too great is meant without it; what is advised is taken."""
@@ -571,12 +571,12 @@ class Sums(unittest.TestCase):
         for script, part in (
                 ("a isend b 1e6\nb irecv a\nb compute 1e9\n", "`a` makes 1 request (line 1) that no `wait` waits for\n"),
                 ("a isend b 5\na isend b 6\nb recv a\nb recv a\na wait\n", "`a` makes 1 request (line 2) that no `wait` waits for\n"),
-                ("a wait\na wait\n", "`a` has 2 `wait` (lines 1, 2) with no request in front, which are refused\n"),
+                ("a wait\na wait\n", "`a` has 2 `wait` (lines 1, 2) without an earlier request, which are refused\n"),
                 ("a isend b 5\na isend b 5\na isend b 5\nb recv a\nb recv a\na wait\na wait\n", "`a` sends 3 messages to `b`, which receives 2\n"),
                 ("a recv b\n", "`b` sends 0 messages to `a`, which receives 1\n"),
-                ("a bcast 5\nb bcast 5\n", "the `bcast` of line 1 is one of all 3 members, and 1 of them has no line for it: `c`\n"),
-                ("a barrier\nb barrier\nc barrier\na barrier\n", "the `barrier` of line 4 is one of all 3 members, and 2 of them have no line"),
-                ("a bcast 5\nb barrier\nc bcast 5\n", "`b` has `barrier` (line 2) where `a` has `bcast` (line 1)")):
+                ("a bcast 5\nb bcast 5\n", "the `bcast` of line 1 needs all 3 members, and 1 of them has no line for it: `c`\n"),
+                ("a barrier\nb barrier\nc barrier\na barrier\n", "the `barrier` of line 4 needs all 3 members, and 2 of them have no line"),
+                ("a bcast 5\nb barrier\nc bcast 5\n", "`b` has `barrier` (line 2), but `a` has `bcast` (line 1)")):
             with self.subTest(script):
                 for told in self.told(script):
                     self.assertIn(part, told)
@@ -642,7 +642,7 @@ class All(unittest.TestCase):
         self.assertIn("the script isn't read", done.stdout.decode())
 
     def test_bytes_of_any_kind(self):
-        """Whatever stands in the files and the line, something is told."""
+        """Whatever the files and the line have, there is an explanation."""
         rng = random.Random("bytes")
         seeds = [GOOD.encode(), ACTOR.encode(), b"p0 compute 1\n", b"\xff\xfe", b"[[[[", b"{" * 200, b"[" * 200, b"a." * 200, b"\0" * 50,
                  b'"""', b"= = =", b"'\r\n'", "\u202e\ud7ff\U0010ffff".encode()]
@@ -661,7 +661,7 @@ class All(unittest.TestCase):
                 self.assertTrue(EXPLAIN.recognise(line, files)[0])
 
     def test_generated_files(self):
-        """The first fault of generated files is the one that the program tells, and there is none where a run completes."""
+        """The first fault of generated files is the one that the program reports, and there is none if a run completes."""
         statuses = {}
         cases = [inputs.make(number) for number in range(300)]
         folders = [Folder(**files) for files in cases]

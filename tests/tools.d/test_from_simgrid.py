@@ -11,8 +11,8 @@ from common import PROGRAM, Folder, program, tool
 
 HEAD = '<?xml version="1.0"?>\n<!DOCTYPE platform SYSTEM "https://simgrid.org/simgrid.dtd">\n<platform version="4.1">\n'
 
-# Three zones of which the routes are least paths, in a Full one: ways of several links, one-way routes, and a link of two
-# directions. The least path of two points is alone in having so few links.
+# Three zones of which the routes are shortest paths, in a Full one: ways of several links, one-way routes, and a link of two
+# directions. The shortest path of two points is alone in having so few links.
 MESH = HEAD + """  <zone id="world" routing="Full">
     <zone id="mesh" routing="Dijkstra">
       <host id="h1" speed="1Gf"/>
@@ -150,13 +150,13 @@ class FromSimgrid(unittest.TestCase):
 
     def test_what_is_refused(self):
         """By line, and with the reason."""
-        for inner, told in (('<zone id="z" routing="Vivaldi"/>', '-:4: <zone id="z">: routing "Vivaldi" isn\'t here: its latencies'),
+        for inner, told in (('<zone id="z" routing="Vivaldi"/>', '-:4: <zone id="z">: routing "Vivaldi" isn\'t supported: its latencies'),
                             ('<zone id="z" routing="Wifi"/>', "share the medium"),
-                            ('<zone id="z" routing="Full">\n<peer id="p"/></zone>', "-:5: <peer id=\"p\"> isn't here: it is of a Vivaldi zone"),
+                            ('<zone id="z" routing="Full">\n<peer id="p"/></zone>', "-:5: <peer id=\"p\"> isn't supported: it is of a Vivaldi zone"),
                             ('<zone id="z" routing="Full"><host id="h" speed="1Gf" pstate="1"/></zone>', "there is no pstate"),
                             ('<zone id="z" routing="Full"><link id="l" bandwidth="1" sharing_policy="WIFI"/></zone>', "WIFI"),
                             ('<zone id="z" routing="Full"><link id="l" bandwidth="1" latency_file="f"/></zone>', "keeps its latency"),
-                            ('<zone id="z" routing="Full"><storage id="s"/></zone>', "no disks"),
+                            ('<zone id="z" routing="Full"><storage id="s"/></zone>', "disks aren't supported"),
                             ('<zone id="z" routing="Full"/><zone id="y" routing="Full"/>', "second zone at the top"),
                             ('<zone id="z" routing="Full"><host_link id="h" up="l" down="l"/></zone>', "routing isn't Cluster"),
                             ('<zone id="z" routing="Full"><route src="a" dst="b"/></zone>', 'no host, router or zone "a"'),
@@ -182,10 +182,10 @@ class FromSimgrid(unittest.TestCase):
 
     def test_values_that_are_refused(self):
         """By the line of the file, before the program would."""
-        for host, told in (('speed="1Ef"', "too large"), ('speed="1Kif"', "unit that SimGrid hasn't"), ('speed="1.5 Gf"', "unit that SimGrid hasn't"), ('speed=""', "isn't a number"),
-                           ('speed="0f"', "nothing in whole numbers"), ('speed="-1Gf"', "below zero"), ('speed="1e999999999f"', "too large"),
+        for host, told in (('speed="1Ef"', "too large"), ('speed="1Kif"', "unit that SimGrid doesn't have"), ('speed="1.5 Gf"', "unit that SimGrid doesn't have"), ('speed=""', "isn't a number"),
+                           ('speed="0f"', "zero when rounded down"), ('speed="-1Gf"', "below zero"), ('speed="1e999999999f"', "too large"),
                            ('speed="1" core="x"', "core"), ('speed="1" core="0"', "core"), ('speed="1" core="2000"', "core"),
-                           ('speed="1"/><link id="l" bandwidth="1PBps1"', "unit"), ('speed="1"/><link id="l" bandwidth="0"', "nothing"),
+                           ('speed="1"/><link id="l" bandwidth="1PBps1"', "unit"), ('speed="1"/><link id="l" bandwidth="0"', "zero when rounded down"),
                            ('speed="1"/><link id="l" bandwidth="1" latency="-1"', "below zero"),
                            ('speed="1"/><link id="l" bandwidth="1" latency="2097152s"', "too large")):
             with self.subTest(host):
@@ -198,7 +198,7 @@ class FromSimgrid(unittest.TestCase):
         """Routes that stand twice, and links that aren't there, by line."""
         two = '<host id="a" speed="1"/><host id="b" speed="1"/><link id="l" bandwidth="1"/><link id="s" bandwidth="1" sharing_policy="SPLITDUPLEX"/>'
         for routes, told in (('<route src="a" dst="b"><link_ctn id="l"/></route>\n<route src="b" dst="a"><link_ctn id="l"/></route>',
-                              ":5: <route src=\"b\">: the route from b to a stands in line 4"),
+                              ":5: <route src=\"b\">: line 4 already has the route from b to a"),
                              ('<route src="a" dst="b"><link_ctn id="m"/></route>', 'no link "m"'),
                              ('<route src="a" dst="b"><link_ctn id="s"/></route>', "SPLITDUPLEX"),
                              ('<route src="a" dst="b"><link_ctn id="l" direction="UP"/></route>', "isn't SPLITDUPLEX"),
@@ -213,7 +213,7 @@ class FromSimgrid(unittest.TestCase):
                 self.assertIn(told, done.stderr.decode())
 
     def test_names(self):
-        """Blanks become `_`, told; refused where two would have one name."""
+        """Blanks become `_`, with a note; refused where two would have one name."""
         text = HEAD + '<zone id="z" routing="Full"><host id="Cpu A" speed="1"/>\n<host id="{}" speed="1"/></zone></platform>'
         done = converted(text.format("Cpu B"))
         self.assertEqual([host["id"] for host in tomllib.loads(done.stdout.decode())["host"]], ["Cpu_A", "Cpu_B"])
@@ -246,7 +246,7 @@ class FromSimgrid(unittest.TestCase):
         self.assertNotIn(b"weight", done.stderr)
 
     def test_cross_traffic(self):
-        """On both ways of a flow a SHARED link has bandwidth / 1.05; FATPIPE and SPLITDUPLEX links stay; elsewhere a note tells."""
+        """On both ways of a flow a SHARED link has bandwidth / 1.05; FATPIPE and SPLITDUPLEX links stay; elsewhere a note says."""
         def platform(back):
             return HEAD + (
                 '<zone id="z" routing="Full"><host id="a" speed="1Gf"/><host id="b" speed="1Gf"/>'
@@ -263,7 +263,7 @@ class FromSimgrid(unittest.TestCase):
         self.assertIn(b"cross traffic: a flow takes 1.05", told)
         found, told = widths("m")
         self.assertEqual((found["l"], found["s"]), ("105MBps", "105MBps"))
-        self.assertIn(b"no cross traffic, since not all routes use the same SHARED links both ways", told)
+        self.assertIn(b"no cross traffic, since not all routes use the same SHARED links in both directions", told)
         found, told = widths("l", "--crosstraffic", "no")
         self.assertEqual(found["l"], "105MBps")
         self.assertIn(b"no cross traffic: in SimGrid", told)
@@ -275,7 +275,7 @@ class FromSimgrid(unittest.TestCase):
         done = converted(xml, "--unit", "auto")
         found = tomllib.loads(done.stdout.decode())
         self.assertEqual((found["link"][0]["bandwidth"], found["network"][0]["window"]), ("1000000000", "4068474000"))
-        self.assertIn(b"bytes are counted in parts of 1/1000", done.stderr)
+        self.assertIn(b"bytes are counted in units of 1/1000", done.stderr)
         self.assertEqual(converted(xml, "--unit", "7").returncode, 2)
 
     def test_strict(self):
@@ -287,7 +287,7 @@ class FromSimgrid(unittest.TestCase):
         self.assertIn(b"-:4: disks are left out", done.stderr)
 
     def test_power(self):
-        """Of the pstate, in milliwatts: two numbers are idle and all; parts of a milliwatt are rounded, and told."""
+        """Of the pstate, in milliwatts: two numbers are idle and all; parts of a milliwatt are rounded, with a note."""
         for states, pstate, watts, power in (("1Gf", "0", "95:120:200", [95000, 120000, 200000]), ("1Gf", "0", "95:200", [95000, 95000, 200000]),
                                              ("2Gf,1Gf", "1", "95:120:200, 93.3333:110:170", [93333, 110000, 170000])):
             with self.subTest(watts):
@@ -303,7 +303,7 @@ class FromSimgrid(unittest.TestCase):
             self.assertEqual(done.returncode, 0 if watts == "95:120" else 1)
 
     def test_loopbacks(self):
-        """A host of a Full zone has SimGrid's loopback; of a Dijkstra zone and a cluster the built-in one, which is told."""
+        """A host of a Full zone has SimGrid's loopback; of a Dijkstra zone and a cluster the built-in one, with a note."""
         platform = platform_of('<host id="h" speed="1"/><router id="r"/>')
         self.assertIn({"id": "__loopback__", "bandwidth": "10GBps", "latency": "0", "sharing_policy": "FATPIPE"}, platform["link"])
         self.assertEqual(platform["route"], [{"src": "h", "dst": "h", "links": ["__loopback__"]}])
@@ -405,7 +405,7 @@ class FromSimgrid(unittest.TestCase):
         self.assertEqual(platform["state_profile"], [
             {"host": "h", "dates": ["0", "2", "3"], "states": ["on", "off", "on"], "loop": "1"}, {"link": "l", **off},
             {"host": "k", **off}, {"link": "s_UP", **off}, {"link": "s_DOWN", **off}])
-        self.assertIn("the actors of a host that goes off go on", done.stdout.decode())
+        self.assertIn("the actors of a host that fails continue", done.stdout.decode())
 
     def test_what_of_a_trace_is_refused(self):
         for text, told in (("1 0.5\n0 1\n", "t:2: the date is before"), ("STOCHASTIC\n", "drawn"), ("0 -1\n", "t:1: this isn't a date"),
@@ -419,10 +419,10 @@ class FromSimgrid(unittest.TestCase):
                 self.assertIn(told, done.stderr.decode())
         for inner, told in (('<link id="l" bandwidth="1" latency_file="t"/>', "latency_file"),
                             ('<trace id="t"/><trace_connect trace="t" element="l" kind="LATENCY"/>', "LATENCY"),
-                            ('<trace id="t"/><trace_connect trace="t" element="h" kind="LINK_AVAIL"/>', "link h that isn't there"),
+                            ('<trace id="t"/><trace_connect trace="t" element="h" kind="LINK_AVAIL"/>', "link h that doesn't exist"),
                             ('<host id="h" speed="1" state_file="t"/><trace id="t" file="t"/><trace_connect trace="t" element="h"/>',
                              "host h has two traces"),
-                            ('<trace id="t"/><trace_connect trace="t" element="h" kind="SPEED"/>', "host h that isn't there"),
+                            ('<trace id="t"/><trace_connect trace="t" element="h" kind="SPEED"/>', "host h that doesn't exist"),
                             ('<host id="h" speed="1" speed_file="t"/><trace id="t" file="t"/><trace_connect trace="t" element="h" kind="SPEED"/>',
                              "host h has two traces")):
             with self.subTest(inner):
@@ -437,7 +437,7 @@ class FromSimgrid(unittest.TestCase):
         self.assertIn("nowhere.trace", done.stderr.decode())
 
     def test_a_run_goes_by_its_traces(self):
-        """The first second is at full speed, the next two at half; then nothing goes on for a second, and all begins anew."""
+        """The first second is at full speed, the next two at half; then nothing runs for a second, and all begins anew."""
         folder = Folder(d='[[actor]]\nname = "p0"\nhost = "h"\nfunction = "replay"\n', s="p0 compute 5e9\n")
         folder.write("p.xml", HEAD + '<zone id="z" routing="Full"><host id="h" speed="1Gf" speed_file="t"/></zone></platform>')
         folder.write("t", "PERIODICITY 1\n0 1\n1 0.5\n3 0\n")
@@ -456,7 +456,7 @@ class FromSimgrid(unittest.TestCase):
                          '</zone></platform>')
         self.assertEqual(done.returncode, 0)
         self.assertEqual(tomllib.loads(done.stdout.decode())["host"][0], {"id": "h", "zone": "z", "speed": "2Gf"})
-        for line in ('-:4: <config> a="b" isn\'t here', "-:4: properties of <zone> are left out",
+        for line in ('-:4: <config> a="b" isn\'t supported', "-:4: properties of <zone> are left out",
                      '-:5: <host id="h">: of its speeds the one of pstate 0 is taken', "-:6: properties of <host> are left out (2 times)"):
             self.assertIn("from_simgrid: " + line, done.stderr.decode())
             self.assertIn("# " + line, done.stdout.decode())
@@ -529,7 +529,7 @@ class Studies(unittest.TestCase):
                             ('<zone id="y" routing="Full"/>', "in a deployment")):
             with self.subTest(actor):
                 self.refused(told, "d", d=HEAD + actor + "</platform>")
-        self.refused("a line of all actors", "d", "t", t="p0 barrier\n", d=HEAD + '<actor host="B" function="p0" start_time="1"/></platform>')
+        self.refused("a collective together with", "d", "t", t="p0 barrier\n", d=HEAD + '<actor host="B" function="p0" start_time="1"/></platform>')
         self.refused("t:2: unknown action", "d", "t", t="\np0 read 1\n", d=HEAD + '<actor host="B" function="p0"/></platform>')
         self.refused("t:2: unknown actor", "d", "t", t="p0 sleep 1\np9 sleep 1\n", d=HEAD + '<actor host="B" function="p0"/></platform>')
 
@@ -563,11 +563,11 @@ class Studies(unittest.TestCase):
         study, told = self.ranks("0 send 1 0 10\n1 recv 0 0 10\n", "--eager", "0")
         self.assertEqual(study.lines("p0"), ["send p1 10"])
         self.assertIn("t:1: send waits until", told)
-        # Of a long message there is nothing to tell: SMPI waits too.
+        # Of a long message there is no note: SMPI waits too.
         self.assertNotIn("send waits until", self.ranks("0 send 1 0 65536\n1 recv 0 0 65536\n", "--eager", "0")[1])
 
     def test_waits_in_any_order(self):
-        """Waits that stand together end when all are done; another one waits for the older requests too, which a note tells."""
+        """Waits that stand together end when all are done; another one waits for the older requests too, which a note says."""
         posted = "0 isend 1 0 70000\n0 irecv 1 0 70000\n1 isend 0 0 70000\n1 irecv 0 0 70000\n"
         study, told = self.ranks(posted + "0 wait 1 0 0\n1 wait 0 1 0\n0 wait 0 1 0\n1 wait 1 0 0\n")
         for rank in ("p0", "p1"):
@@ -577,7 +577,7 @@ class Studies(unittest.TestCase):
         study, told = self.ranks(text)
         self.assertEqual(study.lines("p0")[2:], ["wait", "wait", "compute 5"])
         self.assertIn("t:5: a wait for another request than the oldest also waits for the older ones", told)
-        self.refused("refused by --strict", "hosts", "t", "--strict", hosts="A 1:2\n", t=text)
+        self.refused("--strict: these warnings are errors", "hosts", "t", "--strict", hosts="A 1:2\n", t=text)
 
     def test_an_index(self):
         """`smpirun -trace-ti` writes a file that names those of the ranks, beside it or from the working folder."""
@@ -587,12 +587,12 @@ class Studies(unittest.TestCase):
         (study.path / "ti_rank-0.txt").rename(study.path / "parts/ti_rank-0.txt")
         self.assertEqual(study.made("p", "hosts", "ring").returncode, 0)
         self.assertEqual(study.read("script.txt"), "p0 compute 5\np1 compute 6\n")
-        self.refused("ring:2: nowhere: there is no such file beside the index", "hosts", "ring", hosts="B\n", ring="hosts\nnowhere\n")
+        self.refused("ring:2: nowhere: there is no such file in the folder of the index", "hosts", "ring", hosts="B\n", ring="hosts\nnowhere\n")
 
     def test_notes_of_many_files(self):
         parts = {f"t{rank}": f"{rank} send {1 - rank} 0 5\n{rank} recv {1 - rank} 0 5\n" for rank in range(2)}
         study = Study(p=PLATFORM, hosts="A 1:2\n", **parts)
-        self.assertIn("t0:1: sends below 65536 bytes are isend: they don't wait for who receives (2 times, in 2 files)",
+        self.assertIn("t0:1: sends below 65536 bytes are isend: they don't wait for the receiver (2 times, in 2 files)",
                       study.made("p", "hosts", "t0", "t1").stderr.decode())
 
     def test_no_rank(self):
@@ -647,13 +647,13 @@ class Studies(unittest.TestCase):
                 self.assertEqual(study.run_by_name("--quiet").returncode, 0)
 
     def test_collectives_beside_requests(self):
-        """Where a request is under way, which a wait would be for, receives of a collective wait one by one."""
+        """Where a request is pending, which a wait would be for, receives of a collective wait one by one."""
         study, _ = self.ranks("0 isend 1 0 70000\n1 recv 0 0 70000\n0 allreduce 8 0\n1 allreduce 8 0\n2 allreduce 8 0\n0 wait 0 1 0\n"
                               "0 barrier\n1 barrier\n2 barrier\n")
         self.assertEqual(study.lines("p0"), ["isend p1 70000", "recv p1", "recv p2", "isend p2 8", "isend p1 8", "wait",
                                              "wait", "wait", "irecv p1", "irecv p2", "wait", "wait", "isend p1 0", "isend p2 0"])
         self.assertEqual(study.run_by_name("--quiet").returncode, 0)
-        # A receive that is under way would meet the messages of a barrier. As a line it has none.
+        # A receive that is pending would meet the messages of a barrier. As a line it has none.
         posted, rest = "0 irecv 1 0 70000\n", "1 send 0 0 70000\n0 wait 1 0 0\n2 sleep 1\n"
         study, told = self.ranks(posted + "0 barrier\n1 barrier\n2 barrier\n" + rest)
         self.assertEqual(study.lines("p0"), ["irecv p1", "barrier", "wait"])
@@ -665,7 +665,7 @@ class Studies(unittest.TestCase):
     def test_what_of_ranks_is_refused(self):
         for text, told in (("0 send 1 1 5\n0 send 1 2 5\n1 recv 0 2 5\n1 recv 0 1 5\n", "t:3: a receive of tag 2 from rank 0, whose message is one of tag 1"),
                            ("0 recv -555 0 5\n", "from any rank"), ("0 comm_size 4\n", "comm_size 4"), ("0 send 9 0 1\n", "no rank 9"),
-                           ("0 send 0 0 1 99\n", "isn't a type"), ("0 frob\n", "the action frob"), ("0 wait 0 0 0\n", "isn't under way"),
+                           ("0 send 0 0 1 99\n", "isn't a type"), ("0 frob\n", "the action frob"), ("0 wait 0 0 0\n", "isn't pending"),
                            ("0 compute x\n", "isn't a number"), ("0 send 0\n", "at least 3"), ("0\n", "a rank and an action")):
             with self.subTest(text):
                 self.refused(told, "hosts", "t", hosts="B\n", t=text)

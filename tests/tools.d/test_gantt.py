@@ -119,7 +119,7 @@ class Charts(unittest.TestCase):
                      "[h3:c:(3) 3.000000000] compute 9 failed: the host h3 was off"):
             self.assertIn(line, told)
         texts = [text.text for text in chart(text).iter(SVG + "text")]
-        self.assertEqual([texts.count(name) for name in ("computed until its host went off", "message failed on its way, or while waited for")], [1, 1])
+        self.assertEqual([texts.count(name) for name in ("computed until its host failed", "message failed in transfer, or while waited for")], [1, 1])
 
     def test_suspended(self):
         """Of the 2 s of a compute, 1 s in the middle is held; the stretch behind is computing again."""
@@ -237,7 +237,7 @@ class Shared(unittest.TestCase):
             self.assertIn(b"exit status:", tool(path.name, "--help").stdout)
 
     def test_spoiled_traces(self):
-        """What isn't a trace is told by its line, and what is one is drawn and counted, whatever its numbers."""
+        """What isn't a trace is reported by its line, and what is one is drawn and counted, whatever its numbers."""
         usage, totable, rng, bad = module("usage"), module("totable"), random.Random("spoiled"), 0
         texts = [example(name) for name in ("ring", "star_cluster", "master_worker")]
         for _ in range(400):

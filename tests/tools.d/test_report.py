@@ -126,7 +126,7 @@ class Pages(unittest.TestCase):
     def test_endings(self):
         for ending, part in (("deadlock at 3.000000000\nblocked [h1:a:(1)] recv b", "Deadlock"), ("starved at 3.000000000", "Starvation"),
                              ("budget of 5 events used at 3.000000000", "The budget of events was used up"), ("", "The trace has no ending"),
-                             ("script line 2: bad amount", "cut off by a fault"), ("Simulation time 1.000000000", "The run completed")):
+                             ("script line 2: bad amount", "A fault ended the run"), ("Simulation time 1.000000000", "The run completed")):
             with self.subTest(ending):
                 text = page(traces.GOOD + ending + "\n" * bool(ending))
                 self.assertIn(f"<b>{part}" if "fault" not in part else part, text)

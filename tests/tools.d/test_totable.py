@@ -43,7 +43,7 @@ class Tables(unittest.TestCase):
         self.assertEqual(refused["outcome"], "refused")
         self.assertEqual([blocked[key] for key in ("action", "other", "begin_s", "duration_s", "outcome")],
                          ["recv", "b", "1.000000000", "2.000000000", "blocked"])
-        self.assertEqual([end[key] for key in ("line", "end_s", "outcome", "ending", "told")],
+        self.assertEqual([end[key] for key in ("line", "end_s", "outcome", "ending", "ending_line")],
                          [None, "3.000000000", None, "deadlock", "deadlock at 3.000000000"])
 
     def test_suspended(self):
@@ -62,7 +62,7 @@ class Tables(unittest.TestCase):
             with self.subTest(line):
                 done = tool("totable", "--endings", given=(traces.GOOD + line + "\n").encode())
                 *_, end = csv.DictReader(io.StringIO(done.stdout.decode()))
-                self.assertEqual([end[key] for key in ("end_s", "ending", "told")], ["1.000000000", word, line])
+                self.assertEqual([end[key] for key in ("end_s", "ending", "ending_line")], ["1.000000000", word, line])
                 self.assertEqual(done.stderr, b"")
 
     def test_the_other_actor_of_a_worker_is_its_master(self):
@@ -87,7 +87,7 @@ class Tables(unittest.TestCase):
 
     def test_names_of_columns_tell_units(self):
         head = tool("totable", "--endings", given=traces.GOOD.encode()).stdout.decode().split("\n")[0]
-        self.assertEqual(head, "line,host,actor,id,action,other,flops,bytes,begin_s,met_s,end_s,duration_s,outcome,joules,ending,told")
+        self.assertEqual(head, "line,host,actor,id,action,other,flops,bytes,begin_s,met_s,end_s,duration_s,outcome,joules,ending,ending_line")
 
     def test_rows_that_wait_for_the_other_side(self):
         """The receive of a message that was sent at 0 comes at 1 s, behind other rows; of the second message it never comes."""

@@ -88,7 +88,7 @@ class Tables(unittest.TestCase):
         self.assertNotIn("longest", tool("usage", "--longest", "0", given=example("ring").encode()).stdout.decode())
 
     def test_events(self):
-        """A budget of as many events as are told suffices, and one less doesn't."""
+        """A budget of as many events as are printed suffices, and one less doesn't."""
         for name in ("first", "ring", "star_cluster", "master_worker"):
             folder = ROOT / "examples" / name
             told = re.search("^([0-9,]+) events: the least budget", tool("usage", given=example(name).encode()).stdout.decode(), re.M)

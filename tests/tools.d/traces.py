@@ -4,14 +4,14 @@ import random
 
 GOOD = "[h1:a:(1) 1.000000000] compute 5 1.000000000\n"
 
-# A trace, and what is told of its bad line.
+# A trace, and the message about its bad line.
 BAD = [
     ("x\n", "line 1"), (GOOD + "\n", "line 2"), (GOOD + GOOD.replace("compute 5", "jump"), "line 2"), (GOOD[:30], "line 1"),
     (GOOD.replace("(1)", "(0)"), "line 1"), (GOOD.replace("1.000000000]", "1.0]"), "line 1"), (GOOD.replace("compute 5", "compute"), "line 1"),
     (GOOD + GOOD.replace("] compute 5 1.", "] sleep 2."), "line 2: it began before the actor was free"),
     (GOOD + GOOD.replace("(1) 1.", "(2) 0."), "line 2: the date falls"),
     (GOOD + GOOD.replace("h1", "h2"), "line 2: actor 1 was a on h1 before"), ("blocked [h1:a:(1)] wait\n", "line 1"),
-    (GOOD + "Simulation time 1.000000000\n" + GOOD, "line 3: no line of a trace can follow its end"),
+    (GOOD + "Simulation time 1.000000000\n" + GOOD, "line 3: not allowed after the ending line"),
     (GOOD + "Simulation time 0.500000000\n", "line 2: the run ends before its last action"),
     (GOOD + "deadlock at 1.000000000\nblocked [h1:a:(1)] jump\n", "line 3"), (GOOD + "energy h1 1.000000000000\n", "line 2"),
     (GOOD + "Simulation time 1.000000000\nenergy h1 1.0\n", "line 3"), ("suspended [h1:a:(1)]\n", "line 1"), (GOOD.replace("h1", "h\u00e9"), "line 1"),
@@ -21,7 +21,7 @@ LATENCY, BYTE = 1_000, 1_000     # nanoseconds, and nanoseconds a byte: 1 MBps
 
 
 def fatpipe(number, actors=4):
-    """A platform on which a message of n bytes takes LATENCY + n * BYTE whatever else is under way, and a script with messages."""
+    """A platform on which a message of n bytes takes LATENCY + n * BYTE whatever else is running, and a script with messages."""
     rng = random.Random(f"meetings {number}")
     hosts = [f"h{i}" for i in range(actors)]
     platform = ('zone = [{id = "z", routing = "Star"}]\nhost = [' + ", ".join(f'{{id = "{h}", zone = "z", speed = "1Gf"}}' for h in hosts)
