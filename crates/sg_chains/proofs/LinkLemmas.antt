@@ -634,15 +634,18 @@ none_push (o ∷ on) none zero = none 0
 none_push (o ∷ on) none (suc c) = none_push on (λ k. none (suc k)) c
 
 -- what leads to the first slot on a resource has a code
-pub head_small : (slots : List (Option Slot)) (on : List (Option ℕ)) (resource : ℕ) → AreLists slots on → resource < length on → length slots ≤ nothing → IsSmall (get_or on resource None)
-head_small slots on resource are within few =
+pub head_small : (slots : List (Option Slot)) (on : List (Option ℕ)) (resource : ℕ) → AreLists slots on → resource < length on → ((i : ℕ) → nothing ≤ i → get_or slots i None ≡ None) → IsSmall (get_or on resource None)
+head_small slots on resource are within numbered =
     let row = are.lists resource within in
     by_list row.list row.linked
   where
-    there : (i : ℕ) (o : Option Slot) → get_or slots i None ≡ o → IsBehind resource None o → i < length slots
+    there : (i : ℕ) (o : Option Slot) → get_or slots i None ≡ o → IsBehind resource None o → i < nothing
     there i None e h = absurd h
-    there i (Some slot) e h = grind (arith, get_or_past)
+    there i (Some slot) e h = elim (lt_cases i nothing) [
+      | inl low ↦ low
+      | inr far ↦ absurd (cc (sym e ∙ numbered i far))
+    ]
 
     by_list : (list : List ℕ) → Linked resource slots None list (get_or on resource None) → IsSmall (get_or on resource None)
     by_list [] l = subst IsSmall (sym l) tt
-    by_list (i ∷ list) l = subst IsSmall (sym l.0) (le_trans (there i (get_or slots i None) refl l.1) few)
+    by_list (i ∷ list) l = subst IsSmall (sym l.0) (there i (get_or slots i None) refl l.1)

@@ -1,20 +1,17 @@
-//! What is kept of a slot, in 24 bytes.
-ghost use Rattle.std.specs.Prelude.{◌≡◌, ◌≤◌, ◌==◌};
-ghost use Rattle.slab.specs.declared.Entry.TheVariants.{Vacant, Occupied};
-ghost use Rattle.sg_chains.specs.kept.Cells.{AreSmall, IsSmall, entry_of, link_of as link_of_spec, nothing, slot_in as slot_in_spec};
+//! What is kept of a slot, in 20 bytes.
+ghost use Rattle.std.specs.Prelude.{◌≡◌};
+ghost use Rattle.sg_chains.specs.kept.Cells.{AreSmall, IsSmall, link_of as link_of_spec, slot_in as slot_in_spec};
 
 use crate::slots::Slot;
 
 /// Stands for a missing number.
 const NOTHING: u32 = 4_294_967_295;
 
-/// A slot, or nothing yet.
+/// A slot with numbers of 32 bits; `NOTHING` stands for a missing one.
 #[derive(Clone, Copy)]
 pub(crate) struct Cell {
-    pub(crate) flow: usize,
-    /// `NOTHING` if there is no slot.
+    pub(crate) flow: u32,
     pub(crate) resource: u32,
-    /// If there is no slot, the number of the next cell without one, or of how many cells there are.
     pub(crate) next_of_flow: u32,
     pub(crate) next_on: u32,
     pub(crate) prev_on: u32,
@@ -43,16 +40,9 @@ pub(crate) fn code_of(link: Option<usize>) -> u32
     }
 }
 
-/// Returns whether there is no slot.
-pub(crate) fn is_free(cell: Cell) -> bool
-    ensures { result ≡ (cell.resource == nothing) }
-{
-    cell.resource == NOTHING
-}
-
 /// Returns the slot in a cell.
-pub(crate) fn slot_in(cell: Cell) -> Slot
-    ensures is { result ≡ slot_in_spec cell }
+pub(crate) fn slot_in(cell: &Cell) -> Slot
+    ensures is { result ≡ slot_in_spec cell.now }
     ensures next_of_flow { IsSmall result.next_of_flow }
     ensures next_on { IsSmall result.next_on }
     ensures prev_on { IsSmall result.prev_on }
@@ -69,7 +59,7 @@ pub(crate) fn slot_in(cell: Cell) -> Slot
 /// Returns a cell with this slot.
 pub(crate) fn cell_with(slot: Slot) -> Cell
     requires { AreSmall slot }
-    ensures { entry_of result ≡ Occupied slot }
+    ensures { slot_in_spec result ≡ slot }
 {
     Cell {
         flow: slot.flow,
@@ -77,19 +67,5 @@ pub(crate) fn cell_with(slot: Slot) -> Cell
         next_of_flow: code_of(slot.next_of_flow),
         next_on: code_of(slot.next_on),
         prev_on: code_of(slot.prev_on),
-    }
-}
-
-/// Returns a cell without a slot, in front of the next one without.
-pub(crate) fn free_cell(next: usize) -> Cell
-    requires { next ≤ nothing }
-    ensures { entry_of result ≡ Vacant next }
-{
-    Cell {
-        flow: 0,
-        resource: NOTHING,
-        next_of_flow: next as u32,
-        next_on: NOTHING,
-        prev_on: NOTHING,
     }
 }

@@ -45,12 +45,7 @@ impl Model for Chains {
 }
 
 // Makes a chain of the flow's uses, and returns the number of the first one.
-fn add_uses(
-    slots: &mut Slots,
-    on: &mut [Option<usize>],
-    flow: usize,
-    uses: &[usize],
-) -> Option<usize>
+fn add_uses(slots: &mut Slots, on: &mut [Option<usize>], flow: u32, uses: &[usize]) -> Option<usize>
     requires can { CanHold (length uses.now) slots.old on.old }
     requires exist { All (λ resource. resource < length on.old) uses.now }
     ensures is { IsChain flow (length uses.now) (uses_of slots.new.slots) result }
@@ -134,7 +129,7 @@ impl Chains {
     }
 
     /// Adds the uses of a flow, and returns the number of the first one. The chains of all other flows stay.
-    pub fn add(&mut self, flow: usize, uses: &[usize]) -> Option<usize>
+    pub fn add(&mut self, flow: u32, uses: &[usize]) -> Option<usize>
         requires exist { All (λ resource. resource < length self.old.users) uses.now }
         requires room { length uses.now ≤ self.old.room }
         ensures is { IsChain flow (length uses.now) self.new.uses result }
@@ -168,7 +163,7 @@ impl Chains {
         let slot = self.slots.at(i);
         steps.tick();
         Use {
-            flow: slot.flow,
+            flow: slot.flow as usize,
             resource: slot.resource,
             next_of_flow: slot.next_of_flow,
             next_on: slot.next_on,

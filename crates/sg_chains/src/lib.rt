@@ -1,6 +1,6 @@
 //! Uses of resources by flows, in chains both ways: those of each flow, and those on each resource.
 //! The type is `Chains`: `add` and `remove` write the uses of a flow, and `look` reads one use and counts it.
-//! It stands on `sg_base`, and keeps its uses as the kit's `slab` does, in less memory.
+//! It stands on `sg_base`, and keeps its uses in the kit's `slab`.
 #![tactic(auto)]
 
 mod cells;

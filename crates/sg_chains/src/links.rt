@@ -45,7 +45,7 @@ fn point_prev(slots: &mut Slots, next: Option<usize>, prev: Option<usize>)
 pub(crate) fn link(
     slots: &mut Slots,
     on: &mut [Option<usize>],
-    flow: usize,
+    flow: u32,
     resource: usize,
     next_of_flow: Option<usize>,
 ) -> usize
@@ -61,7 +61,7 @@ pub(crate) fn link(
     ensures more { HoldsMore 1 slots.old slots.new }
 {
     // what leads to a slot is the number of one
-    let _numbers = slots.numbers();
+    slots.are_numbered();
     let next = on[resource];
     let i = slots.insert(Slot {
         flow,

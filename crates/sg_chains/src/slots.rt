@@ -1,19 +1,19 @@
 //! Slots for uses, by number.
-ghost use Rattle.std.specs.Prelude.{◌≡◌, ◌≢◌, ◌≤◌, ◌<◌, ◌+◌, ℕ, [], None, Some, IsSome, OnOk, is_some, length, option_map};
-ghost use Rattle.slab.specs.declared.Entry.TheVariants.{Occupied};
+ghost use Rattle.std.specs.Prelude.{◌≡◌, ◌≢◌, ◌≤◌, ◌<◌, ◌+◌, ℕ, [], None, Some, IsSome, OnOk, option_map};
 ghost use Rattle.slab.specs.Slab.{get, slab_len, HasRoomFor, Updates};
-ghost use Rattle.sg_chains.specs.kept.Cells.{AreSmall, IsSmall, entry_of, nothing, slot_in as slot_in_spec};
+ghost use Rattle.sg_chains.specs.kept.Cells.{AreSmall, HasNumber, IsSmall, nothing};
 ghost use Rattle.sg_chains.specs.kept.Linked.{KeepsRoom, with_next, with_prev};
 
-use crate::cells::{Cell, cell_with, code_of, free_cell, is_free, slot_in};
+use crate::cells::{Cell, cell_with, code_of, slot_in};
 use sg_base::Memory;
+use slab::Slab;
 use std::alloc::Global;
 use std::marker::Model;
 
 /// A use, which also knows the one before it on the same resource.
 #[derive(Clone, Copy)]
 pub(crate) struct Slot {
-    pub(crate) flow: usize,
+    pub(crate) flow: u32,
     pub(crate) resource: usize,
     pub(crate) next_of_flow: Option<usize>,
     pub(crate) next_on: Option<usize>,
@@ -23,14 +23,30 @@ pub(crate) struct Slot {
 // All numbers of slots are below it.
 const MOST: usize = 4_294_967_295;
 
-/// Slots by numbers of 32 bits, seen as a slab of the kit, in a third of its memory. Only `reserve` takes memory.
+// Puts a cell under a free number of 32 bits. A slab promises a key below its capacity, which may be more than was
+// asked for: a key that is too large is given back once another was found.
+fn insert_below(slab: &mut Slab<Cell>, cell: Cell) -> usize
+    requires { HasNumber slab.old }
+    ensures small { result < nothing }
+    ensures free { get slab.old result ≡ None }
+    ensures updates { Updates slab.old slab.new result (Some cell) }
+    ensures len { slab_len slab.new ≡ slab_len slab.old + 1 }
+    ensures capacity { slab.new.capacity ≡ slab.old.capacity }
+{
+    let _most = slab.capacity();
+    let i = slab.insert_reserved(cell);
+    if i < MOST {
+        return i;
+    }
+    let below = insert_below(slab, cell);
+    slab.remove(i);
+    below
+}
+
+/// Slots by numbers of 32 bits, in a slab of cells. Only `reserve` takes memory.
 #[derive(Drop)]
 pub(crate) struct Slots {
-    cells: Vec<Cell>,
-    // how many cells have a slot
-    len: usize,
-    // the first cell without a slot, or how many cells there are if each has one
-    next: usize,
+    slab: Slab<Cell>,
 }
 
 impl Model for Slots {
@@ -39,17 +55,11 @@ impl Model for Slots {
 
     ghost Value = { Slab Slot };
 
-    ghost use Rattle.std.specs.Prelude.{map, min, vec_capacity};
-    ghost use Rattle.slab.specs.Entry.{value_of};
-    ghost use Rattle.sg_chains.specs.kept.Cells.{AreCells, entries_of, nothing};
+    ghost use Rattle.sg_chains.specs.kept.Cells.{AreNumbered, slots_in};
 
-    ghost view = { λ s. record {
-      slots = map value_of (entries_of s.cells.items);
-      vacant_key = s.next;
-      capacity = min (vec_capacity s.cells) nothing;
-    } };
+    ghost view = { λ s. slots_in s.slab };
 
-    ghost invariant = { λ s. AreCells s.cells.items s.len s.next };
+    ghost invariant = { λ s. AreNumbered s.slab };
 }
 
 impl Slots {
@@ -58,9 +68,7 @@ impl Slots {
         ensures { result.slots ≡ [] }
     {
         Slots {
-            cells: Vec::new(alloc),
-            len: 0,
-            next: 0,
+            slab: Slab::new(alloc),
         }
     }
 
@@ -70,22 +78,21 @@ impl Slots {
         ensures grows { self.old.capacity ≤ self.new.capacity }
         ensures kept { self.new ≡ record self.old { capacity = self.new.capacity } }
     {
-        let Some(most) = self.len.checked_add(n) else {
+        let Some(most) = self.slab.len().checked_add(n) else {
             return Err(Memory);
         };
         if most > MOST {
             return Err(Memory);
         }
-        self.cells.reserve(most.saturating_sub(self.cells.len()))?;
+        self.slab.reserve(n)?;
         Ok(())
     }
 
-    /// Returns how many numbers there are, with those that have no slot now.
-    pub(crate) fn numbers(&self) -> usize
-        ensures is { result ≡ length self.now.slots }
-        ensures small { result ≤ nothing }
+    /// States that all numbers of slots have 32 bits.
+    pub(crate) fn are_numbered(&self)
+        ensures { (i : ℕ) → nothing ≤ i → get self.now i ≡ None }
     {
-        self.cells.len()
+        let _len = self.slab.len();
     }
 
     /// Returns the slot under a number.
@@ -93,7 +100,7 @@ impl Slots {
         requires { IsSome (get self.now i) }
         ensures { get self.now i ≡ Some result }
     {
-        slot_in(self.cells[i])
+        slot_in(&self.slab[i])
     }
 
     /// Puts a slot under a free number, and returns the number.
@@ -106,16 +113,7 @@ impl Slots {
         ensures len { slab_len self.new ≡ slab_len self.old + 1 }
         ensures capacity { self.new.capacity ≡ self.old.capacity }
     {
-        let i = self.next;
-        self.len += 1;
-        if i == self.cells.len() {
-            self.cells.push_reserved(cell_with(slot));
-            self.next = i + 1;
-            return i;
-        }
-        self.next = self.cells[i].next_of_flow as usize;
-        self.cells[i] = cell_with(slot);
-        i
+        insert_below(&mut self.slab, cell_with(slot))
     }
 
     /// Takes the slot under a number away.
@@ -128,28 +126,7 @@ impl Slots {
         ensures len { slab_len self.new + 1 ≡ slab_len self.old }
         ensures capacity { self.new.capacity ≡ self.old.capacity }
     {
-        let slot = slot_in(self.cells[i]);
-        self.cells[i] = free_cell(self.next);
-        self.len -= 1;
-        self.next = i;
-        slot
-    }
-
-    // Returns whether there is a slot under a number.
-    fn has(&self, i: usize) -> bool
-        ensures { result ≡ is_some (get self.now i) }
-    {
-        i < self.cells.len() && !is_free(self.cells[i])
-    }
-
-    // Puts another slot in the place of the one under a number.
-    fn put(&mut self, i: usize, cell: Cell)
-        requires there { IsSome (get self.old i) }
-        requires slot { entry_of cell ≡ Occupied (slot_in_spec cell) }
-        ensures updates { Updates self.old self.new i (Some (slot_in_spec cell)) }
-        ensures kept { KeepsRoom self.old self.new }
-    {
-        self.cells[i] = cell;
+        slot_in(&self.slab.remove(i))
     }
 
     /// Links the slot under a number, if there is one, to this next one on its resource.
@@ -159,16 +136,13 @@ impl Slots {
         ensures others { (other : ℕ) → other ≢ i → get self.new other ≡ get self.old other }
         ensures kept { KeepsRoom self.old self.new }
     {
-        if self.has(i) {
-            let cell = self.cells[i];
-            self.put(
-                i,
-                Cell {
-                    next_on: code_of(next),
-                    ..cell
-                },
-            );
-        }
+        let Some(cell) = self.slab.get_mut(i) else {
+            return;
+        };
+        *cell = Cell {
+            next_on: code_of(next),
+            ..*cell
+        };
     }
 
     /// Links the slot under a number, if there is one, back to this one on its resource.
@@ -178,15 +152,12 @@ impl Slots {
         ensures others { (other : ℕ) → other ≢ i → get self.new other ≡ get self.old other }
         ensures kept { KeepsRoom self.old self.new }
     {
-        if self.has(i) {
-            let cell = self.cells[i];
-            self.put(
-                i,
-                Cell {
-                    prev_on: code_of(prev),
-                    ..cell
-                },
-            );
-        }
+        let Some(cell) = self.slab.get_mut(i) else {
+            return;
+        };
+        *cell = Cell {
+            prev_on: code_of(prev),
+            ..*cell
+        };
     }
 }

@@ -1,8 +1,6 @@
--- How a slot is kept in 24 bytes, with numbers of 32 bits.
-use Rattle.std.specs.Prelude.{◌<◌, ◌≤◌, ◌==◌, ℕ, if◌then◌else◌, length, map, Option, None, Some, IfSome, List}
-use Rattle.slab.specs.declared.Entry.{Entry}
-use Rattle.slab.specs.declared.Entry.TheVariants.{Vacant, Occupied}
-use Rattle.slab.specs.Entry.{IsSound}
+-- How a slot is kept in 20 bytes of a slab, with numbers of 32 bits.
+use Rattle.std.specs.Prelude.{◌≡◌, ◌<◌, ◌≤◌, ◌+◌, ◌==◌, ℕ, zero, suc, min, if◌then◌else◌, is_some, map, Option, None, Some, IfSome, option_map, List, [], ◌∷◌}
+use Rattle.slab.specs.Slab.{Slab, get}
 use Rattle.sg_chains.specs.declared.cells.Cell.{Cell}
 use Rattle.sg_chains.specs.declared.slots.Slot.{Slot}
 
@@ -18,7 +16,7 @@ link_of code = if code == nothing then None else Some code
 abbrev pub IsSmall : Option ℕ → Type 0
 IsSmall link = IfSome link (λ i. i < nothing)
 
--- all numbers of a slot except that of its flow have a code
+-- the numbers of a slot have codes; that of its flow has 32 bits by its type
 pub record AreSmall (slot : Slot) : Type 0 where
   pub resource : slot.resource < nothing
   pub next_of_flow : IsSmall slot.next_of_flow
@@ -29,14 +27,24 @@ pub record AreSmall (slot : Slot) : Type 0 where
 abbrev pub slot_in : Cell → Slot
 slot_in cell = record { flow = cell.flow; resource = cell.resource; next_of_flow = link_of cell.next_of_flow; next_on = link_of cell.next_on; prev_on = link_of cell.prev_on }
 
--- a slot, or the number of the next cell without one
-abbrev pub entry_of : Cell → Entry Slot
-entry_of cell = if cell.resource == nothing then Vacant cell.next_of_flow else Occupied (slot_in cell)
+-- the slots in a slab of cells, with room for as many as there are numbers at most
+abbrev pub slots_in : Slab Cell → Slab Slot
+slots_in slab = record {
+  slots = map (option_map slot_in) slab.slots;
+  vacant_key = slab.vacant_key;
+  capacity = min slab.capacity nothing;
+}
 
-abbrev pub entries_of : List Cell → List (Entry Slot)
-entries_of cells = map entry_of cells
+-- all numbers of cells have 32 bits
+abbrev pub AreNumbered : Slab Cell → Type 0
+AreNumbered slab = (i : ℕ) → nothing ≤ i → get slab i ≡ None
 
--- so many slots are in these cells, and from the next one on those without one are linked
-pub record AreCells (cells : List Cell) (len next : ℕ) : Type 0 where
-  pub sound : IsSound (entries_of cells) len next
-  pub few : length cells ≤ nothing
+-- how many of the first n numbers are taken
+unfoldable pub taken : ℕ → List (Option Cell) → ℕ
+taken zero cells = 0
+taken (suc n) [] = 0
+taken (suc n) (cell ∷ cells) = (if is_some cell then 1 else 0) + taken n cells
+
+-- a number of 32 bits is free, for which the slab has room
+abbrev pub HasNumber : Slab Cell → Type 0
+HasNumber slab = taken (min slab.capacity nothing) slab.slots < min slab.capacity nothing

@@ -7,7 +7,7 @@ pub insert-i-requires-clause-small : goal.insert-i-requires-clause-small
 insert-i-requires-clause-small c = record {
   resource = omega (arith, c.requires.in_range, c.requires.can.few);
   next_of_flow = c.requires.next;
-  next_on = head_small c.args.slots.now.slots c.args.on.now c.args.resource c.requires.can.lists c.requires.in_range (omega (arith, c.numbers-numbers.ensures.is, c.numbers-numbers.ensures.small));
+  next_on = head_small c.args.slots.now.slots c.args.on.now c.args.resource c.requires.can.lists c.requires.in_range c.are_numbered.ensures;
   prev_on = tt;
 }
 

@@ -1,22 +1,35 @@
-use Rattle.std.proofs.Common.{◌≡◌, IsSome, Some, cond, option_map, sym, ap, subst, ◌∙◌}
-use Rattle.slab.specs.declared.Entry.TheVariants.{Occupied, Vacant}
-use Rattle.slab.specs.Slab.{get}
-use Rattle.sg_chains.specs.kept.Cells.{slot_in}
-use Rattle.sg_chains.specs.kept.Linked.{with_next}
-use Rattle.sg_chains.proofs.CellLemmas.{slot_read}
+use Rattle.std.proofs.Common.{◌≡◌, Some, is_some, option_map, sym, ap, subst, ◌∙◌}
+use Rattle.std.specs.Option.{option_copied_mut}
+use Rattle.slab.specs.Slab.{get, with_value}
+use Rattle.sg_chains.specs.kept.Cells.{slot_in, slots_in}
+use Rattle.sg_chains.specs.kept.Linked.{KeepsRoom, with_next}
+use Rattle.sg_chains.proofs.CellLemmas.{keeps_room, slot_at, slots_written}
 use Rattle.sg_chains.proofs.slots.Slots.set_next.Goals as goal
 
-pub put-requires-clause-slot : goal.put-requires-clause-slot
-put-requires-clause-slot c =
-    let there : IsSome (get c.args.self.now c.args.i) = sym c.has.ensures ∙ c.if-has.true in
-    let read = slot_read c.self.inside.cells.items c.args.i c.index-cell.result.now (subst (λ s. IsSome (get s c.args.i)) (sym c.self.view_is) there) (sym c.index-cell.ensures) in
-    let cell = record c.index-cell.result.now { next_on = c.code_of.result } in
-    ap (λ b. cond b (Vacant cell.next_of_flow) (Occupied (slot_in cell))) read.taken
+pub returns-clause-changed : goal.returns-clause-changed
+returns-clause-changed c =
+    let slab = c.self.inside.slab in
+    let i = c.args.i in
+    let cell = c.in-Some.cell.now in
+    let at : get slab i ≡ Some cell = sym c.get_mut.ensures.value ∙ ap option_copied_mut c.in-Some.is in
+    let written = slots_written slab i (record cell { next_on = c.code_of.result }) (ap is_some at) in
+    let was : get c.args.self.now i ≡ Some (slot_in cell) = ap (λ s. get s i) (sym c.self.view_is) ∙ slot_at slab.slots i ∙ ap (option_map slot_in) at in
+    written.changed ∙ ap (λ link. Some (with_next link (slot_in cell))) c.code_of.ensures ∙ sym (ap (option_map (with_next c.args.next)) was)
 
-pub returns-then-has-clause-changed : goal.returns-then-has-clause-changed
-returns-then-has-clause-changed c =
-    let there : IsSome (get c.args.self.now c.args.i) = sym c.has.ensures ∙ c.if-has.true in
-    let read = slot_read c.self.inside.cells.items c.args.i c.index-cell.result.now (subst (λ s. IsSome (get s c.args.i)) (sym c.self.view_is) there) (sym c.index-cell.ensures) in
-    let slot = slot_in c.index-cell.result.now in
-    let was = subst (λ s. get s c.args.i ≡ Some slot) c.self.view_is read.slot in
-    c.put.ensures.updates.changed ∙ ap (λ n. Some (with_next n slot)) c.code_of.ensures ∙ sym (ap (option_map (with_next c.args.next)) was)
+pub returns-clause-others : goal.returns-clause-others
+returns-clause-others c =
+    let slab = c.self.inside.slab in
+    let i = c.args.i in
+    let cell = c.in-Some.cell.now in
+    let at : get slab i ≡ Some cell = sym c.get_mut.ensures.value ∙ ap option_copied_mut c.in-Some.is in
+    let written = slots_written slab i (record cell { next_on = c.code_of.result }) (ap is_some at) in
+    λ other differs. written.others other differs ∙ ap (λ s. get s other) c.self.view_is
+
+pub returns-clause-kept : goal.returns-clause-kept
+returns-clause-kept c =
+    let slab = c.self.inside.slab in
+    let i = c.args.i in
+    let cell = c.in-Some.cell.now in
+    let at : get slab i ≡ Some cell = sym c.get_mut.ensures.value ∙ ap option_copied_mut c.in-Some.is in
+    let next = record cell { next_on = c.code_of.result } in
+    subst (λ s. KeepsRoom s (slots_in (with_value slab i next))) c.self.view_is (keeps_room slab i next (ap is_some at))
