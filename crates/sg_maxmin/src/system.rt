@@ -129,8 +129,10 @@ impl System {
         ensures use_room { self.new.use_room + length uses.now ≡ self.old.use_room }
     {
         let mut row = FlowRow::new(uses.len(), weight, bound);
+        // each number has 32 bits
+        let _numbers = self.flows.numbers();
         let id = self.flows.insert(row);
-        row.first = self.chains.add(id, uses);
+        row.first = self.chains.add(id as u32, uses);
         self.flows.replace(id, row);
         id
     }
