@@ -1,5 +1,5 @@
 -- Rows of uses in chains.
-use Rattle.std.proofs.Common.{◌≡◌, ◌≢◌, ℕ, zero, suc, ◌+◌, ◌<◌, ◌≤◌, inl, inr, cond, eq-eqb, ne_eqb, Option, None, List, [], ◌∷◌, length, length-set, map, set, get_or-set_same, get_or-set_other, refl, sym, ap, ap₂, subst, ◌∙◌, arith}
+use Rattle.std.proofs.Common.{◌≡◌, ◌≢◌, ℕ, zero, suc, ◌+◌, ◌<◌, ◌≤◌, ◌^◌, inl, inr, cond, eq-eqb, ne_eqb, Option, None, List, [], ◌∷◌, length, length-set, map, set, get_or-set_same, get_or-set_other, refl, sym, ap, ap₂, subst, ◌∙◌, arith}
 use Rattle.std.proofs.lemmas.List.{length-map}
 use Rattle.sg_chains.specs.declared.uses.Use.{Use}
 use Rattle.sg_chains.specs.Chain.{IsChain, IsSameChain, KeepsChains, resources}
@@ -29,13 +29,15 @@ pub none_indexed : (rows : List Uses) (chains : Chained) → rows ≡ [] → ((t
 none_indexed rows chains none nobody = subst (λ l. IsIndex l chains) (sym none) (record {
   chained = λ key. no_chain key chains.uses;
   both = λ key thing. ap (times key) (nobody thing) ∙ ap (times thing) (sym (nothing_of chains.uses));
+  few = omega arith;
 })
 
 -- rows without uses at the end don't matter
-pub rows_indexed : (rows more : List Uses) (chains : Chained) → ((key : ℕ) → uses_at more key ≡ uses_at rows key) → IsIndex rows chains → IsIndex more chains
-rows_indexed rows more chains same is = record {
+pub rows_indexed : (rows more : List Uses) (chains : Chained) → ((key : ℕ) → uses_at more key ≡ uses_at rows key) → length more ≤ 2 ^ 32 → IsIndex rows chains → IsIndex more chains
+rows_indexed rows more chains same few is = record {
   chained = λ key. subst (λ (r : Uses). IsChain key r.count chains.uses r.first) (sym (same key)) (is.chained key);
   both = λ key thing. is.both key thing ∙ ap (λ r. times thing (things_of chains.uses r)) (sym (same key));
+  few = few;
 }
 
 -- there is room for more
@@ -79,6 +81,7 @@ module _ (rows : List Uses) (old new : Chained) (key : ℕ) (row : Uses) (is : I
       | inl e ↦ subst (λ n. times n (users_on new.users thing) ≡ times thing (things_of new.uses (uses_at (set rows key row) n))) (sym e) (counts thing ∙ ap (λ r. times thing (things_of new.uses r)) (sym here))
       | inr ne ↦ elsewhere k thing ne ∙ is.both k thing ∙ ap (times thing) (sym (same k ne).over ∙ ap (things_of new.uses) (sym (other k ne)))
     ];
+    few = omega (arith, is.few, length-set rows key row);
   }
 
   pub put_row : (things : List ℕ) → things_of new.uses row ≡ things → IsRow (map (things_of old.uses) rows) (map (things_of new.uses) (set rows key row)) key things

@@ -12,7 +12,7 @@ use Rattle.sg_lives.specs.Slots.{passes, serials}
 use Rattle.sg_activity.specs.Stamp.{Stamp, stamped, anew}
 use Rattle.sg_activity.specs.Task.{Task, flow_in, task_at}
 use Rattle.sg_lives.specs.Kinds.{pace, takes_share}
-use Rattle.sg_activity.specs.Underway.{Underway, started, with_next_serial, with_task}
+use Rattle.sg_activity.specs.Underway.{Underway, started, with_task}
 use Rattle.sg_activity.specs.Doing.{Doing, started_in, begun_in}
 use Rattle.sg_lives.specs.Pool.{slot_at}
 use Rattle.sg_activity.specs.kept.Stamps.{left_at}

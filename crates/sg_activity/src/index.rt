@@ -1,6 +1,6 @@
 //! Which activities use which hosts and links.
 
-ghost use Rattle.std.specs.Prelude.{◌≡◌, ◌≤◌, ◌<◌, ◌+◌, ℕ, [], All, IfOk, IsSome, None, OnOk, Some, length, slice_index_or};
+ghost use Rattle.std.specs.Prelude.{◌≡◌, ◌≤◌, ◌<◌, ◌+◌, ℕ, [], All, IfOk, IsSome, None, OnOk, Some, length, max, slice_index_or};
 ghost use Rattle.sg_chains.specs.Chained.{times, users_on};
 ghost use Rattle.sg_chains.specs.Walk.{Leads, next_of_flow, next_on, resource_of, user_of};
 ghost use Rattle.sg_activity.specs.kept.Rows.{IsEntered, IsWider, row_at, uses_at};
@@ -22,6 +22,9 @@ const NO_USES: Uses = Uses {
     first: None,
     count: 0,
 };
+
+// Keys have 32 bits.
+const MOST_KEYS: usize = 4_294_967_296;
 
 /// The things, hosts or links, that the activity under each key uses, and the keys of those that use each thing.
 /// Only `reserve` takes memory.
@@ -54,9 +57,10 @@ impl Model for Index {
 fn grow_rows(rows: &mut Vec<Uses>, n: usize) -> Result<(), Memory>
     ensures same { (key : ℕ) → uses_at rows.new.items key ≡ uses_at rows.old.items key }
     ensures longer { length rows.old.items ≤ length rows.new.items }
+    ensures few { length rows.new.items ≤ max (length rows.old.items) n }
     ensures long { OnOk result (n ≤ length rows.new.items) }
 {
-    for _key in rows.len()..n {
+    while rows.len() < n {
         match rows.push(NO_USES) {
             Ok(()) => {}
             Err(_) => return Err(Memory),
@@ -95,6 +99,9 @@ impl Index {
         ensures keys { OnOk result (keys ≤ length self.new.rows) }
         ensures uses { OnOk result (uses ≤ self.new.room) }
     {
+        if keys > MOST_KEYS {
+            return Err(Memory);
+        }
         grow_rows(&mut self.rows, keys)?;
         self.chains.reserve(uses)
     }
@@ -107,7 +114,7 @@ impl Index {
         requires room { length things.now ≤ self.old.room }
         ensures { IsEntered self.old self.new key things.now }
     {
-        let first = self.chains.add(key, things);
+        let first = self.chains.add(key as u32, things);
         self.rows[key] = Uses {
             first,
             count: things.len(),

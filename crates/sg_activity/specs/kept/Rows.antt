@@ -45,10 +45,11 @@ things_of uses row = resources row.count uses row.first
 abbrev pub uses_at : List Uses → ℕ → Uses
 uses_at rows key = slice_index_or rows key (record { first = None; count = 0 })
 
--- The uses under a key are its own, and a thing is used under it as often as the key is among its users.
+-- The uses under a key are its own, and a thing is used under it as often as the key is among its users. Keys have 32 bits.
 pub record IsIndex (rows : List Uses) (chains : Chained) : Type 0 where
   pub chained : (key : ℕ) → IsChain key (uses_at rows key).count chains.uses (uses_at rows key).first
   pub both : (key thing : ℕ) → times key (users_on chains.users thing) ≡ times thing (things_of chains.uses (uses_at rows key))
+  pub few : length rows ≤ 2 ^ 32
 
 -- ---- routes
 -- the link that a thing is, if so many hosts come before the links
