@@ -1,5 +1,5 @@
 -- The shortest path of the definition is the shortest of all paths.
-use Rattle.std.proofs.Common.{◌≡◌, ℕ, zero, suc, ◌+◌, ◌<◌, ◌≤◌, ◌⊎◌, Bool, true, false, cond, Option, Some, None, List, [], ◌∷◌, ◌++◌, length, inl, inr, refl, sym, subst, ap, ◌∙◌, arith}
+use Rattle.std.proofs.Common.{◌≡◌, ℕ, zero, suc, ◌<◌, ◌≤◌, ◌⊎◌, Bool, true, false, cond, Option, Some, None, List, [], ◌∷◌, ◌++◌, length, inl, inr, refl, sym, subst, ap, ◌∙◌, arith}
 use Rattle.std.specs.Prelude.{◌==◌, Contains, MatchOption, map}
 use Rattle.std.specs.List.{flat_map}
 use Rattle.std.proofs.lemmas.Bool.Decides.{nat_tests}
@@ -7,8 +7,10 @@ use Rattle.sg_base.specs.declared.ids.LinkId.{LinkId}
 use Rattle.sg_paths.specs.declared.route.PathRoute.{PathRoute}
 use Rattle.sg_paths.specs.Order.{IsNotAfter, not_after}
 use Rattle.sg_paths.specs.Path.{HasNoPath, HasPath, IsLeastPath, IsPath, links_of}
-use Rattle.sg_paths.specs.Least.{all_links, paths_starting_with, trivial_path, least_of, least_path, lesser, LeastPathIsLeast}
+use Rattle.sg_paths.specs.Least.{least_path, lesser, LeastPathIsLeast}
+use Rattle.sg_paths.specs.AllPaths.{all_links, paths_starting_with, trivial_path, least_of}
 use Rattle.sg_paths.proofs.OrderLemmas.{not_after_behind, not_after_both, not_after_false, not_after_longer, not_after_same, not_after_through, not_after_true}
+use Rattle.sg_paths.proofs.TableLemmas.{least_path_is_least_of_all}
 
 -- ---- elements of lists
 
@@ -316,9 +318,8 @@ shorter (suc most) routes fits from to (route ∷ path) is =
 -- ---- the shortest path
 
 pub least_found : (routes : List PathRoute) (from to : ℕ) (links : List LinkId) → least_path routes from to ≡ Some links → IsLeastPath routes from to links
-unfolding least_path
 least_found routes from to links is =
-    let l = least_is_least (all_links (length routes) routes from to) links is in
+    let l = least_is_least (all_links (length routes) routes from to) links (sym (least_path_is_least_of_all routes from to) ∙ is) in
     let p = of_list (length routes) routes from to links l.among in
     record { reached = (p.0, path_of routes from to p.0 p.1, p.2); least = λ other has. before l other has }
   where
@@ -329,10 +330,9 @@ least_found routes from to links is =
         subst (λ (o : List LinkId). IsNotAfter links o) same (not_after_through links (links_of s.path) (links_of path) first s.less)
 
 pub none_found : (routes : List PathRoute) (from to : ℕ) → least_path routes from to ≡ None → HasNoPath routes from to
-unfolding least_path
 none_found routes from to is links (path, tour, same) =
     let s = shorter (length routes) routes (omega arith) from to path (tour_of routes from to path tour) in
-    none_of (all_links (length routes) routes from to) is (links_of s.path) (listed (length routes) routes from to s.path s.is s.few)
+    none_of (all_links (length routes) routes from to) (sym (least_path_is_least_of_all routes from to) ∙ is) (links_of s.path) (listed (length routes) routes from to s.path s.is s.few)
 
 -- the definition means what it says
 pub least_path_is_least : (routes : List PathRoute) → LeastPathIsLeast routes

@@ -1,6 +1,7 @@
 pub mod OrderLemmas
 pub mod TrailLemmas
 pub mod PathLemmas
+pub mod TableLemmas
 pub mod LeastLemmas
 pub mod KeyLemmas
 pub mod AheadLemmas

@@ -1,6 +1,7 @@
 pub mod Order
 pub mod Path
 pub mod Least
+pub mod AllPaths
 pub mod Trail
 pub mod Arrivals
 pub mod Ahead

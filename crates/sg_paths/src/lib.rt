@@ -15,6 +15,6 @@ mod search_room;
 mod settle;
 mod trail;
 
-pub use laws::least_path_is_least;
+pub use laws::{least_path_is_least, least_path_is_least_of_all};
 pub use paths::Paths;
 pub use route::PathRoute;
