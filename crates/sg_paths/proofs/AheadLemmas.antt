@@ -1,7 +1,7 @@
 -- Routes to finalized points, as one moves back over a link, and as a point is finalized.
-use Rattle.std.proofs.Common.{◌≡◌, ◌≢◌, ◌+◌, ◌-◌, ◌*◌, ◌<◌, ◌≤◌, ◌⊎◌, ℕ, zero, suc, List, [], ◌∷◌, ◌++◌, Option, None, Some, length, drop, take, get_or, set, inl, inr, refl, sym, subst, ap, ap₂, ◌∙◌, arith, append_assoc}
+use Rattle.std.proofs.Common.{◌≡◌, ◌≢◌, ◌+◌, ◌-◌, ◌<◌, ◌≤◌, ◌⊎◌, ℕ, zero, suc, List, [], ◌∷◌, ◌++◌, Option, None, Some, length, drop, get_or, inl, inr, refl, sym, subst, ap, ◌∙◌, arith}
 use Rattle.std.specs.Prelude.{slice_get}
-use Rattle.std.proofs.lemmas.List.{get_or-set_same, get_or-set_other, take-append-drop}
+use Rattle.std.proofs.lemmas.List.{get_or-set_same, get_or-set_other}
 use Rattle.std.proofs.lemmas.Option.{slice_get_within}
 use Rattle.std.proofs.Math.ListN.{length-set}
 use Rattle.sg_base.specs.declared.ids.LinkId.{LinkId}
@@ -12,13 +12,12 @@ use Rattle.sg_paths.specs.declared.route.PathRoute.{PathRoute}
 use Rattle.sg_paths.specs.declared.trail.Settled.{Settled}
 use Rattle.sg_paths.specs.Ahead.{EntersFrom, GoesBack, HasEntered, HasPlaceFor, IsKeyOf, IsMark, IsPassed, MayGoBack, StandsStill, StaysOut}
 use Rattle.sg_paths.specs.Arrivals.{IsLast, from_at, to_at, to_in}
-use Rattle.sg_paths.specs.Crossing.{IsCrossing}
 use Rattle.sg_paths.specs.Order.{IsNotAfter}
-use Rattle.sg_paths.specs.Trail.{HasPlaces, IsNew, IsSettledAt, hop_links, links_at, links_in}
-use Rattle.sg_paths.proofs.KeyLemmas.{IsRanked, at_hand_short, each_more, key_more, key_order, mark_of, ranked_more, tri}
+use Rattle.sg_paths.specs.Trail.{IsSettledAt, links_at}
+use Rattle.sg_paths.proofs.KeyLemmas.{IsRanked, at_hand_short, each_more, key_more, key_order, ranked_more, tri}
 use Rattle.sg_paths.proofs.OrderLemmas.{not_after_longer, not_after_same, not_after_through}
-use Rattle.sg_paths.proofs.PathLemmas.{label_before, label_last, label_more}
-use Rattle.sg_paths.proofs.TrailLemmas.{last_there, pushed, settled_or_new, still_there}
+use Rattle.sg_paths.proofs.PathLemmas.{label_before, label_more}
+use Rattle.sg_paths.proofs.TrailLemmas.{still_there}
 
 -- a route to a finalized point that has moved back over so many of its links, whose key is that of the list from there
 -- on; no list of a rank comes after it

@@ -1,10 +1,10 @@
 -- The last route to each point.
-use Rattle.std.proofs.Common.{◌≡◌, ◌≢◌, ◌+◌, ◌-◌, ◌<◌, ◌≤◌, ◌⊎◌, ℕ, zero, suc, List, [], ◌∷◌, ◌++◌, Some, length, get_or, set, inl, inr, refl, sym, subst, ap, ◌∙◌, arith}
+use Rattle.std.proofs.Common.{◌≡◌, ◌≢◌, ◌+◌, ◌-◌, ◌<◌, ◌≤◌, ◌⊎◌, ℕ, zero, suc, List, [], ◌∷◌, ◌++◌, length, get_or, set, inl, inr, refl, sym, subst, ap, ◌∙◌, arith}
 use Rattle.std.proofs.lemmas.List.{get_or-set_same, get_or-set_other}
 use Rattle.std.proofs.lemmas.Option.{slice_get-get_or}
 use Rattle.sg_paths.specs.declared.route.PathRoute.{PathRoute}
 use Rattle.sg_paths.specs.Arrivals.{IsLast, to_at, to_in}
-use Rattle.sg_paths.proofs.AheadLemmas.{eq_or, got}
+use Rattle.sg_paths.proofs.AheadLemmas.{eq_or}
 use Rattle.sg_paths.proofs.KeyLemmas.{tri}
 
 pub leads_to : (routes : List PathRoute) (i : ℕ) (d : PathRoute) → i < length routes → to_at routes i ≡ (get_or routes i d).to

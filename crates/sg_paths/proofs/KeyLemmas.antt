@@ -1,11 +1,9 @@
 -- Keys come in the order of their lists.
-use Rattle.std.proofs.Common.{◌≡◌, ◌+◌, ◌*◌, ◌/◌, ◌%◌, ◌<◌, ◌≤◌, ◌⊎◌, ℕ, zero, suc, List, [], ◌∷◌, ◌++◌, length, inl, inr, refl, sym, subst, ap, ◌∙◌, arith}
-use Rattle.std.proofs.lemmas.Bool.Decides.{eqb_tells}
-use Rattle.std.proofs.Common.{Bool, true, false, eqb}
+use Rattle.std.proofs.Common.{◌≡◌, ◌+◌, ◌*◌, ◌/◌, ◌<◌, ◌≤◌, ◌⊎◌, ℕ, zero, suc, List, [], ◌∷◌, length, inl, inr, refl, sym, subst, ap, ◌∙◌, arith}
 use Rattle.sg_base.specs.declared.ids.LinkId.{LinkId}
 use Rattle.sg_heap.specs.Agenda.{Key, IsNoLater}
 use Rattle.sg_paths.specs.declared.ahead.Mark.{Mark}
-use Rattle.sg_paths.specs.Ahead.{IsKeyOf, IsMark, first_of, rest_of}
+use Rattle.sg_paths.specs.Ahead.{IsKeyOf, IsMark}
 use Rattle.sg_paths.specs.Order.{IsNotAfter}
 use Rattle.sg_paths.proofs.OrderLemmas.{greater_of, not_after_same, nothing_before}
 use Rattle.sg_paths.proofs.PathLemmas.{label_before, label_last, label_more}

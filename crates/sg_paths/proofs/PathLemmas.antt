@@ -1,5 +1,5 @@
 -- Shortest paths, found from their end on.
-use Rattle.std.proofs.Common.{◌≡◌, ℕ, zero, suc, ◌+◌, ◌<◌, ◌≤◌, ◌⊎◌, Bool, true, false, cond, eqb, Option, Some, None, List, [], ◌∷◌, ◌++◌, length, inl, inr, refl, sym, subst, ap, ap₂, ◌∙◌, arith, append_assoc}
+use Rattle.std.proofs.Common.{◌≡◌, ℕ, zero, suc, ◌<◌, ◌≤◌, ◌⊎◌, Bool, true, false, cond, eqb, Some, List, [], ◌∷◌, ◌++◌, length, inl, inr, refl, sym, subst, ap, ap₂, ◌∙◌, arith, append_assoc}
 use Rattle.std.specs.Prelude.{slice_get, Contains}
 use Rattle.std.proofs.lemmas.Bool.{eq-eqb}
 use Rattle.std.proofs.lemmas.Bool.Decides.{eqb_tells}
@@ -9,9 +9,9 @@ use Rattle.sg_paths.specs.declared.route.PathRoute.{PathRoute}
 use Rattle.sg_paths.specs.declared.trail.Settled.{Settled}
 use Rattle.sg_paths.specs.Order.{IsNotAfter}
 use Rattle.sg_paths.specs.Path.{IsPath, links_of, HasPath, IsLeastPath}
-use Rattle.sg_paths.specs.Trail.{links_in, links_at, hop_links, LeadsBack, IsTrail, IsSettledAt, IsNew, HasPlaces}
+use Rattle.sg_paths.specs.Trail.{links_in, links_at, hop_links, LeadsBack, IsTrail, IsSettledAt, IsNew}
 use Rattle.sg_paths.specs.Crossing.{AreWithin, IsCrossing}
-use Rattle.sg_paths.proofs.OrderLemmas.{not_after_same, not_after_through, not_after_behind, not_after_longer, nothing_before}
+use Rattle.sg_paths.proofs.OrderLemmas.{not_after_through, not_after_behind, not_after_longer, nothing_before}
 use Rattle.sg_paths.proofs.TrailLemmas.{pushed, settled_or_new}
 
 -- the links from each finalized point on are those of a shortest path

@@ -1,6 +1,6 @@
 -- What makes a search ready.
-use Rattle.std.proofs.Common.{◌≡◌, ◌+◌, ◌<◌, ℕ, List, Some, length, get_or, sym, subst, ap, ◌∙◌}
-use Rattle.std.specs.Prelude.{All, slice_get}
+use Rattle.std.proofs.Common.{◌≡◌, ◌+◌, ◌<◌, ℕ, List, sym, subst}
+use Rattle.std.specs.Prelude.{All}
 use Rattle.std.proofs.lemmas.Option.{slice_get_within, get_or_from_slice_get}
 use Rattle.sg_paths.specs.declared.arrivals.Arrivals.{Arrivals}
 use Rattle.sg_paths.specs.declared.least.Reach.{Reach}

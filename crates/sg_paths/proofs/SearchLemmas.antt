@@ -1,5 +1,5 @@
 -- What the next key says of the search.
-use Rattle.std.proofs.Common.{◌≡◌, ◌≢◌, ◌+◌, ◌-◌, ◌<◌, ◌≤◌, ◌⊎◌, ℕ, zero, suc, List, [], ◌∷◌, ◌++◌, Option, None, Some, length, drop, take, get_or, inl, inr, refl, sym, subst, ap, ap₂, ◌∙◌, arith, append_assoc}
+use Rattle.std.proofs.Common.{◌≡◌, ◌≢◌, ◌<◌, ◌⊎◌, ℕ, zero, suc, List, [], ◌∷◌, ◌++◌, None, Some, length, drop, take, get_or, inl, inr, refl, sym, subst, ap, ap₂, ◌∙◌, arith, append_assoc}
 use Rattle.std.specs.Prelude.{slice_get}
 use Rattle.std.proofs.lemmas.List.{get_or-set_same, get_or-set_other, take-append-drop}
 use Rattle.sg_base.specs.declared.ids.LinkId.{LinkId}
@@ -12,7 +12,7 @@ use Rattle.sg_paths.specs.Ahead.{EntersFrom, GoesBack, HasEntered, StaysOut}
 use Rattle.sg_paths.specs.Arrivals.{from_in, to_at, to_in}
 use Rattle.sg_paths.specs.Crossing.{IsCrossing}
 use Rattle.sg_paths.specs.Order.{IsNotAfter}
-use Rattle.sg_paths.specs.Trail.{HasPlaces, IsNew, IsSettledAt, hop_links, links_at, links_in}
+use Rattle.sg_paths.specs.Trail.{HasPlaces, IsNew, IsSettledAt, hop_links, links_at}
 use Rattle.sg_paths.proofs.AheadLemmas.{AreBegun, IsAhead, IsBegunAt, IsPending, eq_or}
 use Rattle.sg_paths.proofs.KeyLemmas.{key_order}
 use Rattle.sg_paths.proofs.OrderLemmas.{not_after_longer, not_after_through}

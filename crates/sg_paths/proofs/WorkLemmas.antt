@@ -1,14 +1,13 @@
 -- How much remains to be traversed.
-use Rattle.std.proofs.Common.{◌≡◌, ◌≢◌, ◌+◌, ◌-◌, ◌<◌, ◌≤◌, ◌⊎◌, ℕ, zero, suc, List, [], ◌∷◌, ◌++◌, Option, None, Some, length, get_or, inl, inr, refl, sym, ap, ◌∙◌, arith}
-use Rattle.std.specs.Prelude.{slice_get}
+use Rattle.std.proofs.Common.{◌≡◌, ◌+◌, ◌<◌, ◌≤◌, ◌⊎◌, ℕ, zero, suc, List, [], ◌∷◌, ◌++◌, Option, None, Some, length, get_or, inl, inr, refl, ap, ◌∙◌, arith}
 use Rattle.sg_heap.specs.Agenda.{Key, key_at}
 use Rattle.sg_paths.specs.declared.ahead.Ahead.{Ahead}
 use Rattle.sg_paths.specs.declared.route.PathRoute.{PathRoute}
 use Rattle.sg_paths.specs.declared.trail.Settled.{Settled}
-use Rattle.sg_paths.specs.Ahead.{sum_to, steps_in}
+use Rattle.sg_paths.specs.Ahead.{sum_to}
 use Rattle.sg_paths.specs.Arrivals.{to_at}
 use Rattle.sg_paths.specs.Trail.{IsNew, IsSettledAt, links_at}
-use Rattle.sg_paths.proofs.TrailLemmas.{pushed, settled_or_new, still_there}
+use Rattle.sg_paths.proofs.TrailLemmas.{settled_or_new, still_there}
 
 -- a pending route has as many steps to go as links ahead of it, and one more; one to a new point all of its own
 abbrev pub weight_by : (settled : List Settled) (point : ℕ) → Option Key → ((k : ℕ) × IsSettledAt settled k point) ⊎ IsNew settled point → ℕ → ℕ → ℕ

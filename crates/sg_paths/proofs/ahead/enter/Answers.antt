@@ -1,5 +1,5 @@
 -- One route more enters, or is passed.
-use Rattle.std.proofs.Common.{◌≡◌, ◌≤◌, ◌<◌, ◌-◌, ℕ, length, get_or, sym, subst, ◌∙◌, arith}
+use Rattle.std.proofs.Common.{◌≡◌, ◌<◌, ◌-◌, ℕ, length, get_or, sym, subst, ◌∙◌, arith}
 use Rattle.sg_paths.specs.Arrivals.{IsLast, to_at}
 use Rattle.sg_paths.proofs.AheadLemmas.{got, one_entered}
 use Rattle.sg_paths.proofs.ahead.enter.Goals as goal

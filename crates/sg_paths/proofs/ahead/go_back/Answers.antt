@@ -1,5 +1,5 @@
 -- One link less lies ahead, or none did.
-use Rattle.std.proofs.Common.{◌≡◌, ◌-◌, ◌+◌, ◌*◌, ◌/◌, ◌<◌, ◌++◌, ◌∷◌, suc, ℕ, List, length, drop, get_or, set, refl, sym, subst, ap, ap₂, ◌∙◌, arith, drop-cons}
+use Rattle.std.proofs.Common.{◌≡◌, ◌-◌, ◌+◌, ◌*◌, ◌/◌, ◌<◌, ◌++◌, ◌∷◌, suc, ℕ, List, length, drop, get_or, set, refl, sym, subst, ap, ◌∙◌, arith, drop-cons}
 use Rattle.sg_base.specs.declared.ids.LinkId.{LinkId}
 use Rattle.sg_heap.specs.Agenda.{Key}
 use Rattle.sg_paths.specs.Ahead.{IsKeyOf, key_of}

@@ -1,7 +1,6 @@
 -- The search begins, makes a step, and ends.
-use Rattle.std.proofs.Common.{◌≡◌, ◌≤◌, ◌<◌, ◌+◌, ◌++◌, [], ◌∷◌, ℕ, List, Some, length, length-append, get_or, vec_len, refl, sym, subst, ap, ◌∙◌, arith}
-use Rattle.std.specs.Prelude.{slice_get}
-use Rattle.std.proofs.lemmas.Option.{slice_get-get_or, slice_get_within}
+use Rattle.std.proofs.Common.{◌≡◌, ◌≤◌, ◌<◌, ◌+◌, ◌++◌, [], ◌∷◌, ℕ, List, length, length-append, get_or, vec_len, refl, sym, subst, ap, ◌∙◌, arith}
+use Rattle.std.proofs.lemmas.Option.{slice_get_within}
 use Rattle.sg_heap.specs.Agenda.{Key, key}
 use Rattle.sg_paths.specs.declared.trail.Settled.{Settled}
 use Rattle.sg_paths.specs.declared.ahead.Ahead.{Ahead}
@@ -10,8 +9,8 @@ use Rattle.sg_paths.specs.Ahead.{EntersFrom, GoesBack}
 use Rattle.sg_paths.specs.Path.{IsLeastPath}
 use Rattle.sg_paths.specs.Trail.{first_settled, AreLinksOf, IsNew, IsSettledAt, LeadsBack}
 use Rattle.sg_paths.proofs.AheadLemmas.{back_places, got}
-use Rattle.sg_paths.proofs.AtHand.{IsAtHand, at_hand, left_read, next_read}
-use Rattle.sg_paths.proofs.StateLemmas.{IsFirst, IsUnderWay, Leaves, begins, below, few_left, first_mark, first_of, goes_back, hop_is_least, inside_left, is_left, is_nearest, key_small, next_place, ranks_left, same_route, settles}
+use Rattle.sg_paths.proofs.AtHand.{at_hand, left_read, next_read}
+use Rattle.sg_paths.proofs.StateLemmas.{IsFirst, IsUnderWay, Leaves, begins, few_left, first_mark, first_of, goes_back, hop_is_least, inside_left, is_left, is_nearest, key_small, ranks_left, same_route, settles}
 use Rattle.sg_paths.proofs.PathLemmas.{no_path}
 use Rattle.sg_paths.proofs.SearchLemmas.{none_crosses}
 use Rattle.sg_paths.proofs.WorkLemmas.{work}

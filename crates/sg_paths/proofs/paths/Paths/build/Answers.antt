@@ -1,5 +1,5 @@
 -- All is ready for a search.
-use Rattle.std.proofs.Common.{◌≡◌, ◌*◌, ◌+◌, ◌<◌, ◌≤◌, ℕ, length, vec_capacity, sym, subst, ap, ◌∙◌}
+use Rattle.std.proofs.Common.{◌*◌, ◌+◌, ◌<◌, ◌≤◌, ℕ, vec_capacity, sym, subst}
 use Rattle.sg_paths.specs.Ahead.{steps_in}
 use Rattle.sg_paths.specs.Reach.{IsRoomy}
 use Rattle.sg_paths.specs.Trail.{AreShort}
