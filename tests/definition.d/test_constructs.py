@@ -257,6 +257,26 @@ class Programs(unittest.TestCase):
     TEXT = ("pub sign : ℕ → List ℕ\nsign zero = []\nsign (suc n) = if nat_lt n 3 then 4 ∷ [] else codes \"large numbers\"\n"
             "pub it : List ℕ\nit = sign 2\n")
 
+    def test_the_same_words_by_std(self):
+        text = ("use Rattle.std.specs.List.{list_any}\n"
+                "pub it : List Bool\nit = list_any (nat_lt 2) (1 ∷ 3 ∷ []) ∷ []\n")
+        with Repository(text) as repository:
+            program = repository.program()
+            self.assertEqual(shown(program.it), "[true]")
+            self.assertEqual([path for path in program.clauses if "list_any" in path], [])
+
+    def test_order_of_lists(self):
+        text = ("use Rattle.std.specs.Cmp.Lexicographic.{slice_cmp}\nuse Rattle.core.specs.Ordering.{nat_cmp, is_lt}\n"
+                "pub less : List ℕ → List ℕ → Bool\nless a b = is_lt (slice_cmp nat_cmp a b)\npub it : List Bool\n"
+                "it = less (1 ∷ 3 ∷ []) (2 ∷ []) ∷ less (2 ∷ []) (2 ∷ 0 ∷ []) ∷ less (2 ∷ []) (2 ∷ []) ∷ less (3 ∷ []) [] ∷ []")
+        self.assertEqual(value(text), "[true, true, false, false]")
+
+    def test_lengths_of_long_lists(self):
+        text = ("pub down : ℕ → List ℕ\ndown zero = []\ndown (suc n) = n ∷ down n\n"
+                "pub total : List ℕ → ℕ\ntotal [] = 0\ntotal (x ∷ xs) = length (x ∷ xs) + total xs\n"
+                "pub it : ℕ\nit = total (down 50)")
+        self.assertEqual(value(text), str(sum(range(51))))
+
     def test_what_is_reached(self):
         with Repository(self.TEXT) as repository:
             program = repository.program(marks=True)

@@ -9,7 +9,7 @@ from dataclasses import dataclass
 from . import Refused
 from .library import Library
 from .program import Program
-from .values import Later, Record, bytes_of, items_of, list_of, now
+from .values import Later, Record, bytes_of, forget, items_of, list_of, now
 
 CONTEXTS = 4096
 HELP = {"DisplayHelp", "DisplayVersion"}
@@ -64,6 +64,7 @@ def source(name, is_script=False, folder="."):
 
 def ask(program, words, folder=".", contexts=CONTEXTS):
     """The answer of the definition to a command line, with the files of a folder."""
+    forget()
     words = list_of([text(word) for word in ("simgrid_replay", *words)])
     kinds = tuple(kind[0] for kind in items_of(program.refusals(words)))
     if kinds:

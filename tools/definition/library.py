@@ -83,6 +83,14 @@ class Library:
         """The folders that a crate may have."""
         return [root / name for name in (STD if crate == "std" else (crate,)) for root in (self.crates, self.kit)]
 
+    def home_path(self, path):
+        """The path of a module under the crate that has it: that of `std` may be another one's, which `std` exports."""
+        if path.startswith("Rattle.std.specs."):
+            file = self.file_of(path)
+            home = next((name for name in STD[1:] if file and (self.kit / name) in file.parents), "std")
+            return path.replace("std", home, 1)
+        return path
+
     def file_of(self, path):
         """Returns the file of a module, or None."""
         head, *rest = path.split(".")
@@ -144,6 +152,7 @@ class Library:
         declared = DECLARED.match(path)
         if declared:
             return self.declared(path, declared[1], declared[2].split("."), name)
+        path = self.home_path(path)
         whole = f"{path}.{name}"
         if whole in self.native:
             return IsNative(whole)

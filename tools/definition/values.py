@@ -127,8 +127,36 @@ def reversed_(items):
     return list_of(spine(items)[::-1])
 
 
+LENGTHS, STRIDE = {}, 16
+
+
 def length(items):
-    return len(spine(items))
+    """The length of a list. Those of long lists are kept for every 16th of their cells: the grammars ask them of each rest."""
+    count = 0
+    while items and count < STRIDE:
+        count += 1
+        items = items[1]
+        if items.__class__ is Later:
+            items = items.get()
+    return count + length_of_rest(items) if items else count
+
+
+def length_of_rest(items):
+    count, cells = 0, []
+    while items:
+        known = LENGTHS.get(id(items))
+        if known:
+            count += known[1]
+            break
+        cells.append(items)
+        count += 1
+        items = items[1]
+        if items.__class__ is Later:
+            items = items.get()
+    for at in range(0, len(cells), STRIDE):
+        # the cell is kept, so that no other cell gets its id
+        LENGTHS[id(cells[at])] = cells[at], count - at
+    return count
 
 
 def item_or(items, at, other):
@@ -272,6 +300,16 @@ def are_pointwise(test, ones, others):
     return not ones and not others
 
 
+def ordered(order, ones, others):
+    """The first items that differ decide, then the lengths."""
+    while ones and others:
+        found = order(ones[0])(others[0])
+        if found[0] != "Equal":
+            return found
+        ones, others = now(ones[1]), now(others[1])
+    return ("Greater",) if ones else ("Less",) if others else ("Equal",)
+
+
 def are_same_bytes(ones, others):
     while ones and others and ones is not others:
         if now(ones[0]) != now(others[0]):
@@ -355,6 +393,7 @@ FAST = {
     CORE_LIST + "position_or_len": native(2, "until_so({0}, {1})"),
     CORE_LIST + "position": native(2, "position({0}, {1})"),
     CORE_LIST + "slice_get": native(2, "item_at({0}, {1})"),
+    CORE + "Cmp.Lexicographic.slice_cmp": native(3, "ordered({0}, {1}, {2})"),
     CORE + "Fmt.decimal": native(1, "decimal({0})"),
     CORE + "Str.bytes_eq": native(2, "are_same_bytes({0}, {1})"),
     CORE + "Str.is_utf8": native(1, "is_utf8({0})"),
@@ -403,11 +442,19 @@ class Keys:
 
 
 KEYS = Keys()
+MEMOS = [KEYS.by_place, KEYS.numbers, LENGTHS]
+
+
+def forget():
+    """Drops what is kept of calls and lists."""
+    for memo in MEMOS:
+        memo.clear()
 
 
 def shared(function):
     """The function, each call of which is computed once for the same arguments."""
     known = {}
+    MEMOS.append(known)
 
     def once(*args):
         key = tuple(map(KEYS.key, args))
