@@ -1,11 +1,15 @@
 """What the cases reach of the definition, and which changes of it they notice."""
 
 import collections
+import json
+import signal
 import time
 
 import asked
-from definition import asking
 from definition.program import short_name
+
+# Seconds of processor for the cases of one bend, and for a case that notes what it reaches.
+BEND_SECONDS, BEND_CASE_SECONDS = 20, 3
 
 
 def names(program):
@@ -34,43 +38,65 @@ def check(program, found, listed, count):
     print(f"{len(everything)} clauses and branches of {len(functions)} definitions, {len(reached)} reached")
 
 
-def notices(program, at, near):
-    """The first case that differs where this place is bent."""
-    program.bent[0] = at
-    for case in near:
+def first_that_notices(program, at, near):
+    """Returns the first case that differs where this place is bent, or how many don't."""
+    program.bent[0], begun = at, time.process_time()
+    for tried, (usual, case) in enumerate(near):
+        if time.process_time() - begun > BEND_SECONDS:
+            return {"tried": tried, "of": len(near)}
+        signal.setitimer(signal.ITIMER_VIRTUAL, 2 + 10 * usual)
         try:
             if list(case.differences(asked.answer(program, case))):
-                return case.name
+                return {"by": case.name}
         except asked.TooDear:
-            return f"{case.name} (it takes longer)"
+            return {"by": f"{case.name} (it takes longer)"}
         except Exception as fault:  # a definition that is bent may come to anything
-            return f"{case.name} ({type(fault).__name__})"
-    return None
+            return {"by": f"{case.name} ({type(fault).__name__})"}
+    return {"tried": len(near), "of": len(near)}
 
 
-def bend(top, marked, found, by_name, given):
-    """Bends each place in turn, for so many seconds, and tells what no case notices."""
-    program = asking.definition(top, given.plain, bends=True)
-    clauses = collections.defaultdict(list)
-    for name, told in found.items():
-        for at in told.get("found", {}).get("reached", ()) if told["seconds"] < 2 else ():
-            clauses[marked.places[at].path, marked.places[at].clause].append((told["seconds"], name))
-    until, told = time.monotonic() + given.bend, collections.Counter()
-    order = sorted(range(len(program.places)), key=lambda at: (program.places[at].kind != "test", at * 7919 % 10007))
+def reaching(found, by_name, count):
+    """Returns for each place the cases that reach it, cheapest first, each with its seconds."""
+    near = [[] for _ in range(count)]
+    for seconds, name in sorted((told["seconds"], name) for name, told in found.items() if name in by_name):
+        for at in found[name].get("found", {}).get("reached", ()):
+            near[at].append((seconds, by_name[name]))
+    return near
+
+
+def bend(program, found, by_name, listed, count, given, known):
+    """Bends each place in turn, for so many seconds: a case notices it, or unnoticed.txt has it, and not both."""
+    labels = names(program)
+    near, until = reaching(found, by_name, len(labels)), time.monotonic() + given.bend
+    known = {at: told for at, told in known.items() if told.get("by", "").split(" (")[0] in by_name or told.get("of") == len(near[at])}
+    known.update({at: {"tried": 0, "of": 0} for at in range(len(labels)) if not near[at]})
 
     def works():
-        for at in order:
-            place = program.places[at]
-            near = [by_name[name] for _, name in sorted(set(clauses[place.path, place.clause]))[:60]]
-            if time.monotonic() < until:
-                yield at, lambda at=at, near=near: notices(program, at, near) if near else "none"
+        # what is listed takes longest, as many cases are asked
+        for at in sorted(range(len(labels)), key=lambda at: labels[at] in listed):
+            if at not in known and time.monotonic() < until:
+                yield at, lambda at=at: first_that_notices(program, at, near[at])
 
-    labels = names(program)
-    for at, result in asked.side_by_side(works(), 30, given.jobs):
-        case = result.get("found", result.get("dear") or result.get("fault"))
-        told["noticed" if case and case != "none" else "no case is near" if case else "not noticed"] += 1
-        if case in (None, "none"):
-            print(f"{labels[at]} (line {program.places[at].line}): {'no case reaches it' if case else 'no case notices'}", flush=True)
-        elif given.slowest:
-            print(f"{labels[at]}: {case}", flush=True)
-    print(f"{len(program.places)} places: " + ", ".join(f"{number} {kind}" for kind, number in sorted(told.items())))
+    for at, result in asked.side_by_side(works(), 10 * BEND_SECONDS, given.jobs):
+        known[at] = result.get("found") or {"by": result.get("dear") or result["fault"]}
+        if given.log:
+            with open(given.log, "a", encoding="utf-8") as log:
+                print(json.dumps({"place": at, **known[at]}), file=log)
+        if given.slowest:
+            print(f"{labels[at]}: {known[at].get('by')}", flush=True)
+    for at, told in known.items():
+        judge(labels[at], program.places[at].line, told, listed, count)
+    for name in listed.keys() - set(labels):
+        count.take(name, ["unnoticed.txt has it, and there is no such place"])
+    noticed = sum("by" in told for told in known.values())
+    print(f"{len(labels)} tests and numbers: {len(known)} bent, {noticed} of these noticed")
+
+
+def judge(name, line, told, listed, count):
+    """A place is noticed, or listed, and not both."""
+    if "by" in told:
+        count.take(name, [f"'{told['by']}' notices it, and unnoticed.txt has it"] if name in listed else [])
+    elif name not in listed:
+        count.take(name, [f"the first {told['tried']} of {told['of']} cases that reach it don't notice it (line {line} of its module)"])
+    else:
+        count.take(name, [])

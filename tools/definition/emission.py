@@ -36,7 +36,8 @@ def label(name):
 
 class Emitter:
     """Python for definitions. With `marks` a run notes each clause and branch that it reaches in `MARKS`; with `bends` the
-    place whose number is `BENT[0]` is changed: a test is turned, and a number one more."""
+    place whose number is `BENT[0]` is changed: a test is turned, and a number one more; with both a run notes these places
+    and changes none."""
 
     def __init__(self, clauses, strictness, native, lines, options):
         self.clauses, self.strictness, self.native, self.lines, self.options = clauses, strictness, native, lines, options
@@ -56,23 +57,29 @@ class Emitter:
         self.places.append(Place(self.path, self.clause, kind, line))
         return len(self.places) - 1
 
+    def has_marks(self):
+        """Whether clauses and branches are noted."""
+        return self.options.marks and not self.options.bends and self.is_own
+
     def marked(self, python, kind, line):
-        return f"(MARKS.add({self.place(kind, line)}) or {python})" if self.options.marks and self.is_own else python
+        return f"(MARKS.add({self.place(kind, line)}) or {python})" if self.has_marks() else python
 
     def mark(self, kind, line, pad):
-        if self.options.marks and self.is_own:
+        if self.has_marks():
             self.out.append(f"{pad}MARKS.add({self.place(kind, line)})")
 
+    def bent(self, python, operator, kind, line):
+        """A test or a number as a place that may be changed."""
+        if not (self.options.bends and self.is_own):
+            return python
+        at = self.place(kind, line or self.lines[self.path][self.clause])
+        return f"(MARKS.add({at}) or {python})" if self.options.marks else f"({python} {operator} (BENT[0] == {at}))"
+
     def number(self, value):
-        if self.options.bends and self.is_own:
-            return f"({value} + (BENT[0] == {self.place(f'number {value}', self.lines[self.path][self.clause])}))"
-        return str(value)
+        return self.bent(str(value), "+", f"number {value}", None)
 
     def test(self, term, known):
-        python = self.strictly(term.test, known)
-        if self.options.bends and self.is_own:
-            return f"({python} != (BENT[0] == {self.place('test', term.line or self.lines[self.path][self.clause])}))"
-        return python
+        return self.bent(self.strictly(term.test, known), "!=", "test", term.line)
 
     # ---- terms
 
