@@ -294,6 +294,12 @@ class Programs(unittest.TestCase):
             found.add((program.places[at].kind, shown(program.it)))
         self.assertEqual(found, {("test", '"large numbers"'), ("number 3", "[4]"), ("number 4", "[5]"), ("number 2", "[4]")})
 
+    def test_which_bends_are_reached(self):
+        with Repository(self.TEXT.replace("it = sign 2", "it = sign 5")) as repository:
+            program = repository.program(marks=True, bends=True)
+        self.assertEqual(shown(program.it), '"large numbers"')
+        self.assertEqual({program.places[at].kind for at in program.marks}, {"test", "number 3", "number 5"})
+
     def test_what_is_traced(self):
         told, text = io.StringIO(), "pub f : ℕ → List ℕ → ℕ\nf n items = n\npub it : ℕ\nit = f 2 (f 3 [] ∷ [])"
         with Repository(text) as repository, contextlib.redirect_stderr(told):
