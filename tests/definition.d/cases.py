@@ -27,6 +27,10 @@ class Case:
     def size(self):
         return sum(map(len, self.files.values()))
 
+    def mentions(self, text):
+        """Whether a text stands in the name or in a file."""
+        return text in self.name or any(text.encode() in data for data in self.files.values())
+
     def differences(self, answer):
         """What differs between what is expected and an answer of the definition."""
         if self.status not in answer.statuses:

@@ -8,8 +8,8 @@ import time
 import asked
 from definition.program import short_name
 
-# Seconds of processor for the cases of one bend, and for a case that notes what it reaches.
-BEND_SECONDS, BEND_CASE_SECONDS = 20, 3
+# Seconds of processor for the cases of one bend, for those of a listed one, and for a case that notes what it reaches.
+BEND_SECONDS, LISTED_SECONDS, BEND_CASE_SECONDS = 60, 5, 3
 
 
 def names(program):
@@ -38,11 +38,11 @@ def check(program, found, listed, count):
     print(f"{len(everything)} clauses and branches of {len(functions)} definitions, {len(reached)} reached")
 
 
-def first_that_notices(program, at, near):
+def first_that_notices(program, at, near, most):
     """Returns the first case that differs where this place is bent, or how many don't."""
     program.bent[0], begun = at, time.process_time()
     for tried, (usual, case) in enumerate(near):
-        if time.process_time() - begun > BEND_SECONDS:
+        if time.process_time() - begun > most:
             return {"tried": tried, "of": len(near)}
         signal.setitimer(signal.ITIMER_VIRTUAL, 2 + 10 * usual)
         try:
@@ -55,27 +55,32 @@ def first_that_notices(program, at, near):
     return {"tried": len(near), "of": len(near)}
 
 
-def reaching(found, by_name, count):
-    """Returns for each place the cases that reach it, cheapest first, each with its seconds."""
-    near = [[] for _ in range(count)]
+def reaching(found, by_name, places):
+    """Returns for each place the cases that reach it, each with its seconds: first those with its number, or the next one, in
+    their name or files, then the cheapest."""
+    near = [[] for _ in places]
     for seconds, name in sorted((told["seconds"], name) for name, told in found.items() if name in by_name):
         for at in found[name].get("found", {}).get("reached", ()):
             near[at].append((seconds, by_name[name]))
+    for place, cases in zip(places, near):
+        number = int(place.kind.partition("number ")[2] or 0)
+        if number > 9:
+            cases.sort(key=lambda it: not it[1].mentions(str(number)) and not it[1].mentions(str(number + 1)))
     return near
 
 
 def bend(program, found, by_name, listed, count, given, known):
     """Bends each place in turn, for so many seconds: a case notices it, or unnoticed.txt has it, and not both."""
     labels = names(program)
-    near, until = reaching(found, by_name, len(labels)), time.monotonic() + given.bend
+    near, until = reaching(found, by_name, program.places), time.monotonic() + given.bend
     known = {at: told for at, told in known.items() if told.get("by", "").split(" (")[0] in by_name or told.get("of") == len(near[at])}
     known.update({at: {"tried": 0, "of": 0} for at in range(len(labels)) if not near[at]})
 
     def works():
-        # what is listed takes longest, as many cases are asked
         for at in sorted(range(len(labels)), key=lambda at: labels[at] in listed):
             if at not in known and time.monotonic() < until:
-                yield at, lambda at=at: first_that_notices(program, at, near[at])
+                most = LISTED_SECONDS if labels[at] in listed else BEND_SECONDS
+                yield at, lambda at=at, most=most: first_that_notices(program, at, near[at], most)
 
     for at, result in asked.side_by_side(works(), 10 * BEND_SECONDS, given.jobs):
         known[at] = result.get("found") or {"by": result.get("dear") or result["fault"]}
