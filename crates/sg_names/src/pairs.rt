@@ -86,6 +86,9 @@ fn add_routes(
     Ok(())
 }
 
+/// The most rows for whose pairs there is room from the start.
+const MOST_ROWS: usize = 262_144;
+
 /// Returns the pairs that route rows give, under the numbers of the rows.
 pub fn pairs_in(
     alloc: Global,
@@ -96,7 +99,8 @@ pub fn pairs_in(
         (λ made. SamePairs (λ q. get_by (pair_eq q) made)
         (pair_rows (λ q. get_by_text points.now q) (map view rows.now))) }
 {
-    let mut made = IndexMap::new(alloc);
+    // Most routes give two pairs. A map that grows holds its old entries beside the new ones.
+    let mut made = IndexMap::with_capacity(alloc, 2 * rows.len().min(MOST_ROWS))?;
     add_routes(points, &mut made, rows)?;
     Ok(made)
 }

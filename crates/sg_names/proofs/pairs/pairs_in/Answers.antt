@@ -7,4 +7,4 @@ use Rattle.sg_names.proofs.pairs.pairs_in.Goals as goal
 
 pub returns : goal.returns
 returns c = λ q.
-    made_along view (λ i row. with_number i (pairs_of (λ n. get_by_text c.args.points.now n) row)) (pair_eq q) c.args.rows.now (get_by (pair_eq q) c.new-made.result) _ (rw c.new-made.ensures.empty) (c.in_ok-add_routes.ensures q)
+    made_along view (λ i row. with_number i (pairs_of (λ n. get_by_text c.args.points.now n) row)) (pair_eq q) c.args.rows.now (get_by (pair_eq q) c.in_ok-made.made) _ (rw c.in_ok-made.ensures.empty) (c.in_ok-add_routes.ensures q)
