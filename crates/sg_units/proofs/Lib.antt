@@ -1,3 +1,4 @@
+pub mod DateDigits
 pub mod DateValue
 pub mod Digits
 pub mod NumberTexts

@@ -1,48 +1,47 @@
 //! The text of a date.
-ghost use Rattle.std.specs.Prelude.{◌≡◌, ◌≤◌, ◌<◌, ◌^◌, ◌+◌, ◌++◌, ◌∷◌, ℕ, List, length, replicate};
+ghost use Rattle.std.specs.Prelude.{◌≡◌, ◌≤◌, ◌<◌, ◌^◌, ◌+◌, ◌-◌, ◌++◌, ◌∷◌, ℕ, List, IsAscii, drop, length, take};
 ghost use Rattle.std.specs.Str.Parse.{digits_value};
 ghost use Rattle.arrayvec.specs.ArrayString.{array_string_len};
-ghost use Rattle.sg_units.specs.Date.{date_of, nine_digits};
+ghost use Rattle.sg_units.specs.Date.{date_of};
 
 use arrayvec::ArrayString;
 use itoa::Buffer;
 
 const NANOSECONDS: u128 = 1_000_000_000;
 
-fn push_zeros(text: &mut ArrayString<64>, count: usize)
-    requires { array_string_len text.old + count ≤ 64 }
-    ensures { text.new.bytes ≡ text.old.bytes ++ replicate count 48 }
+/// Appends digits with a point before the last nine.
+fn push_pointed<const N: usize>(text: &mut ArrayString<N>, digits: &str)
+    requires ascii { IsAscii digits.now }
+    requires long { 9 ≤ length digits.now }
+    requires room { array_string_len text.old + length digits.now + 1 ≤ N }
+    ensures { text.new.bytes ≡ text.old.bytes
+        ++ (take (length digits.now - 9) digits.now ++ 46 ∷ drop (length digits.now - 9) digits.now) }
 {
-    for _i in 0..count {
-        text.push('0');
-    }
+    let point = digits.len() - 9;
+    text.push_str(&digits[..point]);
+    text.push_str(".");
+    text.push_str(&digits[point..]);
 }
 
-/// Appends nine digits of a number below 10^9.
-fn push_nine_digits(text: &mut ArrayString<64>, number: u32)
-    requires small { number < 10 ^ 9 }
-    requires room { array_string_len text.old ≤ 50 }
-    ensures { text.new.bytes ≡ text.old.bytes ++ nine_digits number }
-{
-    let mut buffer = Buffer::new();
-    let digits = buffer.format(number);
-    push_zeros(text, 9 - digits.len());
-    text.push_str(digits);
-}
-
-/// Returns a date or a duration in nanoseconds, as seconds with nine digits after the point.
-pub fn date_text(ns: u128) -> ArrayString<64>
-    requires { ns < 10 ^ 33 }
-    ensures text { result.bytes ≡ date_of ns }
+/// Appends a date or a duration in nanoseconds, as seconds with nine digits after the point.
+pub fn push_date<const N: usize>(text: &mut ArrayString<N>, ns: u128)
+    requires ns { ns < 10 ^ 33 }
+    requires room { array_string_len text.old + 34 ≤ N }
+    ensures text { text.new.bytes ≡ text.old.bytes ++ date_of ns }
+    ensures len { array_string_len text.new ≤ array_string_len text.old + 34 }
 
     // The digits before and after the point together write the nanoseconds.
-    ensures value { (seconds : List ℕ) × (rest : List ℕ) × (result.bytes ≡ seconds ++ 46 ∷ rest)
+    ensures value { (seconds : List ℕ) × (rest : List ℕ)
+        × (text.new.bytes ≡ text.old.bytes ++ (seconds ++ 46 ∷ rest))
         × (length rest ≡ 9) × (digits_value 10 (seconds ++ rest) ≡ ns) }
 {
-    let mut text = ArrayString::new();
     let mut buffer = Buffer::new();
-    text.push_str(buffer.format(ns / NANOSECONDS));
-    text.push('.');
-    push_nine_digits(&mut text, (ns % NANOSECONDS) as u32);
-    text
+    if ns < NANOSECONDS {
+        // One second more has ten digits, and the nine after the first are wanted.
+        let digits = buffer.format(NANOSECONDS + ns);
+        text.push_str("0.");
+        text.push_str(&digits[1..]);
+        return;
+    }
+    push_pointed(text, buffer.format(ns));
 }
