@@ -1,2 +1,2 @@
--- How a line is kept.
+-- How lines are kept.
 pub mod Room

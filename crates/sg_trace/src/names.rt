@@ -5,84 +5,89 @@ ghost use Rattle.sg_rows.specs.Deployment.{IsDeployedOn, extent_of};
 ghost use Rattle.sg_trace.specs.Names.{actor_host, actor_label, actor_name, host_name, mutex_id, semaphore_id};
 ghost use Rattle.sg_trace.specs.kept.Room.{HasRoom, GrowsBy};
 
-use crate::pieces::{Line, push_number};
+use crate::pieces::{Lines, push_number};
 use sg_base::{ActorId, PointId, Text};
 use sg_rows::{Deployment, PlatformText};
 
-fn push_name(line: &mut Line, name: &Text)
+fn push_name(lines: &mut Lines, name: &Text)
     requires short { length name.now ≤ 64 }
-    requires room { HasRoom line.old 64 }
-    ensures bytes { line.new.bytes ≡ line.old.bytes ++ name.now }
-    ensures len { GrowsBy line.old line.new 64 }
+    requires room { HasRoom lines.old 64 }
+    ensures bytes { lines.new.bytes ≡ lines.old.bytes ++ name.now }
+    ensures len { GrowsBy lines.old lines.new 64 }
 {
-    line.push_str(name.as_str());
+    lines.push_str(name.as_str());
 }
 
-pub fn push_host_name(line: &mut Line, platform: &PlatformText, host: PointId)
+pub fn push_host_name(lines: &mut Lines, platform: &PlatformText, host: PointId)
     requires host { host.0 < length platform.now.hosts }
-    requires room { HasRoom line.old 64 }
-    ensures bytes { line.new.bytes ≡ line.old.bytes ++ host_name platform.now host }
-    ensures len { GrowsBy line.old line.new 64 }
+    requires room { HasRoom lines.old 64 }
+    ensures bytes { lines.new.bytes ≡ lines.old.bytes ++ host_name platform.now host }
+    ensures len { GrowsBy lines.old lines.new 64 }
 {
-    push_name(line, &platform.hosts()[host.0 as usize].id);
+    push_name(lines, &platform.hosts()[host.0 as usize].id);
 }
 
 fn push_actor_host(
-    line: &mut Line,
+    lines: &mut Lines,
     platform: &PlatformText,
     deployment: &Deployment,
     actor: ActorId,
 )
     requires actor { IsActorIn (extent_of deployment.now) actor }
     requires deployed { IsDeployedOn platform.now deployment.now }
-    requires room { HasRoom line.old 64 }
-    ensures bytes { line.new.bytes
-        ≡ line.old.bytes ++ actor_host platform.now deployment.now actor }
-    ensures len { GrowsBy line.old line.new 64 }
+    requires room { HasRoom lines.old 64 }
+    ensures bytes { lines.new.bytes
+        ≡ lines.old.bytes ++ actor_host platform.now deployment.now actor }
+    ensures len { GrowsBy lines.old lines.new 64 }
 {
-    push_host_name(line, platform, deployment.actors()[actor.index()].host);
+    push_host_name(lines, platform, deployment.actors()[actor.index()].host);
 }
 
-pub fn push_actor_name(line: &mut Line, deployment: &Deployment, actor: ActorId)
+pub fn push_actor_name(lines: &mut Lines, deployment: &Deployment, actor: ActorId)
     requires actor { IsActorIn (extent_of deployment.now) actor }
-    requires room { HasRoom line.old 64 }
-    ensures bytes { line.new.bytes ≡ line.old.bytes ++ actor_name deployment.now actor }
-    ensures len { GrowsBy line.old line.new 64 }
+    requires room { HasRoom lines.old 64 }
+    ensures bytes { lines.new.bytes ≡ lines.old.bytes ++ actor_name deployment.now actor }
+    ensures len { GrowsBy lines.old lines.new 64 }
 {
-    push_name(line, &deployment.actors()[actor.index()].name);
+    push_name(lines, &deployment.actors()[actor.index()].name);
 }
 
 /// Adds the actor with its host and its identifier.
-pub fn push_actor(line: &mut Line, platform: &PlatformText, deployment: &Deployment, actor: ActorId)
+pub fn push_actor(
+    lines: &mut Lines,
+    platform: &PlatformText,
+    deployment: &Deployment,
+    actor: ActorId,
+)
     requires actor { IsActorIn (extent_of deployment.now) actor }
     requires deployed { IsDeployedOn platform.now deployment.now }
-    requires room { HasRoom line.old 212 }
-    ensures bytes { line.new.bytes
-        ≡ line.old.bytes ++ actor_label platform.now deployment.now actor }
-    ensures len { GrowsBy line.old line.new 152 }
+    requires room { HasRoom lines.old 212 }
+    ensures bytes { lines.new.bytes
+        ≡ lines.old.bytes ++ actor_label platform.now deployment.now actor }
+    ensures len { GrowsBy lines.old lines.new 152 }
 {
-    push_actor_host(line, platform, deployment, actor);
-    line.push_str(":");
-    push_actor_name(line, deployment, actor);
-    line.push_str(":(");
-    push_number(line, u64::from(actor.0));
-    line.push_str(")");
+    push_actor_host(lines, platform, deployment, actor);
+    lines.push_str(":");
+    push_actor_name(lines, deployment, actor);
+    lines.push_str(":(");
+    push_number(lines, u64::from(actor.0));
+    lines.push_str(")");
 }
 
-pub fn push_mutex(line: &mut Line, deployment: &Deployment, mutex: u32)
+pub fn push_mutex(lines: &mut Lines, deployment: &Deployment, mutex: u32)
     requires mutex { IsMutexIn (extent_of deployment.now) mutex }
-    requires room { HasRoom line.old 64 }
-    ensures bytes { line.new.bytes ≡ line.old.bytes ++ mutex_id deployment.now mutex }
-    ensures len { GrowsBy line.old line.new 64 }
+    requires room { HasRoom lines.old 64 }
+    ensures bytes { lines.new.bytes ≡ lines.old.bytes ++ mutex_id deployment.now mutex }
+    ensures len { GrowsBy lines.old lines.new 64 }
 {
-    push_name(line, &deployment.mutexes()[mutex as usize].id);
+    push_name(lines, &deployment.mutexes()[mutex as usize].id);
 }
 
-pub fn push_semaphore(line: &mut Line, deployment: &Deployment, semaphore: u32)
+pub fn push_semaphore(lines: &mut Lines, deployment: &Deployment, semaphore: u32)
     requires semaphore { IsSemaphoreIn (extent_of deployment.now) semaphore }
-    requires room { HasRoom line.old 64 }
-    ensures bytes { line.new.bytes ≡ line.old.bytes ++ semaphore_id deployment.now semaphore }
-    ensures len { GrowsBy line.old line.new 64 }
+    requires room { HasRoom lines.old 64 }
+    ensures bytes { lines.new.bytes ≡ lines.old.bytes ++ semaphore_id deployment.now semaphore }
+    ensures len { GrowsBy lines.old lines.new 64 }
 {
-    push_name(line, &deployment.semaphores()[semaphore as usize].id);
+    push_name(lines, &deployment.semaphores()[semaphore as usize].id);
 }

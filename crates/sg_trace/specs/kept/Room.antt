@@ -1,11 +1,11 @@
--- The room of a line.
+-- The room of lines.
 use Rattle.std.specs.Prelude.{ℕ, ◌+◌, ◌≤◌}
 use Rattle.arrayvec.specs.ArrayString.{ArrayString, array_string_len}
 
--- so many bytes more have room; a line has at most 512
+-- so many bytes more have room
 abbrev pub HasRoom : ArrayString → ℕ → Type 0
-HasRoom line bytes = array_string_len line + bytes ≤ 512
+HasRoom lines bytes = array_string_len lines + bytes ≤ 65536
 
--- it gained so many bytes at most
+-- they gained so many bytes at most
 abbrev pub GrowsBy : ArrayString → ArrayString → ℕ → Type 0
 GrowsBy old new bytes = array_string_len new ≤ array_string_len old + bytes
