@@ -8,13 +8,14 @@ ghost use Rattle.sg_trace.specs.Names.{actor_name, mutex_id, semaphore_id};
 ghost use Rattle.sg_trace.specs.kept.Room.{HasRoom, GrowsBy};
 
 use crate::names::{push_actor_name, push_mutex, push_semaphore};
-use crate::pieces::{Lines, push_number};
+use crate::pieces::push_number;
+use arrayvec::ArrayString;
 use sg_base::{ActorId, BoxId, Call};
 use sg_rows::Deployment;
 
-fn push_counted(lines: &mut Lines, word: &str, number: u64)
+fn push_counted<const N: usize>(lines: &mut ArrayString<N>, word: &str, number: u64)
     requires word { length word.now ≤ 8 }
-    requires room { HasRoom lines.old 112 }
+    requires room { HasRoom N lines.old 112 }
     ensures bytes { lines.new.bytes ≡ lines.old.bytes ++ (word.now ++ decimal number) }
     ensures len { GrowsBy lines.old lines.new 28 }
 {
@@ -22,10 +23,16 @@ fn push_counted(lines: &mut Lines, word: &str, number: u64)
     push_number(lines, number);
 }
 
-fn push_sent(lines: &mut Lines, word: &str, deployment: &Deployment, mailbox: BoxId, bytes: u64)
+fn push_sent<const N: usize>(
+    lines: &mut ArrayString<N>,
+    word: &str,
+    deployment: &Deployment,
+    mailbox: BoxId,
+    bytes: u64,
+)
     requires mailbox { IsBoxIn (extent_of deployment.now) mailbox }
     requires word { length word.now ≤ 8 }
-    requires room { HasRoom lines.old 112 }
+    requires room { HasRoom N lines.old 112 }
     ensures bytes { lines.new.bytes
         ≡ lines.old.bytes
         ++ (word.now ++ receiver_name deployment.now mailbox ++ codes " " ++ decimal bytes) }
@@ -41,10 +48,15 @@ fn push_sent(lines: &mut Lines, word: &str, deployment: &Deployment, mailbox: Bo
     push_number(lines, bytes);
 }
 
-fn push_received(lines: &mut Lines, word: &str, deployment: &Deployment, mailbox: BoxId)
+fn push_received<const N: usize>(
+    lines: &mut ArrayString<N>,
+    word: &str,
+    deployment: &Deployment,
+    mailbox: BoxId,
+)
     requires mailbox { IsBoxIn (extent_of deployment.now) mailbox }
     requires word { length word.now ≤ 8 }
-    requires room { HasRoom lines.old 112 }
+    requires room { HasRoom N lines.old 112 }
     ensures bytes { lines.new.bytes
         ≡ lines.old.bytes ++ (word.now ++ sender_name deployment.now mailbox) }
     ensures len { GrowsBy lines.old lines.new 72 }
@@ -58,8 +70,8 @@ fn push_received(lines: &mut Lines, word: &str, deployment: &Deployment, mailbox
 }
 
 /// Adds the bytes that a receive brought, if it has completed.
-fn push_brought(lines: &mut Lines, brought: Option<u64>)
-    requires room { HasRoom lines.old 33 }
+fn push_brought<const N: usize>(lines: &mut ArrayString<N>, brought: Option<u64>)
+    requires room { HasRoom N lines.old 33 }
     ensures bytes { lines.new.bytes ≡ lines.old.bytes ++ brought_text brought }
     ensures len { GrowsBy lines.old lines.new 21 }
 {
@@ -72,10 +84,15 @@ fn push_brought(lines: &mut Lines, brought: Option<u64>)
     }
 }
 
-fn push_of_actor(lines: &mut Lines, word: &str, deployment: &Deployment, actor: ActorId)
+fn push_of_actor<const N: usize>(
+    lines: &mut ArrayString<N>,
+    word: &str,
+    deployment: &Deployment,
+    actor: ActorId,
+)
     requires actor { IsActorIn (extent_of deployment.now) actor }
     requires word { length word.now ≤ 8 }
-    requires room { HasRoom lines.old 112 }
+    requires room { HasRoom N lines.old 112 }
     ensures bytes { lines.new.bytes
         ≡ lines.old.bytes ++ (word.now ++ actor_name deployment.now actor) }
     ensures len { GrowsBy lines.old lines.new 72 }
@@ -84,10 +101,15 @@ fn push_of_actor(lines: &mut Lines, word: &str, deployment: &Deployment, actor: 
     push_actor_name(lines, deployment, actor);
 }
 
-fn push_locked(lines: &mut Lines, word: &str, deployment: &Deployment, mutex: u32)
+fn push_locked<const N: usize>(
+    lines: &mut ArrayString<N>,
+    word: &str,
+    deployment: &Deployment,
+    mutex: u32,
+)
     requires mutex { IsMutexIn (extent_of deployment.now) mutex }
     requires word { length word.now ≤ 8 }
-    requires room { HasRoom lines.old 112 }
+    requires room { HasRoom N lines.old 112 }
     ensures bytes { lines.new.bytes ≡ lines.old.bytes ++ (word.now ++ mutex_id deployment.now mutex) }
     ensures len { GrowsBy lines.old lines.new 72 }
 {
@@ -95,10 +117,15 @@ fn push_locked(lines: &mut Lines, word: &str, deployment: &Deployment, mutex: u3
     push_mutex(lines, deployment, mutex);
 }
 
-fn push_counting(lines: &mut Lines, word: &str, deployment: &Deployment, semaphore: u32)
+fn push_counting<const N: usize>(
+    lines: &mut ArrayString<N>,
+    word: &str,
+    deployment: &Deployment,
+    semaphore: u32,
+)
     requires semaphore { IsSemaphoreIn (extent_of deployment.now) semaphore }
     requires word { length word.now ≤ 8 }
-    requires room { HasRoom lines.old 112 }
+    requires room { HasRoom N lines.old 112 }
     ensures bytes { lines.new.bytes
         ≡ lines.old.bytes ++ (word.now ++ semaphore_id deployment.now semaphore) }
     ensures len { GrowsBy lines.old lines.new 72 }
@@ -108,10 +135,15 @@ fn push_counting(lines: &mut Lines, word: &str, deployment: &Deployment, semapho
 }
 
 /// Adds the text of a call, and for a completed receive the bytes that it brought.
-pub fn push_call(lines: &mut Lines, deployment: &Deployment, call: Call, brought: Option<u64>)
+pub fn push_call<const N: usize>(
+    lines: &mut ArrayString<N>,
+    deployment: &Deployment,
+    call: Call,
+    brought: Option<u64>,
+)
     requires told { HasLine call }
     requires call { IsCall (extent_of deployment.now) call }
-    requires room { HasRoom lines.old 112 }
+    requires room { HasRoom N lines.old 112 }
     ensures bytes { lines.new.bytes ≡ lines.old.bytes ++ call_text deployment.now brought call }
     ensures len { GrowsBy lines.old lines.new 93 }
 {

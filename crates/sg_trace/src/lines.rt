@@ -11,20 +11,21 @@ ghost use Rattle.sg_trace.specs.kept.Room.{HasRoom, GrowsBy};
 use crate::calls::push_call;
 use crate::last::Last;
 use crate::names::{push_actor, push_host_name};
-use crate::pieces::{Lines, push_date, push_end, push_energy, push_number};
+use crate::pieces::{push_date, push_end, push_energy, push_number};
+use arrayvec::ArrayString;
 use sg_base::{ActorId, Record};
 use sg_rows::{Deployment, PlatformText};
 
 /// Appends the trace line of a record, with its newline. It takes no memory.
-pub fn push_line(
-    lines: &mut Lines,
+pub fn push_line<const N: usize>(
+    lines: &mut ArrayString<N>,
     answered: &Record,
     platform: &PlatformText,
     deployment: &Deployment,
 )
     requires answered { IsOfDeployment deployment.now answered.now }
     requires deployed { IsDeployedOn platform.now deployment.now }
-    requires room { HasRoom lines.old 512 }
+    requires room { HasRoom N lines.old 512 }
     ensures { lines.new.bytes ≡ lines.old.bytes ++ line_of answered.now platform.now deployment.now }
 {
     lines.push_str("[");
@@ -38,10 +39,21 @@ pub fn push_line(
     lines.push_str("\n");
 }
 
-fn push_dated(lines: &mut Lines, text: &str, date: u128)
+/// Returns the trace line of a record, with its newline. It takes no memory.
+pub fn line(answered: &Record, platform: &PlatformText, deployment: &Deployment) -> ArrayString<512>
+    requires answered { IsOfDeployment deployment.now answered.now }
+    requires deployed { IsDeployedOn platform.now deployment.now }
+    ensures { result.bytes ≡ line_of answered.now platform.now deployment.now }
+{
+    let mut text = ArrayString::new();
+    push_line(&mut text, answered, platform, deployment);
+    text
+}
+
+fn push_dated<const N: usize>(lines: &mut ArrayString<N>, text: &str, date: u128)
     requires date { IsDate date }
     requires text { length text.now ≤ 40 }
-    requires room { HasRoom lines.old 112 }
+    requires room { HasRoom N lines.old 112 }
     ensures bytes { lines.new.bytes ≡ lines.old.bytes ++ (text.now ++ date_of date) }
     ensures len { GrowsBy lines.old lines.new 104 }
 {
@@ -50,8 +62,8 @@ fn push_dated(lines: &mut Lines, text: &str, date: u128)
 }
 
 // Adds a text that ends in an opening bracket, the actor and the closing one.
-fn push_in_brackets(
-    lines: &mut Lines,
+fn push_in_brackets<const N: usize>(
+    lines: &mut ArrayString<N>,
     text: &str,
     platform: &PlatformText,
     deployment: &Deployment,
@@ -60,7 +72,7 @@ fn push_in_brackets(
     requires actor { IsActorIn (extent_of deployment.now) actor }
     requires deployed { IsDeployedOn platform.now deployment.now }
     requires text { length text.now ≤ 11 }
-    requires room { HasRoom lines.old 228 }
+    requires room { HasRoom N lines.old 228 }
     ensures bytes { lines.new.bytes ≡ lines.old.bytes
         ++ (text.now ++ actor_label platform.now deployment.now actor ++ codes "]") }
     ensures len { GrowsBy lines.old lines.new 164 }
@@ -70,10 +82,15 @@ fn push_in_brackets(
     lines.push_str("]");
 }
 
-fn push_last(lines: &mut Lines, last: Last, platform: &PlatformText, deployment: &Deployment)
+fn push_last<const N: usize>(
+    lines: &mut ArrayString<N>,
+    last: Last,
+    platform: &PlatformText,
+    deployment: &Deployment,
+)
     requires last { IsLastOf platform.now deployment.now last }
     requires deployed { IsDeployedOn platform.now deployment.now }
-    requires room { HasRoom lines.old 312 }
+    requires room { HasRoom N lines.old 312 }
     ensures bytes { lines.new.bytes ≡ lines.old.bytes ++ last_text last platform.now deployment.now }
     ensures len { GrowsBy lines.old lines.new 260 }
 {
@@ -110,12 +127,32 @@ fn push_last(lines: &mut Lines, last: Last, platform: &PlatformText, deployment:
 }
 
 /// Appends a line that reports how the run ended, with its newline. It takes no memory.
-pub fn push_ending(lines: &mut Lines, last: &Last, platform: &PlatformText, deployment: &Deployment)
+pub fn push_ending<const N: usize>(
+    lines: &mut ArrayString<N>,
+    last: &Last,
+    platform: &PlatformText,
+    deployment: &Deployment,
+)
     requires last { IsLastOf platform.now deployment.now last.now }
     requires deployed { IsDeployedOn platform.now deployment.now }
-    requires room { HasRoom lines.old 512 }
+    requires room { HasRoom N lines.old 512 }
     ensures { lines.new.bytes ≡ lines.old.bytes ++ ending_of last.now platform.now deployment.now }
 {
     push_last(lines, *last, platform, deployment);
     lines.push_str("\n");
+}
+
+/// Returns a line that reports how the run ended, with its newline. It takes no memory.
+pub fn ending_lines(
+    last: &Last,
+    platform: &PlatformText,
+    deployment: &Deployment,
+) -> ArrayString<512>
+    requires last { IsLastOf platform.now deployment.now last.now }
+    requires deployed { IsDeployedOn platform.now deployment.now }
+    ensures { result.bytes ≡ ending_of last.now platform.now deployment.now }
+{
+    let mut text = ArrayString::new();
+    push_ending(&mut text, last, platform, deployment);
+    text
 }

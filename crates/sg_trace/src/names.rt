@@ -5,37 +5,42 @@ ghost use Rattle.sg_rows.specs.Deployment.{IsDeployedOn, extent_of};
 ghost use Rattle.sg_trace.specs.Names.{actor_host, actor_label, actor_name, host_name, mutex_id, semaphore_id};
 ghost use Rattle.sg_trace.specs.kept.Room.{HasRoom, GrowsBy};
 
-use crate::pieces::{Lines, push_number};
+use crate::pieces::push_number;
+use arrayvec::ArrayString;
 use sg_base::{ActorId, PointId, Text};
 use sg_rows::{Deployment, PlatformText};
 
-fn push_name(lines: &mut Lines, name: &Text)
+fn push_name<const N: usize>(lines: &mut ArrayString<N>, name: &Text)
     requires short { length name.now ≤ 64 }
-    requires room { HasRoom lines.old 64 }
+    requires room { HasRoom N lines.old 64 }
     ensures bytes { lines.new.bytes ≡ lines.old.bytes ++ name.now }
     ensures len { GrowsBy lines.old lines.new 64 }
 {
     lines.push_str(name.as_str());
 }
 
-pub fn push_host_name(lines: &mut Lines, platform: &PlatformText, host: PointId)
+pub fn push_host_name<const N: usize>(
+    lines: &mut ArrayString<N>,
+    platform: &PlatformText,
+    host: PointId,
+)
     requires host { host.0 < length platform.now.hosts }
-    requires room { HasRoom lines.old 64 }
+    requires room { HasRoom N lines.old 64 }
     ensures bytes { lines.new.bytes ≡ lines.old.bytes ++ host_name platform.now host }
     ensures len { GrowsBy lines.old lines.new 64 }
 {
     push_name(lines, &platform.hosts()[host.0 as usize].id);
 }
 
-fn push_actor_host(
-    lines: &mut Lines,
+fn push_actor_host<const N: usize>(
+    lines: &mut ArrayString<N>,
     platform: &PlatformText,
     deployment: &Deployment,
     actor: ActorId,
 )
     requires actor { IsActorIn (extent_of deployment.now) actor }
     requires deployed { IsDeployedOn platform.now deployment.now }
-    requires room { HasRoom lines.old 64 }
+    requires room { HasRoom N lines.old 64 }
     ensures bytes { lines.new.bytes
         ≡ lines.old.bytes ++ actor_host platform.now deployment.now actor }
     ensures len { GrowsBy lines.old lines.new 64 }
@@ -43,9 +48,13 @@ fn push_actor_host(
     push_host_name(lines, platform, deployment.actors()[actor.index()].host);
 }
 
-pub fn push_actor_name(lines: &mut Lines, deployment: &Deployment, actor: ActorId)
+pub fn push_actor_name<const N: usize>(
+    lines: &mut ArrayString<N>,
+    deployment: &Deployment,
+    actor: ActorId,
+)
     requires actor { IsActorIn (extent_of deployment.now) actor }
-    requires room { HasRoom lines.old 64 }
+    requires room { HasRoom N lines.old 64 }
     ensures bytes { lines.new.bytes ≡ lines.old.bytes ++ actor_name deployment.now actor }
     ensures len { GrowsBy lines.old lines.new 64 }
 {
@@ -53,15 +62,15 @@ pub fn push_actor_name(lines: &mut Lines, deployment: &Deployment, actor: ActorI
 }
 
 /// Adds the actor with its host and its identifier.
-pub fn push_actor(
-    lines: &mut Lines,
+pub fn push_actor<const N: usize>(
+    lines: &mut ArrayString<N>,
     platform: &PlatformText,
     deployment: &Deployment,
     actor: ActorId,
 )
     requires actor { IsActorIn (extent_of deployment.now) actor }
     requires deployed { IsDeployedOn platform.now deployment.now }
-    requires room { HasRoom lines.old 212 }
+    requires room { HasRoom N lines.old 212 }
     ensures bytes { lines.new.bytes
         ≡ lines.old.bytes ++ actor_label platform.now deployment.now actor }
     ensures len { GrowsBy lines.old lines.new 152 }
@@ -74,18 +83,22 @@ pub fn push_actor(
     lines.push_str(")");
 }
 
-pub fn push_mutex(lines: &mut Lines, deployment: &Deployment, mutex: u32)
+pub fn push_mutex<const N: usize>(lines: &mut ArrayString<N>, deployment: &Deployment, mutex: u32)
     requires mutex { IsMutexIn (extent_of deployment.now) mutex }
-    requires room { HasRoom lines.old 64 }
+    requires room { HasRoom N lines.old 64 }
     ensures bytes { lines.new.bytes ≡ lines.old.bytes ++ mutex_id deployment.now mutex }
     ensures len { GrowsBy lines.old lines.new 64 }
 {
     push_name(lines, &deployment.mutexes()[mutex as usize].id);
 }
 
-pub fn push_semaphore(lines: &mut Lines, deployment: &Deployment, semaphore: u32)
+pub fn push_semaphore<const N: usize>(
+    lines: &mut ArrayString<N>,
+    deployment: &Deployment,
+    semaphore: u32,
+)
     requires semaphore { IsSemaphoreIn (extent_of deployment.now) semaphore }
-    requires room { HasRoom lines.old 64 }
+    requires room { HasRoom N lines.old 64 }
     ensures bytes { lines.new.bytes ≡ lines.old.bytes ++ semaphore_id deployment.now semaphore }
     ensures len { GrowsBy lines.old lines.new 64 }
 {

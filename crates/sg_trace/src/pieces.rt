@@ -1,4 +1,4 @@
-//! The pieces of a line.
+//! The pieces of a line, appended to a text. The limits on names, dates and numbers keep a line within 512 bytes.
 ghost use Rattle.std.specs.Prelude.{◌≡◌, ◌<◌, ◌^◌, ◌++◌, decimal, replicate};
 ghost use Rattle.sg_base.specs.Limits.{IsEnd};
 ghost use Rattle.sg_units.specs.Date.{date_of};
@@ -10,12 +10,8 @@ use arrayvec::ArrayString;
 use itoa::Buffer;
 use sg_base::End;
 
-/// Lines with their newlines, which wait to be written together. The limits on names, dates and numbers keep a line
-/// within 512 bytes.
-pub type Lines = ArrayString<65536>;
-
-pub fn push_number(lines: &mut Lines, number: u64)
-    requires { HasRoom lines.old 32 }
+pub fn push_number<const N: usize>(lines: &mut ArrayString<N>, number: u64)
+    requires { HasRoom N lines.old 32 }
     ensures bytes { lines.new.bytes ≡ lines.old.bytes ++ decimal number }
     ensures len { GrowsBy lines.old lines.new 20 }
 {
@@ -23,17 +19,17 @@ pub fn push_number(lines: &mut Lines, number: u64)
     lines.push_str(buffer.format(number));
 }
 
-pub fn push_date(lines: &mut Lines, ns: u128)
+pub fn push_date<const N: usize>(lines: &mut ArrayString<N>, ns: u128)
     requires date { IsDate ns }
-    requires room { HasRoom lines.old 64 }
+    requires room { HasRoom N lines.old 64 }
     ensures bytes { lines.new.bytes ≡ lines.old.bytes ++ date_of ns }
     ensures len { GrowsBy lines.old lines.new 64 }
 {
     sg_units::push_date(lines, ns);
 }
 
-fn push_zeros(lines: &mut Lines, count: usize)
-    requires { HasRoom lines.old count }
+fn push_zeros<const N: usize>(lines: &mut ArrayString<N>, count: usize)
+    requires { HasRoom N lines.old count }
     ensures bytes { lines.new.bytes ≡ lines.old.bytes ++ replicate count 48 }
     ensures len { GrowsBy lines.old lines.new count }
 {
@@ -43,9 +39,9 @@ fn push_zeros(lines: &mut Lines, count: usize)
 }
 
 /// Appends twelve digits of a number below 10^12.
-fn push_twelve_digits(lines: &mut Lines, number: u64)
+fn push_twelve_digits<const N: usize>(lines: &mut ArrayString<N>, number: u64)
     requires small { number < 10 ^ 12 }
-    requires room { HasRoom lines.old 12 }
+    requires room { HasRoom N lines.old 12 }
     ensures bytes { lines.new.bytes ≡ lines.old.bytes ++ twelve_digits number }
     ensures len { GrowsBy lines.old lines.new 12 }
 {
@@ -56,9 +52,9 @@ fn push_twelve_digits(lines: &mut Lines, number: u64)
 }
 
 /// Adds an energy: whole joules, and the rest in units of 10^-12 J.
-pub fn push_energy(lines: &mut Lines, joules: u128, rest: u64)
+pub fn push_energy<const N: usize>(lines: &mut ArrayString<N>, joules: u128, rest: u64)
     requires rest { rest < 10 ^ 12 }
-    requires room { HasRoom lines.old 64 }
+    requires room { HasRoom N lines.old 64 }
     ensures bytes { lines.new.bytes ≡ lines.old.bytes ++ energy_of joules rest }
     ensures len { GrowsBy lines.old lines.new 52 }
 {
@@ -69,9 +65,9 @@ pub fn push_energy(lines: &mut Lines, joules: u128, rest: u64)
 }
 
 /// Adds how long a call took, or that it was refused or failed.
-pub fn push_end(lines: &mut Lines, end: End)
+pub fn push_end<const N: usize>(lines: &mut ArrayString<N>, end: End)
     requires end { IsEnd end }
-    requires room { HasRoom lines.old 64 }
+    requires room { HasRoom N lines.old 64 }
     ensures bytes { lines.new.bytes ≡ lines.old.bytes ++ end_text end }
     ensures len { GrowsBy lines.old lines.new 64 }
 {

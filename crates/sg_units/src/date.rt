@@ -45,3 +45,17 @@ pub fn push_date<const N: usize>(text: &mut ArrayString<N>, ns: u128)
     }
     push_pointed(text, buffer.format(ns));
 }
+
+/// Returns a date or a duration in nanoseconds, as seconds with nine digits after the point.
+pub fn date_text(ns: u128) -> ArrayString<64>
+    requires { ns < 10 ^ 33 }
+    ensures text { result.bytes ≡ date_of ns }
+
+    // The digits before and after the point together write the nanoseconds.
+    ensures value { (seconds : List ℕ) × (rest : List ℕ) × (result.bytes ≡ seconds ++ 46 ∷ rest)
+        × (length rest ≡ 9) × (digits_value 10 (seconds ++ rest) ≡ ns) }
+{
+    let mut text = ArrayString::new();
+    push_date(&mut text, ns);
+    text
+}
