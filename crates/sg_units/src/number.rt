@@ -25,7 +25,7 @@ fn digit_count(text: &[u8]) -> usize
 }
 
 /// Returns the digits at the front of a text, and what follows them.
-fn split_digits(text: &[u8]) -> (&[u8], &[u8])
+pub fn split_digits(text: &[u8]) -> (&[u8], &[u8])
     ensures digits { result.0.now ≡ digits text.now }
     ensures after { result.1.now ≡ after_digits text.now }
     ensures all { AllDigits 10 result.0.now }

@@ -1,17 +1,18 @@
 //! The readers of amounts, speeds, bandwidths, times and factors.
-ghost use Rattle.std.specs.Prelude.{◌≡◌, ◌≤◌, ◌<◌, ◌^◌, IsTrue, IfOk};
+ghost use Rattle.std.specs.Prelude.{◌≡◌, ◌≤◌, ◌<◌, ◌*◌, ◌/◌, ◌^◌, IsTrue, IfOk};
 ghost use Rattle.std.specs.Str.Parse.{digits_value};
 ghost use Rattle.sg_base.specs.Limits.{IsAmount, IsTime};
-ghost use Rattle.sg_units.specs.Amount.{short_value, amount_by, power_of, places_of, digits_of, is_short, amount_of, speed_of, bandwidth_of, time_of, factor_of};
+ghost use Rattle.sg_units.specs.Amount.{short_value, amount_by, up_to, power_of, places_of, digits_of, is_short, amount_of, speed_of, bandwidth_of, time_of, factor_of};
 ghost use Rattle.sg_units.specs.kept.Shown.{parts_of, HasDigits, HasFewDigits};
 ghost use Rattle.sg_units.specs.Units.{amount_units, are_sizes, rows, IsSize};
 
 use crate::fault::AmountFault;
 use crate::number::Number;
-use crate::plain::plain_number;
+use crate::plain::{plain_front, plain_number};
 use crate::scale::{read_after, scaled};
 use crate::units::{
     AMOUNT_UNITS, BANDWIDTH_UNITS, FACTOR_UNITS, Ratio, SPEED_UNITS, TIME_UNITS, UnitRow, size_of,
+    time_size,
 };
 
 /// The greatest number of flops or bytes, and the greatest speed and bandwidth.
@@ -90,7 +91,24 @@ fn short_value(number: &Number, size: Ratio, greatest: u64) -> Result<u64, Amoun
     }
 }
 
-fn amount_by(units: &[UnitRow], greatest: u64, text: &[u8]) -> Result<u64, AmountFault>
+// Returns a number of few digits times the size of its unit, rounded down.
+fn whole_value(number: u64, size: Ratio, greatest: u64) -> Result<u64, AmountFault>
+    requires number { number < 10 ^ 18 }
+    requires size { IsSize size }
+    requires greatest { greatest ≤ 10 ^ 18 }
+    ensures value { result ≡ up_to greatest (number * size.numerator / size.denominator) }
+    ensures limit { IfOk result (λ n. n ≤ greatest) }
+{
+    let product = u128::from(number) * u128::from(size.numerator);
+    // Over the denominator and rounded down, this is the greatest value.
+    let most = (greatest + 1) * size.denominator - 1;
+    if product > u128::from(most) {
+        return Err(AmountFault::TooLarge);
+    }
+    Ok(product as u64 / size.denominator)
+}
+
+fn any_amount_by(units: &[UnitRow], greatest: u64, text: &[u8]) -> Result<u64, AmountFault>
     requires units { IsTrue (are_sizes (rows units.now)) }
     requires greatest { greatest ≤ 10 ^ 18 }
     ensures value { result ≡ amount_by (rows units.now) greatest text.now }
@@ -104,6 +122,22 @@ fn amount_by(units: &[UnitRow], greatest: u64, text: &[u8]) -> Result<u64, Amoun
         Some(size) => short_value(&number, size, greatest),
         None => Err(AmountFault::UnknownUnit),
     }
+}
+
+// Does the same, sooner if the number is digits alone, as most are.
+fn amount_by(units: &[UnitRow], greatest: u64, text: &[u8]) -> Result<u64, AmountFault>
+    requires units { IsTrue (are_sizes (rows units.now)) }
+    requires greatest { greatest ≤ 10 ^ 18 }
+    ensures value { result ≡ amount_by (rows units.now) greatest text.now }
+    ensures limit { IfOk result (λ n. n ≤ greatest) }
+{
+    let Some(front) = plain_front(text) else {
+        return any_amount_by(units, greatest, text);
+    };
+    let Some(size) = size_of(units, front.1) else {
+        return Err(AmountFault::UnknownUnit);
+    };
+    whole_value(front.0, size, greatest)
 }
 
 // Does the same with no unit. Most amounts are digits alone, and need no more than these.
@@ -142,12 +176,26 @@ pub fn read_bandwidth(text: &[u8]) -> Result<u64, AmountFault>
     amount_by(&BANDWIDTH_UNITS, GREATEST_AMOUNT, text)
 }
 
+// Reads a time in any form.
+fn any_time(text: &[u8]) -> Result<u64, AmountFault>
+    ensures value { result ≡ time_of text.now }
+    ensures limit { IfOk result IsTime }
+{
+    amount_by(&TIME_UNITS, GREATEST_TIME, text)
+}
+
 /// Reads a time in nanoseconds, up to 10^18. Without a unit it is in seconds.
 pub fn read_time(text: &[u8]) -> Result<u64, AmountFault>
     ensures value { result ≡ time_of text.now }
     ensures limit { IfOk result IsTime }
 {
-    amount_by(&TIME_UNITS, GREATEST_TIME, text)
+    let Some(front) = plain_front(text) else {
+        return any_time(text);
+    };
+    let Some(size) = time_size(front.1) else {
+        return Err(AmountFault::UnknownUnit);
+    };
+    whole_value(front.0, size, GREATEST_TIME)
 }
 
 /// Reads a factor up to 1,000, in millionths. It has no unit.

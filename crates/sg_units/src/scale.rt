@@ -5,7 +5,7 @@ ghost use Rattle.sg_units.specs.kept.Scaled.{if_at_most};
 
 /// Returns the number that these few digits write. Most amounts have few, and 64-bit arithmetic is several times as
 /// fast.
-fn read_few(digits: &[u8]) -> u64
+pub fn read_few(digits: &[u8]) -> u64
     requires digits { AllDigits 10 digits.now }
     requires few { length digits.now ≤ 18 }
     ensures value { result ≡ digits_value_after 10 0 digits.now }

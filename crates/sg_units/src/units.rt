@@ -1,6 +1,6 @@
 //! The units of the readers.
-ghost use Rattle.std.specs.Prelude.{◌≡◌, IsTrue, IfSome};
-ghost use Rattle.sg_units.specs.Units.{rows, size_of, are_sizes, IsSize};
+ghost use Rattle.std.specs.Prelude.{◌≡◌, IsTrue, IfSome, Some};
+ghost use Rattle.sg_units.specs.Units.{rows, size_of, are_sizes, time_units, whole, IsSize};
 
 /// A size as a fraction.
 #[derive(Clone, Copy)]
@@ -73,6 +73,50 @@ pub fn size_of(mut units: &[UnitRow], name: &[u8]) -> Option<Ratio>
             });
         }
         units = rest;
+    }
+    None
+}
+
+fn nanoseconds(count: u64) -> Option<Ratio>
+    ensures { result ≡ Some (whole count) }
+{
+    Some(Ratio {
+        numerator: count,
+        denominator: 1,
+    })
+}
+
+/// Returns the size of the unit of times of this name. The length of each name is known where it is compared.
+pub fn time_size(name: &[u8]) -> Option<Ratio>
+    ensures size { result ≡ size_of time_units name.now }
+    ensures small { IfSome result IsSize }
+{
+    if b"".as_slice() == name {
+        return nanoseconds(1_000_000_000);
+    }
+    if b"ns".as_slice() == name {
+        return nanoseconds(1);
+    }
+    if b"us".as_slice() == name {
+        return nanoseconds(1_000);
+    }
+    if b"ms".as_slice() == name {
+        return nanoseconds(1_000_000);
+    }
+    if b"s".as_slice() == name {
+        return nanoseconds(1_000_000_000);
+    }
+    if b"m".as_slice() == name {
+        return nanoseconds(60_000_000_000);
+    }
+    if b"h".as_slice() == name {
+        return nanoseconds(3_600_000_000_000);
+    }
+    if b"d".as_slice() == name {
+        return nanoseconds(86_400_000_000_000);
+    }
+    if b"w".as_slice() == name {
+        return nanoseconds(604_800_000_000_000);
     }
     None
 }
