@@ -6,6 +6,7 @@ ghost use Rattle.sg_rows.specs.Index.{number_by};
 ghost use Rattle.sg_rows.specs.kept.Finds.{FindsAs, replay_names};
 
 use crate::index::{replay_by_name, rows_by_name};
+use crate::names::NameTable;
 use crate::rows::{ActorRow, Function, MutexRow, SemaphoreRow};
 use indexmap::IndexMap;
 use sg_base::{ActorId, Memory};
@@ -19,9 +20,9 @@ pub struct Deployment {
     mutexes: Vec<MutexRow>,
     semaphores: Vec<SemaphoreRow>,
     named_actors: IndexMap<Vec<u8>, u32>,
-    replay: IndexMap<Vec<u8>, u32>,
-    named_mutexes: IndexMap<Vec<u8>, u32>,
-    named_semaphores: IndexMap<Vec<u8>, u32>,
+    replay: NameTable,
+    named_mutexes: NameTable,
+    named_semaphores: NameTable,
     members: Members,
 }
 
@@ -49,7 +50,7 @@ impl Model for Deployment {
 
     ghost view = { λ d. deployment_of_rows d.actors.items d.mutexes.items d.semaphores.items };
 
-    ghost invariant = { λ d. IsIndexed d.named_actors d.replay d.named_mutexes d.named_semaphores d.members
+    ghost invariant = { λ d. IsIndexed d.named_actors d.replay.map d.named_mutexes.map d.named_semaphores.map d.members
         (deployment_of_rows d.actors.items d.mutexes.items d.semaphores.items) };
 }
 
@@ -74,7 +75,7 @@ fn members_among(alloc: Global, actors: &[ActorRow]) -> Result<Members, Memory>
 #[derive(Drop)]
 struct ActorIndex {
     named: IndexMap<Vec<u8>, u32>,
-    replay: IndexMap<Vec<u8>, u32>,
+    replay: NameTable,
     members: Members,
 }
 
@@ -85,11 +86,11 @@ impl ActorIndex {
         ensures named { IfOk result
             (λ index. FindsAs index.named (number_by (λ actor. actor.name ∷ []) actors.now)) }
         ensures replay { IfOk result
-            (λ index. FindsAs index.replay (number_by replay_names actors.now)) }
+            (λ index. FindsAs index.replay.map (number_by replay_names actors.now)) }
         ensures members { IfOk result (λ index. index.members ≡ members_among actors.now) }
     {
         let named = rows_by_name(alloc, actors)?;
-        let replay = replay_by_name(alloc, actors)?;
+        let replay = NameTable::new(alloc, replay_by_name(alloc, actors)?)?;
         let members = members_among(alloc, actors)?;
         Ok(ActorIndex {
             named,
@@ -102,8 +103,8 @@ impl ActorIndex {
 /// Finds mutexes and semaphores by their names.
 #[derive(Drop)]
 struct LockIndex {
-    mutexes: IndexMap<Vec<u8>, u32>,
-    semaphores: IndexMap<Vec<u8>, u32>,
+    mutexes: NameTable,
+    semaphores: NameTable,
 }
 
 impl LockIndex {
@@ -114,13 +115,13 @@ impl LockIndex {
         semaphores: &[SemaphoreRow],
     ) -> Result<LockIndex, Memory>
         ensures mutexes { IfOk result
-            (λ index. FindsAs index.mutexes (number_by (λ mutex. mutex.id ∷ []) mutexes.now)) }
+            (λ index. FindsAs index.mutexes.map (number_by (λ mutex. mutex.id ∷ []) mutexes.now)) }
         ensures semaphores { IfOk result
-            (λ index. FindsAs index.semaphores
+            (λ index. FindsAs index.semaphores.map
             (number_by (λ semaphore. semaphore.id ∷ []) semaphores.now)) }
     {
-        let by_mutex = rows_by_name(alloc, mutexes)?;
-        let by_semaphore = rows_by_name(alloc, semaphores)?;
+        let by_mutex = NameTable::new(alloc, rows_by_name(alloc, mutexes)?)?;
+        let by_semaphore = NameTable::new(alloc, rows_by_name(alloc, semaphores)?)?;
         Ok(LockIndex {
             mutexes: by_mutex,
             semaphores: by_semaphore,
@@ -187,14 +188,14 @@ impl Deployment {
     pub fn mutex_named(&self, name: &[u8]) -> Option<u32>
         ensures { result ≡ mutex_named self.now name.now }
     {
-        self.named_mutexes.get(name).copied()
+        self.named_mutexes.get(name)
     }
 
     /// Returns the number of the semaphore of this name, from 0 on.
     pub fn semaphore_named(&self, name: &[u8]) -> Option<u32>
         ensures { result ≡ semaphore_named self.now name.now }
     {
-        self.named_semaphores.get(name).copied()
+        self.named_semaphores.get(name)
     }
 
     /// Returns the actor of this name, whatever it does.
@@ -212,7 +213,7 @@ impl Deployment {
         ensures { result ≡ replay_actor_named self.now name.now }
     {
         match self.replay.get(name) {
-            Some(row) => Some(ActorId(*row + 1)),
+            Some(row) => Some(ActorId(row + 1)),
             None => None,
         }
     }

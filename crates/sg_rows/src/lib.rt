@@ -7,6 +7,7 @@
 mod deployment;
 mod ends;
 mod index;
+mod names;
 mod network;
 mod number_list;
 mod of_rows;
