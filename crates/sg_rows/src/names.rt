@@ -112,13 +112,22 @@ impl NameTable {
         if same { Some(*entry.1) } else { None }
     }
 
+    // Returns the number of a name by the map. It stays out of line, so that its hash takes no registers from `get`.
+    #[cold]
+    #[inline(never)]
+    fn number_in_map(&self, name: &[u8]) -> Option<u32>
+        ensures { result ≡ finds self.now.map name.now }
+    {
+        self.map.get(name).copied()
+    }
+
     /// Returns the number of a name.
     pub fn get(&self, name: &[u8]) -> Option<u32>
         ensures { result ≡ finds self.now.map name.now }
     {
         match self.number_at(place_of(name, self.indices.len()), name) {
             Some(number) => Some(number),
-            None => self.map.get(name).copied(),
+            None => self.number_in_map(name),
         }
     }
 }
