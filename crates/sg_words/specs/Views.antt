@@ -1,7 +1,7 @@
 -- What a contract sees of the values of the crate.
 use Rattle.std.specs.Prelude.{◌≡◌, ◌≢◌, ◌⊎◌, ⊤, [], Option, Some, Result, Ok, Err}
-use Rattle.clap.specs.Words.{IsAmong, Kinds}
-use Rattle.clap.specs.declared.error.kind.ErrorKind.{ErrorKind}
+pub use Rattle.clap.specs.Words.{IsAmong, Kinds, Text}
+pub use Rattle.clap.specs.declared.error.kind.ErrorKind.{ErrorKind}
 use Rattle.clap.specs.declared.error.kind.ErrorKind.TheVariants.{DisplayHelp, DisplayVersion, OutOfMemory}
 use Rattle.sg_words.specs.CommandLine as line
 use Rattle.sg_words.specs.declared.fault.WordsFault.{WordsFault}

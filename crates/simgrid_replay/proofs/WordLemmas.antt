@@ -1,13 +1,12 @@
 -- What is printed for words that ask for no run.
 use Rattle.std.proofs.Common.{◌≡◌, ◌≢◌, inl, refl, subst, ℕ, List, [], ◌∷◌, Option, Some, Result, Ok}
 use Rattle.std.proofs.Common as C
-use Rattle.clap.specs.Words.{Kinds}
 use Rattle.sg_base.specs.declared.status.Status.{Status}
 use Rattle.sg_base.specs.declared.status.Status.TheVariants as S
 use Rattle.sg_edge.specs.declared.sinks.Stream.{Stream}
 use Rattle.sg_edge.specs.declared.sinks.Stream.TheVariants.{Out, Err}
 use Rattle.sg_words.specs.CommandLine.{Asked}
-use Rattle.sg_words.specs.Views.{Answers, job_view}
+use Rattle.sg_words.specs.Views.{Answers, Kinds, job_view}
 use Rattle.sg_words.specs.declared.fault.WordsFault.{WordsFault}
 use Rattle.sg_words.specs.declared.job.Job.{Job}
 use Rattle.simgrid_replay.specs.Outcome.{Prints, one_text}

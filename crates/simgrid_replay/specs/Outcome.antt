@@ -9,10 +9,8 @@ use Rattle.sg_engine.specs.declared.ended.Ended.{Ended}
 use Rattle.sg_engine.specs.declared.ended.Ended.TheVariants as ended
 use Rattle.sg_engine.specs.Gains.{GainsAll, GainsFronts}
 use Rattle.sg_engine.specs.Output.{Output, run_output}
-use Rattle.clap.specs.Words.{IsAmong, Kinds}
-use Rattle.clap.specs.declared.error.kind.ErrorKind.{ErrorKind}
 use Rattle.sg_words.specs.CommandLine.{Asked}
-use Rattle.sg_words.specs.Views.{IsHelp}
+use Rattle.sg_words.specs.Views.{ErrorKind, IsAmong, IsHelp, Kinds}
 use Rattle.sg_tree.specs.declared.fault.Place.{Place}
 use Rattle.sg_zones.specs.FaultWords.{zone_words, zone_place}
 use Rattle.simgrid_replay.specs.RefusalLines.{fault_words, refusal_line, replay_line, contexts_line}

@@ -1,12 +1,11 @@
 -- What the words ask for, and what the parts gave.
 use Rattle.std.specs.Prelude.{◌≡◌, ℕ, List, [], Option, Some, None, IsTrue, IfSome}
-use Rattle.clap.specs.Words.{Text}
 use Rattle.sg_edge.specs.Files.{PartView, IsNamed}
 use Rattle.sg_edge.specs.Sources.{Source, Gives}
 use Rattle.sg_edge.specs.declared.files.Part.{Part}
 use Rattle.sg_edge.specs.declared.files.Part.TheVariants as part
 use Rattle.sg_words.specs.CommandLine.{Asked, Request, replay, run, churn, asked_of, refusals}
-use Rattle.sg_words.specs.Views.{command_view}
+use Rattle.sg_words.specs.Views.{Text, command_view}
 use Rattle.sg_words.specs.declared.job.Job.{Job}
 use Rattle.simgrid_replay.specs.Requests.{has_parts, has_script}
 

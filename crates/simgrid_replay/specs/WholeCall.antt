@@ -5,7 +5,7 @@ use Rattle.sg_edge.specs.declared.files.Part.{Part}
 use Rattle.sg_edge.specs.declared.sinks.Stream.{Stream}
 use Rattle.sg_edge.specs.Files.{PartView}
 use Rattle.sg_engine.specs.RunContract.{IsReadOnDemand}
-use Rattle.clap.specs.Words.{Kinds}
+use Rattle.sg_words.specs.Views.{Kinds}
 use Rattle.simgrid_replay.specs.Contexts.{TakesContexts}
 use Rattle.simgrid_replay.specs.Outcome.{Outcome, ReportsWords}
 

@@ -1,8 +1,7 @@
 //! The text of a call that makes no run, and the status of a run.
 ghost use Rattle.std.specs.Prelude.{◌≡◌, ◌≢◌, ◌⊎◌, ℕ, List, [], Option, Err, IfOk, IsTrue, false, string_bytes};
-ghost use Rattle.clap.specs.Words.{Kinds};
 ghost use Rattle.sg_words.specs.CommandLine.{Asked};
-ghost use Rattle.sg_words.specs.Views.{Answers};
+ghost use Rattle.sg_words.specs.Views.{Answers, Kinds};
 ghost use Rattle.simgrid_replay.specs.kept.Reading.{IsCallCause, IsOfPlatform, IsReadFault};
 ghost use Rattle.simgrid_replay.specs.Outcome.{one_text, refusal_outcome, status_of, cuts_output_short, is_refusal, Prints};
 ghost use Rattle.simgrid_replay.specs.Outcome.{ReportsWords};
