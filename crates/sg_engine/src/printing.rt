@@ -19,7 +19,7 @@ use sg_base::{ActorId, PointId, Record};
 use sg_edge::{Failed, Sinks};
 use sg_kernel::Kernel;
 use sg_rows::HostRow;
-use sg_trace::{Last, ending_lines, line};
+use sg_trace::Last;
 
 // Puts the trace line of a record into the buffer.
 fn put_record<O: Sinks>(
@@ -35,8 +35,7 @@ fn put_record<O: Sinks>(
         buffer.new result
         (O.contents out.old) (O.contents out.new) (O.faults out.old) (O.faults out.new) }
 {
-    let text = line(answered, plan.platform, plan.deployment);
-    buffer.put(text.as_bytes(), out)
+    buffer.put_line(answered, plan.platform, plan.deployment, out)
 }
 
 // Puts a trace line for each record into the buffer.
@@ -114,8 +113,7 @@ pub fn put_last<O: Sinks>(
     ensures { Puts (buffer.old ++ ending_in plan.now last) buffer.new result
         (O.contents out.old) (O.contents out.new) (O.faults out.old) (O.faults out.new) }
 {
-    let text = ending_lines(&last, plan.platform, plan.deployment);
-    buffer.put(text.as_bytes(), out)
+    buffer.put_ending(&last, plan.platform, plan.deployment, out)
 }
 
 /// Puts two last lines into the buffer.

@@ -1,0 +1,8 @@
+use Rattle.std.proofs.Common.{[]}
+use Rattle.sg_trace.specs.Line.{line_of}
+use Rattle.sg_engine.proofs.PutLines.{first_breaks}
+use Rattle.sg_engine.proofs.buffer.Buffer.put_line.Goals as goal
+
+pub returns-in-Err : goal.returns-in-Err
+returns-in-Err g c =
+    first_breaks [] c.args.self.now (line_of c.args.answered.now c.args.platform.now c.args.deployment.now) _ _ _ _ c.in-Err.ensures.writes
