@@ -1,3 +1,4 @@
+pub mod ExitLemmas
 pub mod PartLemmas
 pub mod TellingLemmas
 pub mod TopLemmas

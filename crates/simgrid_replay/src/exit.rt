@@ -1,15 +1,10 @@
 //! The exit status of the whole program.
-ghost use Rattle.std.specs.Prelude.{◌≡◌, ◌≢◌, ◌+◌, ◌≤◌, [], length, map, All, None, OnErr, OnOk, string_bytes};
+ghost use Rattle.std.specs.Prelude.{◌≡◌, map, All, None, OnErr, OnOk, string_bytes};
 ghost use Rattle.std.specs.Process.{exit_status};
 ghost use Rattle.sg_base.specs.Status.{status_code};
-ghost use Rattle.sg_edge.specs.Cause.{HasCause};
 ghost use Rattle.sg_edge.specs.declared.files.Part.{Part};
 ghost use Rattle.sg_edge.specs.declared.files.Stage.TheVariants.{Fresh};
-ghost use Rattle.sg_edge.specs.Files.{SomeBroke};
-ghost use Rattle.sg_words.specs.CommandLine.{refusals};
-ghost use Rattle.simgrid_replay.specs.Exit.{Exits};
-ghost use Rattle.simgrid_replay.specs.Outcome.{outcome, Prints, ReportsWords};
-ghost use Rattle.simgrid_replay.specs.PartSources.{ForJob};
+ghost use Rattle.simgrid_replay.specs.Exit.{DoesCall, Exits};
 
 use crate::host::Host;
 use crate::whole_call::simgrid;
@@ -39,8 +34,8 @@ pub fn last_code(told: ExitCode, finished: Result<(), Failed>) -> ExitCode
     }
 }
 
-/// Does what the words ask for, as `simgrid` does, and returns the exit status: that of the definition if the contents
-/// of the input streams are known, and always that of a status for whose causes it stands.
+/// Does what the words ask for, as `simgrid` does, and returns the exit status: that of a status for which all clauses
+/// of `simgrid` hold.
 pub fn exit_of<R: Threads + Sync, F: Files, O: Sinks, L: Ledger>(
     host: &Host<'_, R>,
     words: &[String],
@@ -52,18 +47,10 @@ pub fn exit_of<R: Threads + Sync, F: Files, O: Sinks, L: Ledger>(
     requires fresh { (part : Part) → (F.shows files.old part).stage ≡ Fresh }
     requires blank { All (λ b. mind b ≡ None) crew.old.items }
     requires sound { O.faults out.old ≡ 0 }
-    ensures output { ForJob (map string_bytes words.now) (F.shows files.old) (F.shows files.new)
-        (λ job p d s. Exits (exit_status result)
-        (λ how. Prints (outcome job (length crew.old.items) p d s) how
-        (O.contents out.old) (O.contents out.new))) }
-    ensures looks { ForJob (map string_bytes words.now) (F.shows files.old) (F.shows files.new)
-        (λ job p d s. steps.new ≤ steps.old + (outcome job (length crew.old.items) p d s).work) }
-    ensures refused { refusals (map string_bytes words.now) ≢ []
-        → Exits (exit_status result) (λ how. ReportsWords (refusals (map string_bytes words.now))
-        how (O.contents out.old) (O.contents out.new)) }
-    ensures cause { Exits (exit_status result) (λ how. HasCause (how ≡ Status.WriteFault)
-        (how ≡ Status.ReadFault) (O.faults out.old) (O.faults out.new)
-        (SomeBroke (F.shows files.old) (F.shows files.new))) }
+    ensures { Exits (exit_status result) (DoesCall F.shows (map string_bytes words.now)
+        files.old files.new (O.contents out.old) (O.contents out.new)
+        (O.faults out.old) (O.faults out.new) crew.old.items crew.new.items
+        steps.old steps.new) }
 {
     exit_code(simgrid(host.rt, host.alloc, words, files, out, crew, steps))
 }

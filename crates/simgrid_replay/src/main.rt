@@ -24,12 +24,12 @@ mod tests;
 mod unscripted;
 mod whole_call;
 
-ghost use Rattle.std.specs.Prelude.{◌≡◌, ◌<◌, [], length, All, None, IfOk, IfErr};
+ghost use Rattle.std.specs.Prelude.{◌≡◌, ◌<◌, length, map, All, None, IfOk, IfErr, string_bytes};
 ghost use Rattle.std.specs.Process.{exit_status};
 ghost use Rattle.std.specs.Vec.Iter.{into_iter_items};
 ghost use Rattle.sg_base.specs.Status.{status_code};
 ghost use Rattle.sg_edge.specs.Sinks.{one_if};
-ghost use Rattle.simgrid_replay.specs.Exit.{IsExit};
+ghost use Rattle.simgrid_replay.specs.Exit.{Exits, FitsWords, words_in};
 
 use exit::{exit_code, exit_of, last_code};
 use host::Host;
@@ -57,8 +57,7 @@ fn collected(alloc: Global, args: Args) -> Result<Vec<String>, AllocError>
 // Returns all words of the command line in their order. If one isn't text, they are refused as a whole, like no words
 // at all.
 fn words_of(alloc: Global, args: io::Result<Args>) -> Result<Vec<String>, Memory>
-    ensures whole { IfOk args (λ args. IfOk result (λ words. words.items ≡ into_iter_items args)) }
-    ensures none { IfErr args (λ _. IfOk result (λ words. words.items ≡ [])) }
+    ensures { IfOk result (λ words. words.items ≡ words_in args) }
 {
     match args {
         Ok(args) => match collected(alloc, args) {
@@ -95,7 +94,7 @@ fn start<R: Threads + Sync, L: Ledger>(
     requires name { blank.name ≡ L.name }
     requires parts { blank.parts ≡ L.parts }
     requires some { 0 < blank.parts }
-    ensures { IsExit (exit_status result) }
+    ensures { Exits (exit_status result) (FitsWords (map string_bytes words.now) 4096) }
 {
     let mut files = RealFiles::new(host);
     let mut steps = Steps::<L>::new(blank);
@@ -111,13 +110,17 @@ fn start<R: Threads + Sync, L: Ledger>(
     last_code(told, out.finish())
 }
 
-// Runs the program with the words of its command line, and contexts of both kinds in turn.
-fn program<R: Threads + Sync>(rt: &R, host: HostRuntime) -> Result<ExitCode, Memory>
-    ensures { IfOk result (λ code. IsExit (exit_status code)) }
+// Runs the program with these words of its command line, and contexts of both kinds in turn.
+fn program<R: Threads + Sync>(
+    rt: &R,
+    host: HostRuntime,
+    words: &[String],
+) -> Result<ExitCode, Memory>
+    ensures { IfOk result
+        (λ code. Exits (exit_status code) (FitsWords (map string_bytes words.now) 4096)) }
 {
     let alloc = host.alloc();
-    let words = words_of(alloc, env::args(&host))?;
-    let out = RealSinks::new(host, is_live(&words))?;
+    let out = RealSinks::new(host, is_live(words))?;
     let mut crew: Vec<Box<dyn Actor + Send>> = Vec::new(alloc);
     for _pair in 0..PAIRS {
         crew.push(Box::new(alloc, PlainContext::new(alloc))?)?;
@@ -127,7 +130,7 @@ fn program<R: Threads + Sync>(rt: &R, host: HostRuntime) -> Result<ExitCode, Mem
     if !all_blank(crew.as_slice()) {
         return Err(Memory);
     }
-    Ok(start::<R, Brand>(rt, host, &words, out, &mut crew, Blank::new(1)))
+    Ok(start::<R, Brand>(rt, host, words, out, &mut crew, Blank::new(1)))
 }
 
 // Returns the exit code at the end, even if memory ran out before there was a call.
@@ -141,13 +144,16 @@ fn told(ended: Result<ExitCode, Memory>) -> ExitCode
     }
 }
 
-// Runs the whole program: `main` can have no contract.
-fn whole<R: Threads + Sync>(rt: &R, host: HostRuntime) -> ExitCode
-    ensures { IsExit (exit_status result) }
+// Runs the whole program with what the system gave as its words: `main` can have no contract.
+fn whole<R: Threads + Sync>(rt: &R, host: HostRuntime, args: io::Result<Args>) -> ExitCode
+    ensures { Exits (exit_status result) (FitsWords (map string_bytes (words_in args)) 4096) }
 {
-    told(program(rt, host))
+    match words_of(host.alloc(), args) {
+        Ok(words) => told(program(rt, host, words.as_slice())),
+        Err(Memory) => exit_code(Status::Memory),
+    }
 }
 
 fn main(rt: HostRuntime) -> ExitCode {
-    whole(&rt, rt)
+    whole(&rt, rt, env::args(&rt))
 }

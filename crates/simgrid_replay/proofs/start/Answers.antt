@@ -1,15 +1,19 @@
-use Rattle.std.proofs.Common.{◌≡◌, sym, subst, Ok, Err}
-use Rattle.std.specs.Prelude.{OnErr, OnOk}
+use Rattle.std.proofs.Common.{◌≡◌, ◌∙◌, ℕ, subst, refl, map, Ok, Err}
+use Rattle.std.specs.Prelude.{OnErr, OnOk, string_bytes}
 use Rattle.std.specs.Process.{exit_status}
 use Rattle.sg_base.specs.declared.status.Status.TheVariants as status
 use Rattle.sg_base.specs.Status.{status_code}
-use Rattle.simgrid_replay.specs.Exit.{IsExit}
+use Rattle.simgrid_replay.specs.Exit.{Exits, FitsWords}
+use Rattle.simgrid_replay.proofs.ExitLemmas.{call_fits, cut_fits}
 use Rattle.simgrid_replay.proofs.start.Goals as goal
 
 pub returns : goal.returns
 returns g c =
+    let words = map string_bytes c.args.words.now in
+    let told = c.exit_of-told.ensures in
+    let fits : FitsWords words 4096 told.0 = subst (λ (n : ℕ). FitsWords words n told.0) c.requires.contexts (call_fits _ _ _ _ _ _ _ _ _ _ _ _ told.0 told.2) in
     (elim c.finish.result as (λ finished. OnOk finished (exit_status c.last_code.result ≡ exit_status c.exit_of-told.result)
-    → OnErr finished (exit_status c.last_code.result ≡ status_code status.WriteFault) → IsExit (exit_status c.last_code.result)) [
-      | Ok done ↦ λ same failed. subst IsExit (sym same) (c.exit_of-told.ensures.cause.0, c.exit_of-told.ensures.cause.1, tt)
-      | Err why ↦ λ same failed. (status.WriteFault, failed, tt)
+    → OnErr finished (exit_status c.last_code.result ≡ status_code status.WriteFault) → Exits (exit_status c.last_code.result) (FitsWords words 4096)) [
+      | Ok done ↦ λ same failed. (told.0, same ∙ told.1, fits)
+      | Err why ↦ λ same failed. (status.WriteFault, failed, cut_fits words 4096 status.WriteFault refl (λ e. cc))
     ]) c.last_code.ensures.written c.last_code.ensures.failed

@@ -1,13 +1,21 @@
 use Rattle.simgrid_replay.proofs.exit.exit_of.Goals as goal
 
-pub returns-clause-output : goal.returns-clause-output
-returns-clause-output g c = λ job asks p d s gives. (c.simgrid.result, c.exit_code.ensures, c.simgrid.ensures.output job asks p d s gives)
-
-pub returns-clause-looks : goal.returns-clause-looks
-returns-clause-looks g c = λ job asks p d s gives. (c.simgrid.ensures.takes job asks p d s gives).counts
-
-pub returns-clause-refused : goal.returns-clause-refused
-returns-clause-refused g c = λ some. (c.simgrid.result, c.exit_code.ensures, (c.simgrid.ensures.refused some).told)
-
-pub returns-clause-cause : goal.returns-clause-cause
-returns-clause-cause g c = (c.simgrid.result, c.exit_code.ensures, c.simgrid.ensures.cause)
+pub returns : goal.returns
+returns g c =
+    let call = c.simgrid.ensures in (
+      c.simgrid.result,
+      c.exit_code.ensures,
+      record {
+        output = call.output;
+        takes = call.takes;
+        parts = call.parts;
+        seats = call.crew;
+        refused = call.refused;
+        invalid = call.words;
+        rest = call.rest;
+        unseated = call.unseated;
+        broken_text = call.broken_text;
+        front = call.front;
+        cause = call.cause;
+      },
+    )
