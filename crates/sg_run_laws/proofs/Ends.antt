@@ -1,6 +1,7 @@
 -- Each scheduling round and each time advance ends the run or adds an event, so that the run ends.
-use Rattle.std.proofs.Common.{◌≡◌, ◌≢◌, ℕ, zero, suc, ◌+◌, ◌<◌, ◌≤◌, Bool, true, false, true≢false, cond, Option, None, Some, is_some, refl, sym, ap, subst, ◌∙◌, arith}
+use Rattle.std.proofs.Common.{◌≡◌, ◌≢◌, ℕ, zero, suc, ◌+◌, ◌<◌, ◌≤◌, Bool, true, false, true≢false, cond, Option, None, Some, is_some, inl, inr, refl, sym, ap, subst, ◌∙◌, arith}
 use Rattle.std.specs.Prelude.{IsSome}
+use Rattle.std.proofs.lemmas.Bool.{cases_lt}
 use Rattle.sg_activity.specs.Underway.{work_of}
 use Rattle.sg_profile.specs.Ahead.{IsAhead}
 use Rattle.sg_profile.specs.Profiles.{AreProfiles, profiles_in}
@@ -211,6 +212,13 @@ module _ (run : Run) (is : IsPlatform run.platform) where
 
   parts_in_count : (parts : ℕ) → Counts (scene_in run) (first_in run) (parts_in parts run)
   parts_in_count parts = parts_count (scene_in run) run.answers (counts_of run.platform).hosts (counts_of run.platform).links are parts (first_in run) first_stands
+
+  -- each of them is an event
+  pub parts_few : (parts : ℕ) → (parts_in parts run).ended ≡ None → parts ≤ run.budget
+  parts_few parts on = elim (cases_lt run.budget parts) [
+    | inl more ↦ absurd (none_or_some (parts_in parts run).ended on (parts_end (scene_in run) run.answers (counts_of run.platform).hosts (counts_of run.platform).links are parts (first_in run) first_stands (omega (arith, more))))
+    | inr few ↦ few
+  ]
 
   whole_counts : Counts (scene_in run) (first_in run) (whole run)
   whole_counts = subst (Counts (scene_in run) (first_in run)) (sym whole_so) (parts_in_count (run.budget + 1))

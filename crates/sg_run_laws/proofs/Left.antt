@@ -1,5 +1,5 @@
 -- A run that ends by its budget does so where an event is next.
-use Rattle.std.proofs.Common.{◌≡◌, ◌≢◌, ◌⊎◌, ℕ, zero, suc, ◌+◌, ◌-◌, ◌<◌, ◌==◌, ◌&&◌, Bool, true, false, true≢false, cond, inl, inr, Option, None, Some, option_map, is_some, Result, Ok, Err, List, [], ◌∷◌, ◌++◌, length, get_or, take, refl, sym, ap, subst, ◌∙◌, arith}
+use Rattle.std.proofs.Common.{◌≡◌, ◌≢◌, ◌⊎◌, ℕ, zero, suc, ◌+◌, ◌-◌, ◌<◌, ◌==◌, ◌&&◌, Bool, true, false, cond, inl, inr, Option, None, Some, option_map, is_some, Result, Ok, Err, List, [], ◌∷◌, get_or, take, refl, sym, ap, subst, ◌∙◌, arith}
 use Rattle.std.specs.Prelude.{Contains, IsSome}
 use Rattle.std.specs.Option.{option_map_or}
 use Rattle.sg_base.specs.declared.call.Action.{Action}
@@ -8,15 +8,14 @@ use Rattle.sg_base.specs.declared.ids.ActorId.{ActorId}
 use Rattle.sg_activity.specs.Task.{Task, phase_after, task_at}
 use Rattle.sg_activity.specs.Underway.{Underway, due_in, hits, is_running, work_of}
 use Rattle.sg_profile.specs.declared.turn.Turn.{Turn}
-use Rattle.sg_profile.specs.Profiles.{AreProfiles, profiles_in, rows_due, turns_after_row}
+use Rattle.sg_profile.specs.Profiles.{AreProfiles, rows_due, turns_after_row}
 use Rattle.sg_profile.proofs.Ahead.{rows_are_left}
 use Rattle.sg_rows.specs.Platform.{IsPlatform, counts_of}
 use Rattle.sg_states.specs.Actors.{is_ended, is_unstarted}
 use Rattle.sg_owners.specs.declared.owners.How.TheVariants as how
 use Rattle.sg_calls.specs.declared.stop.Stop.{Stop}
 use Rattle.sg_calls.specs.declared.stop.Stop.TheVariants as stop
-use Rattle.sg_calls.specs.Answers.{finishes}
-use Rattle.sg_calls.specs.Calls.{answer_of_ask, answered, answered_call, told}
+use Rattle.sg_calls.specs.Calls.{answer_of_ask, answered, answered_call}
 use Rattle.sg_calls.specs.Lives.{created}
 use Rattle.sg_kernel.specs.Passes.{all_fail, changes, core_later, ends, ends_by, ends_in, ends_one, enters_one, entry_stretches, fails, fails_one, next_span, pass_at, pass_of, settled, stretches}
 use Rattle.sg_calls.specs.Steps.{Step, goes_on, stops, counted, follows, and_then, each, all_of, readied}
@@ -35,10 +34,10 @@ use Rattle.sg_engine.specs.Fuel.{parts_from}
 use Rattle.sg_engine.specs.Run.{Scene, Answering, Progress, and_then_by, answer_step, anyone_ready, are_completed, ask_step, at_world, calls_from, created_by, creates, ended_at, if_call, if_given, in_world, is_ask, is_given, one_call, other_call, round, round_or_pass, with_front}
 use Rattle.sg_engine.specs.Run as engine
 use Rattle.sg_actor_laws.proofs.Kept.{Closed, each_kept, either, finishes_kept, one_made, still}
-use Rattle.sg_await_laws.specs.Runs.{Run, calls_in, first_in, parts_in, round_to, run_to, scene_in, whole}
+use Rattle.sg_await_laws.specs.Runs.{Run, calls_in, first_in, parts_in, round_to, run_to, scene_in}
 use Rattle.sg_await_laws.proofs.Over.{anything}
-use Rattle.sg_run_laws.specs.Left.{BudgetsEndBeforeEvents, CallIsLeft, EventIsLeft, IsLeftIn, PassIsLeft, a_failure, all, an_end, an_entry, in_pass, in_round}
-use Rattle.sg_run_laws.proofs.Called.{Happens, Keeps, call_happens, counts, faults}
+use Rattle.sg_run_laws.specs.Left.{BudgetsEndBeforeEvents, EventIsLeft, IsLeftIn, a_failure, all, an_end, an_entry, in_pass, in_round}
+use Rattle.sg_run_laws.proofs.Called.{Happens, call_happens, counts, faults}
 use Rattle.sg_run_laws.proofs.Ends.{are, whole_so}
 use Rattle.sg_run_laws.proofs.Parts.{parts_in_follow}
 use Rattle.sg_run_laws.proofs.Rounds.{AllUp, all_up, rest_up, turned, turned_minds}

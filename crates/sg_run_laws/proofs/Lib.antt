@@ -7,3 +7,4 @@ pub mod Ends
 pub mod Used
 pub mod Given
 pub mod Left
+pub mod Anywhere

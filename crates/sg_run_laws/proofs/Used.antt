@@ -34,22 +34,23 @@ then_spent None first next e spent = absurd (cc (sym e ∙ spent))
 then_spent (Some how) first next e spent = spent
 
 module _ (at : Scene) (answers : Answering) where
-  one_spent : (actor : ℕ) (what : Call) (world : World) → world.core.events ≡ at.setup.budget → Spent (one_call at answers actor what world)
-  one_spent actor what world used = by (created_by what)
+  -- the call of an actor isn't begun
+  one_used : (actor : ℕ) (what : Call) (world : World) → world.core.events ≡ at.setup.budget → one_call at answers actor what world ≡ at_world (Some ended.Budget) world
+  one_used actor what world used = by (created_by what)
     where
       yes : (world.core.events == at.setup.budget) ≡ true
       yes = eq_yes world.core.events at.setup.budget used
 
-      other : (b : Bool) → Spent (cond b (ask_step at.setup answers actor world) (in_world world (answered at.roads at.setup world.core actor what)))
-      other true = ap (λ (b : Bool). (cond b (at_world (Some ended.Budget) world) (answer_step at.setup actor (answers actor (world.asks actor)) (record world { asks = one_more actor world.asks }))).ended) yes
-      other false = ap (λ (b : Bool). option_map ended_by (cond b (stops world.core [] stop.Budget) (answered_call at.roads at.setup world.core actor what)).stop) yes
+      other : (b : Bool) → cond b (ask_step at.setup answers actor world) (in_world world (answered at.roads at.setup world.core actor what)) ≡ at_world (Some ended.Budget) world
+      other true = ap (λ (b : Bool). cond b (at_world (Some ended.Budget) world) (answer_step at.setup actor (answers actor (world.asks actor)) (record world { asks = one_more actor world.asks }))) yes
+      other false = ap (λ (b : Bool). in_world world (cond b (stops world.core [] stop.Budget) (answered_call at.roads at.setup world.core actor what))) yes
 
-      by : (o : Option ActorId) → Spent (option_map_or (λ target. creates at.firsts at.setup.budget actor target world) o (other_call at answers actor what world))
+      by : (o : Option ActorId) → option_map_or (λ target. creates at.firsts at.setup.budget actor target world) o (other_call at answers actor what world) ≡ at_world (Some ended.Budget) world
       by None = other (at.script && is_ask what)
-      by (Some target) = ap (λ (b : Bool). (cond b (at_world (Some ended.Budget) world) (in_world (if_given (is_given target world) at.firsts target.0 world) (created (is_given target world) actor target world.core))).ended) yes
+      by (Some target) = ap (λ (b : Bool). cond b (at_world (Some ended.Budget) world) (in_world (if_given (is_given target world) at.firsts target.0 world) (created (is_given target world) actor target world.core))) yes
 
-  call_spent : (actor : ℕ) (what : Call) (world : World) → world.core.events ≡ at.setup.budget → is_ended (state_of world.core actor) ≡ false → Spent (if_call at answers actor (Some what) world)
-  call_spent actor what world used lives = ap (λ (b : Bool). (cond b (at_world None world) (one_call at answers actor what world)).ended) lives ∙ one_spent actor what world used
+  pub call_used : (actor : ℕ) (what : Call) (world : World) → world.core.events ≡ at.setup.budget → is_ended (state_of world.core actor) ≡ false → if_call at answers actor (Some what) world ≡ at_world (Some ended.Budget) world
+  call_used actor what world used lives = ap (λ (b : Bool). cond b (at_world None world) (one_call at answers actor what world)) lives ∙ one_used actor what world used
 
   calls_spent : (j actor : ℕ) (calls : List (Option Call)) (world : World) → 0 < actor → world.core.events ≡ at.setup.budget → AllLive actor calls world.core → IsSome (get_or calls j None) → Spent (calls_from at answers actor calls world)
   unfolding calls_from
@@ -58,7 +59,7 @@ module _ (at : Scene) (answers : Answering) where
   calls_spent (suc j) actor (None ∷ rest) world from used live some = calls_spent j (actor + 1) rest world (omega arith) used (λ k place is one. live (suc k) place (omega (arith, is, from)) one) some
   calls_spent j actor (Some what ∷ rest) world from used live some =
       let first = if_call at answers actor (Some what) world in
-      then_spent first.ended first (calls_from at answers (actor + 1) rest) refl (call_spent actor what world used (live 0 (actor - 1) (omega arith) refl))
+      then_spent first.ended first (calls_from at answers (actor + 1) rest) refl (ap (λ (p : Progress). p.ended) (call_used actor what world used (live 0 (actor - 1) (omega arith) refl)))
 
   pass_spent : (world : World) (o : Option ℕ) → next_span at.setup (settled world.core) ≡ o → IsSome o → world.core.events ≡ at.setup.budget → Spent (in_world (record world { work = world.work + work_of world.core.under }) (pass_of at.setup world.core))
   pass_spent world None e some used = absurd (cc some)

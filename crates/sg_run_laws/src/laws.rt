@@ -1,4 +1,5 @@
 //! Laws of whole runs.
+ghost use Rattle.sg_run_laws.specs.Anywhere.{UsedBudgetsEndAnywhere};
 ghost use Rattle.sg_run_laws.specs.Creating.{ContextsAreTaken, CreatesAreGiven};
 ghost use Rattle.sg_run_laws.specs.Ending.{BudgetsAreKept, MoreIsTheSame, PartsCount, RunsEnd, UsedBudgetsEnd};
 ghost use Rattle.sg_run_laws.specs.Left.{BudgetsEndBeforeEvents};
@@ -45,4 +46,11 @@ pub fn contexts_are_taken()
 /// time advance a profile entry of its date, a failure, or the end of a phase.
 pub fn budgets_end_before_events()
     ensures { BudgetsEndBeforeEvents }
+{}
+
+/// Where the count of events is the budget and an event is next, the run ends there by its budget, with what it has
+/// recorded until then: at each call of a scheduling round, and in a time advance at its start, and at each profile entry,
+/// failure and end of a phase.
+pub fn used_budgets_end_anywhere()
+    ensures { UsedBudgetsEndAnywhere }
 {}

@@ -7,5 +7,5 @@ mod laws;
 
 pub use laws::{
     budgets_are_kept, budgets_end_before_events, contexts_are_taken, creates_are_given,
-    more_is_the_same, parts_count, runs_end, used_budgets_end,
+    more_is_the_same, parts_count, runs_end, used_budgets_end, used_budgets_end_anywhere,
 };
