@@ -1,5 +1,5 @@
 -- What holds between the cores before and after each call and each time advance, with the records that they make, holds along runs.
-use Rattle.std.proofs.Common.{◌≡◌, ℕ, zero, suc, ◌+◌, ◌==◌, ◌&&◌, Bool, true, false, cond, List, [], ◌∷◌, ◌++◌, take, Option, None, Some, Result, Ok, Err, refl}
+use Rattle.std.proofs.Common.{ℕ, zero, suc, ◌+◌, ◌==◌, ◌&&◌, Bool, true, false, cond, List, [], ◌∷◌, take, Option, None, Some, Result, Ok, Err, refl}
 use Rattle.std.specs.Option.{option_map_or}
 use Rattle.sg_base.specs.declared.call.Action.{Action}
 use Rattle.sg_base.specs.declared.call.Call.{Call}
@@ -7,7 +7,7 @@ use Rattle.sg_base.specs.declared.ids.ActorId.{ActorId}
 use Rattle.sg_base.specs.declared.trace_record.Record.{Record}
 use Rattle.sg_activity.specs.Underway.{work_of}
 use Rattle.sg_states.specs.Actors.{is_ended}
-use Rattle.sg_calls.specs.Calls.{answered, told}
+use Rattle.sg_calls.specs.Calls.{answered}
 use Rattle.sg_calls.specs.Lives.{created}
 use Rattle.sg_kernel.specs.Passes.{pass_of}
 use Rattle.sg_calls.specs.World.{Core, state_of}

@@ -1,19 +1,18 @@
 -- An actor that has ended stays so to the end of the run.
-use Rattle.std.proofs.Common.{◌≡◌, ◌≤◌, ◌+◌, ◌-◌, ◌∙◌, ℕ, suc, false, true≢false, sym, ap, refl, List, arith}
+use Rattle.std.proofs.Common.{◌≡◌, ◌+◌, ◌-◌, ◌∙◌, ℕ, suc, false, true≢false, sym, ap, refl, List, arith}
 use Rattle.sg_base.specs.declared.awaits.Await.{Await}
 use Rattle.sg_requests.specs.Requested.{queue_at}
 use Rattle.sg_states.specs.Actors.{is_ended}
 use Rattle.sg_kernel.specs.Passes.{pass_of}
 use Rattle.sg_setup.specs.Setup.{Setup}
 use Rattle.sg_calls.specs.World.{Core, state_of}
-use Rattle.sg_engine.specs.Fuel.{parts_from}
-use Rattle.sg_engine.specs.Run.{Progress, Scene, then_unless_ended, run_from}
-use Rattle.sg_actor_laws.specs.Dead.{HasEnded, IsOfAnother}
+use Rattle.sg_engine.specs.Run.{Progress, Scene, run_from}
+use Rattle.sg_actor_laws.specs.Dead.{IsOfAnother}
 use Rattle.sg_actor_laws.proofs.Dead.{IsDead, answered_spares, dead_rests, told_spares}
 use Rattle.sg_actor_laws.proofs.Kept.{Kept, finishes_kept, pass_kept}
 use Rattle.sg_actor_laws.proofs.Others.{Apart, Stays, apart_fresh, closed, create_spares, flowing, same_state}
 use Rattle.sg_await_laws.specs.Runs.{Run, first_in, parts_in, round_to, run_to, scene_in}
-use Rattle.sg_change_laws.specs.Ended.{EndedActorsStayEnded, IsLater, StaysEnded, at_end, behind_round, in_round}
+use Rattle.sg_change_laws.specs.Ended.{EndedActorsStayEnded, IsLater, at_end, behind_round, in_round}
 use Rattle.sg_change_laws.proofs.Extended.{Extends, after_extends, part_extends, parts_extend, round_extends, round_to_extends, run_extends, then_extends}
 use Rattle.sg_change_laws.proofs.Parts.{Calling}
 

@@ -1,5 +1,5 @@
 -- What calls and time advances keep holds from any point of a run on, and so does what holds for each record that they make.
-use Rattle.std.proofs.Common.{◌≡◌, ◌<◌, ◌≤◌, ◌+◌, ◌||◌, ◌∙◌, ℕ, zero, suc, Bool, true, false, true≢false, cond, sym, ap, subst, refl, List, [], ◌∷◌, ◌++◌, append_assoc, append-nil, length, get_or, take, take_all, Option, None, Some, is_some, arith}
+use Rattle.std.proofs.Common.{◌≡◌, ◌≤◌, ◌+◌, ◌||◌, ◌∙◌, ℕ, zero, suc, Bool, true, false, true≢false, cond, sym, ap, subst, refl, List, [], ◌∷◌, ◌++◌, append_assoc, append-nil, length, get_or, take, take_all, Option, None, Some, arith}
 use Rattle.std.specs.Prelude.{IsSome}
 use Rattle.std.specs.List.{All, list_all, list_any}
 use Rattle.std.proofs.lemmas.Bool.{and_left, and_right}
@@ -10,7 +10,7 @@ use Rattle.sg_base.specs.declared.trace_record.Record.{Record}
 use Rattle.sg_states.specs.declared.state.Actor.{Actor}
 use Rattle.sg_states.specs.declared.state.State.{State}
 use Rattle.sg_states.specs.declared.state.State.TheVariants as state
-use Rattle.sg_states.specs.Actors.{is_alive, is_answered, is_over, is_ready}
+use Rattle.sg_states.specs.Actors.{is_over, is_ready}
 use Rattle.sg_kernel.specs.Passes.{pass_of}
 use Rattle.sg_calls.specs.World.{Core}
 use Rattle.sg_engine.specs.World.{World}
@@ -96,7 +96,7 @@ silent_calls at answers (suc n) actor [] world none = refl
 silent_calls at answers (suc n) actor (None ∷ rest) world none = ap (with_front []) (silent_calls at answers n (actor + 1) rest world (λ j. none (suc j)))
 silent_calls at answers (suc n) actor (Some what ∷ rest) world none = absurd (none 0 refl)
 
-front_then : (front : List Record) (first : Progress) (next : World → Progress) → then_unless_ended (with_front front first) next ≡ with_front front (then_unless_ended first next)
+pub front_then : (front : List Record) (first : Progress) (next : World → Progress) → then_unless_ended (with_front front first) next ≡ with_front front (then_unless_ended first next)
 front_then front first next = by first.ended
   where
     by : (how : Option Ended) → and_then_by how (with_front front first) next ≡ with_front front (and_then_by how first next)

@@ -19,3 +19,6 @@ pub mod Rising
 pub mod Along
 pub mod Answers
 pub mod Once
+pub mod Calling
+pub mod Failing
+pub mod Spares

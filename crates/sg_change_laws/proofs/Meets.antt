@@ -40,7 +40,7 @@ use Rattle.sg_change_laws.proofs.CalledParts.{found_passes, other_kind}
 use Rattle.sg_change_laws.proofs.Tracked.{blocked_within}
 
 -- ---- the call leads to a meeting that fails
-comes_fails : (roads : Roads) (setup : Setup) (comer : Comer) (core : Core) (post : Post) → partner comer.sends (posts_at comer.mailbox core) ≡ Some post → side_fails (Some comer) roads setup core ≡ true → comes roads setup comer core ≡ fails_with comer post.serial post.side (counted core)
+pub comes_fails : (roads : Roads) (setup : Setup) (comer : Comer) (core : Core) (post : Post) → partner comer.sends (posts_at comer.mailbox core) ≡ Some post → side_fails (Some comer) roads setup core ≡ true → comes roads setup comer core ≡ fails_with comer post.serial post.side (counted core)
 comes_fails roads setup comer core post e fails =
     ap (λ o. comes_by o roads setup comer core) e ∙ route (route_between roads setup (sender_of comer post.side) (receiver_of comer post.side)) (sym (ap (λ o. meeting_fails o roads setup comer core) e) ∙ fails)
   where
@@ -115,10 +115,10 @@ module _ (core : Core) (actor : ℕ) (post : Post) (since : ℕ) (called : Call)
       (sym (replies post.serial.0 party.Sender post.side over refl blocked of kind)) (record { made = refl; goes_on = refl; other = ready_last answer.Done; caller = caller_last answer.Done; over = has_failed there })
 
 -- ---- any such call
-answered_is : (roads : Roads) (setup : Setup) (core : Core) (actor : ℕ) (what : Call) → core.events ≢ setup.budget → answered roads setup core actor what ≡ answered_call roads setup core actor what
+pub answered_is : (roads : Roads) (setup : Setup) (core : Core) (actor : ℕ) (what : Call) → core.events ≢ setup.budget → answered roads setup core actor what ≡ answered_call roads setup core actor what
 answered_is roads setup core actor what left = cond-false (core.events == setup.budget) (stops core [] Budget) (answered_call roads setup core actor what) (eq_no core.events setup.budget left)
 
-place_is : (comer : Comer) (core : Core) (post : Post) → partner comer.sends (posts_at comer.mailbox core) ≡ Some post → post.serial.0 - 1 < length core.whose
+pub place_is : (comer : Comer) (core : Core) (post : Post) → partner comer.sends (posts_at comer.mailbox core) ≡ Some post → post.serial.0 - 1 < length core.whose
 place_is comer core post e = (let found = found_post (is_other comer.sends) comer.mailbox 1 core.whose post e in omega (arith, found.from, found.to))
 
 kind_is : (comer : Comer) (core : Core) (post : Post) → partner comer.sends (posts_at comer.mailbox core) ≡ Some post → post.sends ≡ not comer.sends

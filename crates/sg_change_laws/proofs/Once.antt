@@ -1,5 +1,5 @@
 -- No actor has two records in one step.
-use Rattle.std.proofs.Common.{◌≡◌, ◌≢◌, ℕ, ◌+◌, ◌-◌, ◌==◌, Bool, true, false, true≢false, cond, Option, None, Some, is_some, List, [], ◌∷◌, ◌++◌, get_or, refl, sym, ap, ◌∙◌}
+use Rattle.std.proofs.Common.{◌≡◌, ◌≢◌, ℕ, ◌-◌, ◌==◌, Bool, true, false, true≢false, cond, Option, None, Some, is_some, List, [], ◌∷◌, ◌++◌, get_or, refl, sym, ap, ◌∙◌}
 use Rattle.std.specs.List.{All}
 use Rattle.std.proofs.lemmas.List.Elements.{All-nil, All-cons, All-append, All-head, All-tail}
 use Rattle.sg_base.specs.declared.call.Answer.{Answer}
@@ -7,7 +7,6 @@ use Rattle.sg_base.specs.declared.call.Answer.TheVariants as answer
 use Rattle.sg_base.specs.declared.call.Call.TheVariants as call
 use Rattle.sg_base.specs.declared.ids.ActorId.{ActorId}
 use Rattle.sg_base.specs.declared.trace_record.Record.{Record}
-use Rattle.sg_route.specs.Roads.{Roads}
 use Rattle.sg_states.specs.declared.state.Actor.{Actor}
 use Rattle.sg_states.specs.declared.state.Blocking.{Blocking}
 use Rattle.sg_states.specs.declared.state.State.{State}
@@ -15,13 +14,11 @@ use Rattle.sg_states.specs.declared.state.State.TheVariants.{Ready, Ended}
 use Rattle.sg_states.specs.Actors.{actor_at, blocking_in, is_alive, not_suspended, put_state, state_at}
 use Rattle.sg_states.specs.Records.{record_of}
 use Rattle.sg_calls.specs.declared.stop.Stop.TheVariants.{Budget}
-use Rattle.sg_calls.specs.Calls.{answered}
-use Rattle.sg_calls.specs.Kills.{awaited, gives_up, kill_done, kill_stretches, kills, kills_alive, withdrawn}
+use Rattle.sg_calls.specs.Kills.{awaited, gives_up, kill_stretches, kills, kills_alive, withdrawn}
 use Rattle.sg_calls.specs.Lives.{exits, with_actor_ended}
 use Rattle.sg_calls.specs.Locks.{joiners_wake}
 use Rattle.sg_calls.specs.Steps.{Step, all_of, and_then, at_once, counted, each, goes_on, readied, stops}
 use Rattle.sg_calls.specs.World.{Core, state_of}
-use Rattle.sg_setup.specs.Setup.{Setup}
 use Rattle.sg_failure_laws.proofs.Between.{Between, each_so, give_up_so, joiners_so, more_so, none_so, pass_so}
 use Rattle.sg_failure_laws.proofs.Passed.{put_there}
 use Rattle.sg_change_laws.specs.Once.{NobodyHasTwoRecords, HaveOneEach}

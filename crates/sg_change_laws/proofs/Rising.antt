@@ -1,22 +1,21 @@
 -- In which order a time advance makes its records.
-use Rattle.std.proofs.Common.{◌≡◌, ℕ, zero, suc, ◌+◌, ◌-◌, ◌<◌, ◌≤◌, ◌==◌, Bool, true, false, cond, Option, None, Some, List, [], ◌∷◌, ◌++◌, append_assoc, append-nil, length, get_or, map, replicate, refl, sym, ap, subst, ◌∙◌, arith}
+use Rattle.std.proofs.Common.{◌≡◌, ℕ, zero, suc, ◌+◌, ◌≤◌, ◌==◌, Bool, true, false, cond, Option, None, Some, List, [], ◌∷◌, ◌++◌, append_assoc, append-nil, length, refl, sym, ap, subst, ◌∙◌, arith}
 use Rattle.std.specs.List.{All}
-use Rattle.std.proofs.lemmas.List.{length-replicate}
 use Rattle.std.proofs.lemmas.List.Elements.{All-nil, All-cons, All-append, All-head, All-tail}
 use Rattle.sg_base.specs.declared.trace_record.Record.{Record}
 use Rattle.sg_lives.specs.Slots.{is_over_after, passes, serials}
 use Rattle.sg_activity.specs.Task.{Task, is_hit, phase_after, task_at}
 use Rattle.sg_activity.specs.Underway.{due_in, hits, wait_in}
-use Rattle.sg_profile.specs.Profiles.{entry_at, rows_due}
+use Rattle.sg_profile.specs.Profiles.{rows_due}
 use Rattle.sg_owners.specs.declared.owners.How.{How}
 use Rattle.sg_owners.specs.declared.owners.How.TheVariants as how
 use Rattle.sg_calls.specs.declared.stop.Stop.{Stop}
 use Rattle.sg_calls.specs.declared.stop.Stop.TheVariants.{Budget}
 use Rattle.sg_calls.specs.Answers.{finishes}
-use Rattle.sg_calls.specs.Steps.{Step, all_of, and_then, counted, each, follows, goes_on, stops}
+use Rattle.sg_calls.specs.Steps.{Step, all_of, and_then, counted, each, follows, stops}
 use Rattle.sg_calls.specs.World.{Core}
 use Rattle.sg_calls.proofs.Each.{all_of-two}
-use Rattle.sg_kernel.specs.Passes.{all_fail, changes, core_later, ends, ends_by, ends_in, ends_one, enters_one, entry_stretches, fails, fails_one, next_span, pass_at, pass_of, settled, stretches}
+use Rattle.sg_kernel.specs.Passes.{all_fail, changes, core_later, ends, ends_by, ends_in, ends_one, enters_one, entry_stretches, fails, fails_one, pass_at, settled, stretches}
 use Rattle.sg_setup.specs.Setup.{Setup}
 use Rattle.sg_actor_laws.proofs.Kept.{Kept, either, each_kept, finishes_kept, still}
 use Rattle.sg_await_laws.proofs.Over.{anything}

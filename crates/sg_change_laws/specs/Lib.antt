@@ -9,3 +9,5 @@ pub mod Ended
 pub mod Rising
 pub mod Answers
 pub mod Once
+pub mod Failing
+pub mod Spares

@@ -1,5 +1,5 @@
 -- If a communication fails in a call, both endpoints get a record.
-use Rattle.std.specs.Prelude.{◌≡◌, ◌≢◌, ℕ, ◌-◌, Bool, true, false, None, Some, if◌then◌else◌, [], ◌∷◌}
+use Rattle.std.specs.Prelude.{◌≡◌, ◌≢◌, ℕ, ◌-◌, Bool, true, false, None, Some, if◌then◌else◌, List, [], ◌∷◌}
 use Rattle.sg_base.specs.declared.awaits.Await.{Await}
 use Rattle.sg_base.specs.declared.call.Answer.{Answer}
 use Rattle.sg_base.specs.declared.call.Answer.TheVariants as answer
@@ -47,10 +47,15 @@ abbrev pub other_record : Core → Comer → Post → ℕ → Call → Record
 other_record core comer post since called =
     record_of post.side.actor.0 called since (if tells_bytes called then (sender_of comer post.side).bytes else 0) answer.Failed core.under.date
 
+-- the records of both, that of the sender first
+abbrev pub both_records : Core → ℕ → Call → Comer → Post → ℕ → Call → List Record
+both_records core actor what comer post since called =
+    if comer.sends then comer_record core actor what comer post ∷ other_record core comer post since called ∷ []
+    else other_record core comer post since called ∷ comer_record core actor what comer post ∷ []
+
 -- both have a record, the sender first, and an answer; and their communication has failed
 pub record TellsBoth (core : Core) (actor : ℕ) (what : Call) (comer : Comer) (post : Post) (since : ℕ) (called : Call) (step : Step) : Type 0 where
-  pub made : step.made ≡ (if comer.sends then comer_record core actor what comer post ∷ other_record core comer post since called ∷ []
-      else other_record core comer post since called ∷ comer_record core actor what comer post ∷ [])
+  pub made : step.made ≡ both_records core actor what comer post since called
   pub goes_on : step.stop ≡ None
   pub other : state_of step.core post.side.actor.0 ≡ Ready answer.Failed
   pub caller : MayCall core actor → state_of step.core actor ≡ Ready (comer_answer comer.waits)

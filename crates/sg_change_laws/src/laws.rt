@@ -2,12 +2,14 @@
 ghost use Rattle.sg_change_laws.specs.Answers.{FailedAnswersHaveRecordsInRuns};
 ghost use Rattle.sg_change_laws.specs.Ended.{EndedActorsStayEnded};
 ghost use Rattle.sg_change_laws.specs.Energy.{EnergyIsSum};
+ghost use Rattle.sg_change_laws.specs.Failing.{KillsFailWhatIsAwaitedInRuns, MeetingsTellBothInRuns, TimeAdvancesFailWhatIsOffInRuns};
 ghost use Rattle.sg_change_laws.specs.Failures.{NoOtherFailsInRuns, NothingOffIsUsedInRuns};
 ghost use Rattle.sg_change_laws.specs.Meets.{MeetingsTellBoth};
 ghost use Rattle.sg_change_laws.specs.Once.{NobodyHasTwoRecords};
 ghost use Rattle.sg_change_laws.specs.Order.{ExitsTellJoiners, KillsTellInOrder};
 ghost use Rattle.sg_change_laws.specs.Queues.{KilledWaitNowhere};
 ghost use Rattle.sg_change_laws.specs.Rising.{TimeAdvancesRecordBySerial};
+ghost use Rattle.sg_change_laws.specs.Spares.{OtherCallsEndNothing};
 ghost use Rattle.sg_change_laws.specs.Theirs.{AwaitedAreDrawn, NobodyWaitsForOver};
 ghost use Rattle.sg_change_laws.specs.Told.{KillsReach, PassesAnswer};
 
@@ -96,4 +98,28 @@ pub fn failed_answers_have_records_in_runs()
 /// then those of the activities that complete, by rising id too.
 pub fn time_advances_record_by_serial()
     ensures { TimeAdvancesRecordBySerial }
+{}
+
+/// In a run each time advance fails the activities that use a host or a link that is off after a profile entry of its
+/// date, and completes those of which the last phase completes then, and ends no other; if the budget ends the run there,
+/// some may be left.
+pub fn time_advances_fail_what_is_off_in_runs()
+    ensures { TimeAdvancesFailWhatIsOffInRuns }
+{}
+
+/// Each kill in a run fails the activities that the killed actor awaited and that had not ended, and no other.
+pub fn kills_fail_what_is_awaited_in_runs()
+    ensures { KillsFailWhatIsAwaitedInRuns }
+{}
+
+/// If in a run an arriving endpoint matches another and the way between them is cut, their communication has failed, and
+/// no other activity; if the other's actor is blocked on it, both have a record, the sender first, and their answers.
+pub fn meetings_tell_both_in_runs()
+    ensures { MeetingsTellBothInRuns }
+{}
+
+/// No call ends an activity, except the kill of an actor that is alive and a match whose way is cut; nor does a create or
+/// the fetch of a line.
+pub fn other_calls_end_nothing()
+    ensures { OtherCallsEndNothing }
 {}
