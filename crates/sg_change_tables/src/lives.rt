@@ -91,6 +91,18 @@ out [h2:p1:(2) 0.000000000] create p2 refused
 out [h1:p2:(3) 1.000000000] sleep 1.000000000
 out Simulation time 1.000000000
 ends 0
+-- Two contexts are left: a create that is refused takes none, and any other takes one.
+job simgrid_replay replay p d s
+over LINE
+deployment actor = [{name = 'p0', host = 'h1', function = 'replay'}, %1%4%{name = 'p#', host = 'h2', function = 'replay', start = false}, %]
+crew both 3
+script p0 create p0 | p0 create p1 | p0 create p2 | p0 create p3
+out [h1:p0:(1) 0.000000000] create p0 refused
+out [h1:p0:(1) 0.000000000] create p1 0.000000000
+out [h1:p0:(1) 0.000000000] create p2 0.000000000
+out [h1:p0:(1) 0.000000000] create p3 refused
+out Simulation time 0.000000000
+ends 0
 -- The execution of a suspended actor is held.
 job simgrid_replay replay p d s
 over LINE TWO
