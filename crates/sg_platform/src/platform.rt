@@ -180,8 +180,7 @@ fn read_ways(
 ) -> Result<(Vec<LinkRow>, Routes), sg_base::Memory>
     requires { length (links_of (table_view tree.old)) ≤ 65536 }
     ensures links { IfOk result (λ made. made.0.items ≡ links_of (table_view tree.old)) }
-    ensures routes { IfOk result
-        (λ made. made.1.routes.items
+    ensures routes { IfOk result (λ made. made.1.routes.items
         ≡ map (route_row (names_view names.now)) (rows_at (codes "route") (table_view tree.old))) }
     ensures zone_routes { IfOk result
         (λ made. made.1.zone_routes.items

@@ -110,7 +110,8 @@ fn push_locked<const N: usize>(
     requires mutex { IsMutexIn (extent_of deployment.now) mutex }
     requires word { length word.now ≤ 8 }
     requires room { HasRoom N lines.old 112 }
-    ensures bytes { lines.new.bytes ≡ lines.old.bytes ++ (word.now ++ mutex_id deployment.now mutex) }
+    ensures bytes { lines.new.bytes
+        ≡ lines.old.bytes ++ (word.now ++ mutex_id deployment.now mutex) }
     ensures len { GrowsBy lines.old lines.new 72 }
 {
     lines.push_str(word);

@@ -26,7 +26,8 @@ pub fn push_line<const N: usize>(
     requires answered { IsOfDeployment deployment.now answered.now }
     requires deployed { IsDeployedOn platform.now deployment.now }
     requires room { HasRoom N lines.old 512 }
-    ensures { lines.new.bytes ≡ lines.old.bytes ++ line_of answered.now platform.now deployment.now }
+    ensures { lines.new.bytes
+        ≡ lines.old.bytes ++ line_of answered.now platform.now deployment.now }
 {
     lines.push_str("[");
     push_actor(lines, platform, deployment, answered.actor);
@@ -91,7 +92,8 @@ fn push_last<const N: usize>(
     requires last { IsLastOf platform.now deployment.now last }
     requires deployed { IsDeployedOn platform.now deployment.now }
     requires room { HasRoom N lines.old 312 }
-    ensures bytes { lines.new.bytes ≡ lines.old.bytes ++ last_text last platform.now deployment.now }
+    ensures bytes { lines.new.bytes
+        ≡ lines.old.bytes ++ last_text last platform.now deployment.now }
     ensures len { GrowsBy lines.old lines.new 260 }
 {
     match last {

@@ -15,7 +15,8 @@ fn push_pointed<const N: usize>(text: &mut ArrayString<N>, digits: &str)
     requires long { 9 ≤ length digits.now }
     requires room { array_string_len text.old + length digits.now + 1 ≤ N }
     ensures { text.new.bytes ≡ text.old.bytes
-        ++ (take (length digits.now - 9) digits.now ++ 46 ∷ drop (length digits.now - 9) digits.now) }
+        ++ (take (length digits.now - 9) digits.now
+        ++ 46 ∷ drop (length digits.now - 9) digits.now) }
 {
     let point = digits.len() - 9;
     text.push_str(&digits[..point]);
