@@ -1,10 +1,3 @@
-pub mod Called
-pub mod Passed
-pub mod Stretches
-pub mod Rounds
-pub mod Parts
-pub mod Ends
-pub mod Used
-pub mod Given
-pub mod Left
-pub mod Anywhere
+pub mod await_lemmas
+pub mod ending_lemmas
+pub mod change_lemmas

@@ -1,4 +1,3 @@
-pub mod Ending
-pub mod Creating
-pub mod Left
-pub mod Anywhere
+pub mod awaits
+pub mod endings
+pub mod changes

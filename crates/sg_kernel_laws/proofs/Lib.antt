@@ -1,0 +1,2 @@
+pub mod actor_lemmas
+pub mod failure_lemmas

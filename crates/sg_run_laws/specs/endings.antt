@@ -1,0 +1,4 @@
+pub mod Ending
+pub mod Creating
+pub mod Left
+pub mod Anywhere
