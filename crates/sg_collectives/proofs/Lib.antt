@@ -6,3 +6,7 @@ pub mod MemberLemmas
 pub mod Others
 pub mod Places
 pub mod TreeLemmas
+pub mod Folded
+pub mod Messages
+pub mod Pairs
+pub mod Turns

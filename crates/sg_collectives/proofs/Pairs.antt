@@ -10,9 +10,9 @@ use Rattle.sg_collectives.specs.declared.step.Step.TheVariants.{IRecv, ISend, Wa
 use Rattle.sg_collectives.specs.Expansion.{alltoall}
 use Rattle.sg_collectives.proofs.Matching.{over, under}
 use Rattle.sg_collectives.proofs.Ranges.{count_by-map}
-use Rattle.sg_member_laws.specs.Laws.{AlltoallJoinsEachPair}
-use Rattle.sg_member_laws.specs.Messages.{Exchanges, receiver_in, receivers, sender_in, senders}
-use Rattle.sg_member_laws.proofs.Messages.{all_told, empty_behind, none_told, waits_tell_none}
+use Rattle.sg_collectives.specs.Together.{AlltoallJoinsEachPair}
+use Rattle.sg_collectives.specs.Messages.{Exchanges, receiver_in, receivers, sender_in, senders}
+use Rattle.sg_collectives.proofs.Messages.{all_told, empty_behind, none_told, waits_tell_none}
 
 -- the members after a rank, and those before it
 ahead : ℕ → ℕ → ℕ → ℕ

@@ -1,5 +1,5 @@
 //! Laws of what members do together.
-ghost use Rattle.sg_member_laws.specs.Laws.{AllreduceIsBoth, AlltoallJoinsEachPair, BcastReachesEachOnce, ReduceTakesEachOnce};
+ghost use Rattle.sg_collectives.specs.Together.{AllreduceIsBoth, AlltoallJoinsEachPair, BcastReachesEachOnce, ReduceTakesEachOnce};
 
 /// In a bcast each member except that of rank 0 receives once, from one of a lower rank, and sends on after that alone; all
 /// have the bytes after so many turns as it takes to double 1 until it is the number of members.

@@ -6,10 +6,10 @@ use Rattle.std.proofs.lemmas.List.Elements.{filter_map-append}
 use Rattle.sg_collectives.specs.declared.step.Step.TheVariants.{Recv, Send, Compute}
 use Rattle.sg_collectives.specs.Expansion.{from_children, reduce, to_parent}
 use Rattle.sg_collectives.specs.Tree.{children, parent_rank}
-use Rattle.sg_member_laws.specs.Laws.{ReduceTakesEachOnce}
-use Rattle.sg_member_laws.specs.Messages.{FoldsIn, receiver_in, receivers, sender_in, senders}
-use Rattle.sg_member_laws.proofs.Messages.{empty_behind, first_told, map-cond, neither_told, one_silent, one_told}
-use Rattle.sg_member_laws.proofs.Turns.{bcast_receivers, none_above, one_above, parent_below}
+use Rattle.sg_collectives.specs.Together.{ReduceTakesEachOnce}
+use Rattle.sg_collectives.specs.Messages.{FoldsIn, receiver_in, receivers, sender_in, senders}
+use Rattle.sg_collectives.proofs.Messages.{empty_behind, first_told, map-cond, neither_told, one_silent, one_told}
+use Rattle.sg_collectives.proofs.Turns.{bcast_receivers, none_above, one_above, parent_below}
 
 reduce_senders : (bytes flops rank members : ℕ) → senders (reduce bytes flops rank members) ≡ children rank members
 unfolding reduce from_children

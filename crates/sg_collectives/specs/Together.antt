@@ -3,7 +3,7 @@ use Rattle.std.specs.Prelude.{◌≡◌, ◌≢◌, ℕ, ◌<◌, ◌≤◌, ◌
 use Rattle.sg_collectives.specs.declared.collective.Collective.{Collective}
 use Rattle.sg_collectives.specs.declared.collective.Collective.TheVariants.{Bcast, Reduce, Allreduce, Alltoall}
 use Rattle.sg_collectives.specs.Expansion.{expansion}
-use Rattle.sg_member_laws.specs.Messages.{senders, receivers, HandsOn, FoldsIn, Exchanges, HasBytes}
+use Rattle.sg_collectives.specs.Messages.{senders, receivers, HandsOn, FoldsIn, Exchanges, HasBytes}
 
 abbrev pub senders_to : Collective → ℕ → ℕ → List ℕ
 senders_to collective members rank = senders (expansion collective rank members)

@@ -13,9 +13,9 @@ use Rattle.sg_collectives.specs.Expansion.{bcast, from_parent, to_children}
 use Rattle.sg_collectives.specs.Tree.{children, doubling_from, parent_rank}
 use Rattle.sg_collectives.proofs.Powers.{IsOddTimes, below_power, even_below_odd, exponent_less, lowest_within, odd_part, power_within}
 use Rattle.sg_collectives.proofs.TreeLemmas.{IsCounted, children_counted, counted_more, counted_none}
-use Rattle.sg_member_laws.specs.Laws.{BcastReachesEachOnce, receivers_from}
-use Rattle.sg_member_laws.specs.Messages.{HandsOn, HasBytes, begins, receiver_in, receivers, sender_in, senders, sent}
-use Rattle.sg_member_laws.proofs.Messages.{all_told, empty_behind, map-cond, none_told, one_silent, one_told}
+use Rattle.sg_collectives.specs.Together.{BcastReachesEachOnce, receivers_from}
+use Rattle.sg_collectives.specs.Messages.{HandsOn, HasBytes, begins, receiver_in, receivers, sender_in, senders, sent}
+use Rattle.sg_collectives.proofs.Messages.{all_told, empty_behind, map-cond, none_told, one_silent, one_told}
 
 -- ---- who sends to whom
 pub bcast_senders : (bytes rank members : ℕ) → senders (bcast bytes rank members) ≡ cond (ltb 0 rank) (parent_rank rank ∷ []) []

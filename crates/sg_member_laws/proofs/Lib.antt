@@ -1,4 +1,0 @@
-pub mod Folded
-pub mod Messages
-pub mod Pairs
-pub mod Turns
