@@ -2,4 +2,5 @@ pub mod EndsBelow
 pub mod MemberIds
 pub mod Networks
 pub mod RowsBelow
+pub mod SlotLemmas
 pub mod WayBack

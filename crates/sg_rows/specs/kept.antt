@@ -1,2 +1,3 @@
 -- How rows are kept.
 pub mod Finds
+pub mod Slots
