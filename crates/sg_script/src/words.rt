@@ -7,11 +7,12 @@ ghost use Rattle.sg_script.specs.kept.Arguments.{AreArguments};
 
 use crate::fault::LineFault;
 
-// Returns the place of the first blank.
+// Returns the place of the first blank. Most bytes are above both blanks, and need one comparison.
 fn blank_at(text: &[u8]) -> Option<usize>
     ensures { result ≡ position is_blank text.now }
 {
-    text.iter().position(|b| *b == b' ' || *b == b'\t')
+    text.iter()
+        .position(|b| *b <= b' ' && (*b == b' ' || *b == b'\t'))
 }
 
 // Returns what stands before the first blank and after it.
