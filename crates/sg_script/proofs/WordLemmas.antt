@@ -1,7 +1,11 @@
 -- The first word of a text.
-use Rattle.std.proofs.Common.{◌≡◌, ◌<◌, ◌∙◌, ap, ℕ, List, [], ◌∷◌, length, arith}
-use Rattle.std.specs.Prelude.{Bool, filter, nat_lt}
-use Rattle.std.specs.List.{slice_split}
+use Rattle.std.proofs.Common.{◌≡◌, ◌≢◌, ◌<◌, ◌∙◌, ap, sym, ℕ, false, List, [], ◌∷◌, length, arith}
+use Rattle.std.specs.Prelude.{Bool, bytes_eq, filter, nat_eq, nat_lt}
+use Rattle.std.specs.Cmp.Lexicographic.{pointwise}
+use Rattle.std.specs.List.{slice_split, starts_with}
+use Rattle.std.proofs.lemmas.Bool.{false_from_ne_true}
+use Rattle.std.proofs.lemmas.List.{take_all}
+use Rattle.std.proofs.lemmas.Slice.Eq.{bytes_eq-Decides}
 use Rattle.std.proofs.lemmas.Bool.Decides.{nat_tests}
 use Rattle.sg_script.specs.Words.{words, is_blank}
 
@@ -21,3 +25,10 @@ words_whole text some e = ap (filter is_some_word) e ∙ kept text [] some
 
 pub words_lead : (text more : List ℕ) → slice_split is_blank text ≡ [] ∷ slice_split is_blank more → words text ≡ words more
 words_lead text more e = ap (filter is_some_word) e
+
+-- ---- two words
+pub same_word : (word verb : List ℕ) → length word ≡ length verb → starts_with nat_eq word verb ≡ bytes_eq verb word
+same_word word verb e = ap (pointwise nat_eq verb) (take_all (length verb) word (omega (arith, e)))
+
+pub other_length : (word verb : List ℕ) → length word ≢ length verb → bytes_eq verb word ≡ false
+other_length word verb other = false_from_ne_true (bytes_eq verb word) (λ same. other (ap length (sym ((bytes_eq-Decides verb word).0 same))))

@@ -1,5 +1,5 @@
 //! The actions of a script by their words.
-ghost use Rattle.std.specs.Prelude.{◌≡◌};
+ghost use Rattle.std.specs.Prelude.{◌≡◌, bytes_eq};
 ghost use Rattle.sg_script.specs.Verbs.{verb_of};
 ghost use Rattle.sg_script.specs.kept.RarerVerbs.{rarer_verb_of};
 
@@ -30,43 +30,51 @@ pub enum Verb {
     Alltoall,
 }
 
-// The length of each word is known when it is compared, so that most differ by their lengths alone.
+// Returns whether a word is that of a verb. Where the verb is constant, this makes no call; `==` makes one at a word of
+// four bytes or more.
+#[inline(always)]
+#[tactic(auto, using(crate::proofs::WordLemmas::same_word, crate::proofs::WordLemmas::other_length))]
+fn is_verb(word: &[u8], verb: &[u8]) -> bool
+    ensures { result ≡ bytes_eq verb.now word.now }
+{
+    word.len() == verb.len() && word.starts_with(verb)
+}
 
 // Returns the action of a word that is none of the usual ones.
 fn read_rarer_verb(word: &[u8]) -> Option<Verb>
     ensures { result ≡ rarer_verb_of word.now }
 {
-    if b"acquire".as_slice() == word {
+    if is_verb(word, b"acquire") {
         return Some(Verb::Acquire);
     }
-    if b"release".as_slice() == word {
+    if is_verb(word, b"release") {
         return Some(Verb::Release);
     }
-    if b"create".as_slice() == word {
+    if is_verb(word, b"create") {
         return Some(Verb::Create);
     }
-    if b"join".as_slice() == word {
+    if is_verb(word, b"join") {
         return Some(Verb::Join);
     }
-    if b"kill".as_slice() == word {
+    if is_verb(word, b"kill") {
         return Some(Verb::Kill);
     }
-    if b"suspend".as_slice() == word {
+    if is_verb(word, b"suspend") {
         return Some(Verb::Suspend);
     }
-    if b"resume".as_slice() == word {
+    if is_verb(word, b"resume") {
         return Some(Verb::Resume);
     }
-    if b"bcast".as_slice() == word {
+    if is_verb(word, b"bcast") {
         return Some(Verb::Bcast);
     }
-    if b"reduce".as_slice() == word {
+    if is_verb(word, b"reduce") {
         return Some(Verb::Reduce);
     }
-    if b"allreduce".as_slice() == word {
+    if is_verb(word, b"allreduce") {
         return Some(Verb::Allreduce);
     }
-    if b"alltoall".as_slice() == word {
+    if is_verb(word, b"alltoall") {
         return Some(Verb::Alltoall);
     }
     None
@@ -76,37 +84,37 @@ fn read_rarer_verb(word: &[u8]) -> Option<Verb>
 pub fn read_verb(word: &[u8]) -> Option<Verb>
     ensures { result ≡ verb_of word.now }
 {
-    if b"compute".as_slice() == word {
+    if is_verb(word, b"compute") {
         return Some(Verb::Compute);
     }
-    if b"sleep".as_slice() == word {
+    if is_verb(word, b"sleep") {
         return Some(Verb::Sleep);
     }
-    if b"send".as_slice() == word {
+    if is_verb(word, b"send") {
         return Some(Verb::Send);
     }
-    if b"isend".as_slice() == word {
+    if is_verb(word, b"isend") {
         return Some(Verb::ISend);
     }
-    if b"recv".as_slice() == word {
+    if is_verb(word, b"recv") {
         return Some(Verb::Recv);
     }
-    if b"irecv".as_slice() == word {
+    if is_verb(word, b"irecv") {
         return Some(Verb::IRecv);
     }
-    if b"wait".as_slice() == word {
+    if is_verb(word, b"wait") {
         return Some(Verb::Wait);
     }
-    if b"barrier".as_slice() == word {
+    if is_verb(word, b"barrier") {
         return Some(Verb::Barrier);
     }
-    if b"yield".as_slice() == word {
+    if is_verb(word, b"yield") {
         return Some(Verb::Yield);
     }
-    if b"lock".as_slice() == word {
+    if is_verb(word, b"lock") {
         return Some(Verb::Lock);
     }
-    if b"unlock".as_slice() == word {
+    if is_verb(word, b"unlock") {
         return Some(Verb::Unlock);
     }
     read_rarer_verb(word)
