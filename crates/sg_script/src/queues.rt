@@ -71,6 +71,9 @@ fn take_first(lines: &mut VecDeque<Waiting>, actor: ActorId, members: &Members) 
     ensures empty { IfNone result (flat_map (left_of members.now actor.0) lines.old.items ≡ []) }
     ensures limited { KeepsOperations members.now lines.old.items result lines.new.items }
 {
+    if lines.is_empty() {
+        return None;
+    }
     match take_alone(lines) {
         Some(action) => Some(action),
         None => take_next(lines, actor, members),
