@@ -10,7 +10,7 @@ ghost use Rattle.sg_engine.specs.Run.{zip_with, inboxes};
 
 use crate::actor_call::ActorCall;
 use sg_actor::{Actor, Seat, run_round, seats_keep_limits};
-use sg_base::{ActorId, Answer, Call};
+use sg_base::{ActorId, Answer};
 use sg_kernel::Kernel;
 use std::thread::Threads;
 
@@ -112,28 +112,19 @@ fn turn_all<R: Threads + Sync>(rt: &R, kernel: &Kernel, seats: &mut [Seat], work
     }
 }
 
-// Keeps a call, if there is one.
-fn keep(calls: &mut Vec<ActorCall>, actor: ActorId, call: Option<Call>)
+// Takes the call out of a slot whose actor has taken its turn, and which rests then.
+fn collect_one<A: Actor>(seat: &mut Seat<A>, actor: ActorId, calls: &mut Vec<ActorCall>)
     requires room { length calls.old.items < vec_capacity calls.old }
-    ensures items { calls.new.items ≡ calls.old.items ++ with_call actor.0 call [] }
+    ensures seat { seat_view A.mind seat.new ≡ at_rest (seat_view A.mind seat.old) }
+    ensures items { calls.new.items
+        ≡ calls.old.items ++ with_call actor.0 (call_in (seat_view A.mind seat.old)) [] }
     ensures room { vec_capacity calls.new ≡ vec_capacity calls.old }
 {
-    match call {
-        Some(call) => calls.push_reserved(ActorCall { actor, call }),
-        None => {}
+    if seat.ready {
+        seat.ready = false;
+        let call = seat.outbox;
+        calls.push_reserved(ActorCall { actor, call });
     }
-}
-
-// Takes the call out of a slot whose actor has taken its turn, and which rests then.
-fn collect_one<A: Actor>(seat: &mut Seat<A>) -> Option<Call>
-    ensures seat { seat_view A.mind seat.new ≡ at_rest (seat_view A.mind seat.old) }
-    ensures call { result ≡ call_in (seat_view A.mind seat.old) }
-{
-    if !seat.ready {
-        return None;
-    }
-    seat.ready = false;
-    Some(seat.outbox)
 }
 
 // Collects the calls that were made, in the place of those before; their actors rest.
@@ -148,8 +139,7 @@ fn collect<A: Actor>(kernel: &Kernel, seats: &mut [Seat<A>], calls: &mut Vec<Act
     calls.clear();
     let queue = kernel.run_queue();
     for actor in queue {
-        let call = collect_one(&mut seats[actor.0 as usize - 1]);
-        keep(calls, *actor, call);
+        collect_one(&mut seats[actor.0 as usize - 1], *actor, calls);
     }
 }
 

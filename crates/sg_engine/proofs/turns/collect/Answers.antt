@@ -13,8 +13,8 @@ pub loop-actor-init : goal.loop-actor-init
 unfolding last_id call_list
 loop-actor-init g c = record { at_rest = refl; calls = c.clear.ensures.items; room = c.clear.ensures.capacity }
 
-pub keep-requires : goal.keep-requires
-keep-requires g c =
+pub collect_one-requires : goal.collect_one-requires
+collect_one-requires g c =
     let inv = c.loop-actor.invariant in
     let queue = c.run_queue-queue.result.now in
     let k = c.loop-actor.actor-index in
@@ -44,9 +44,9 @@ loop-actor-preserved g c =
     let long : length places ≡ length states = length-map c.args.seats.now _ ∙ c.requires.number in
     let mine = change_was _ at_rest idle_rests c.args.seats.now c.loop-actor.seats states queue k c.index-seats-actor.result is c.loop-actor-test.true c.requires.number c.requires.queued inv.at_rest in
     record {
-      at_rest = change_next _ at_rest idle_rests c.args.seats.now c.loop-actor.seats states queue k c.index-seats-actor.result c.collect_one-call.new.seat is c.loop-actor-test.true c.requires.number c.requires.queued inv.at_rest c.collect_one-call.ensures.seat;
-      calls = called_on places states queue k c.loop-actor.calls.items c.keep.new.calls.items c.collect_one-call.result _ is c.loop-actor-test.true c.requires.queued long inv.calls c.keep.ensures.items (c.collect_one-call.ensures.call ∙ ap call_in mine);
-      room = c.keep.ensures.room ∙ inv.room;
+      at_rest = change_next _ at_rest idle_rests c.args.seats.now c.loop-actor.seats states queue k c.index-seats-actor.result c.collect_one.new.seat is c.loop-actor-test.true c.requires.number c.requires.queued inv.at_rest c.collect_one.ensures.seat;
+      calls = called_on places states queue k c.loop-actor.calls.items c.collect_one.new.calls.items _ _ is c.loop-actor-test.true c.requires.queued long inv.calls c.collect_one.ensures.items (ap call_in mine);
+      room = c.collect_one.ensures.room ∙ inv.room;
     }
 
 pub returns-clause-seats : goal.returns-clause-seats
