@@ -1,5 +1,5 @@
 -- Lines that are put one after another.
-use Rattle.std.proofs.Common.{◌≡◌, ◌∙◌, sym, ap, Result, Ok, Err, ℕ, ◌+◌, ◌-◌, ◌*◌, ◌/◌, ◌%◌, ◌^◌, ◌<◌, ◌≤◌, List, [], ◌++◌, length, get_or, drop, Option, arith, append_assoc}
+use Rattle.std.proofs.Common.{◌≡◌, ◌∙◌, sym, ap, refl, Result, Ok, Err, ℕ, ◌+◌, ◌-◌, ◌*◌, ◌/◌, ◌%◌, ◌^◌, ◌<◌, ◌≤◌, List, [], ◌∷◌, ◌++◌, length, get_or, drop, Option, None, Some, arith, append_assoc}
 use Rattle.std.proofs.lemmas.List.{append-nil, at_drop_more, at_drop_all}
 use Rattle.sg_base.specs.declared.trace_record.Record.{Record}
 use Rattle.sg_edge.specs.declared.files.Failed.{Failed}
@@ -12,8 +12,12 @@ use Rattle.sg_rows.specs.Deployment.{Deployed}
 use Rattle.sg_rows.specs.Platform.{Platform}
 use Rattle.sg_rows.specs.declared.rows.HostRow.{HostRow}
 use Rattle.sg_trace.specs.Line.{line_of}
-use Rattle.sg_engine.specs.declared.show.Show.TheVariants.{All}
-use Rattle.sg_engine.specs.kept.Writing.{IsPut, Broke, Puts, Writes}
+use Rattle.sg_engine.specs.declared.plan.Plan.{Plan}
+use Rattle.sg_engine.specs.declared.show.Show.{Show}
+use Rattle.sg_engine.specs.declared.show.Show.TheVariants.{All, Quiet, Summary}
+use Rattle.sg_edge.specs.Sinks.{gain}
+use Rattle.sg_engine.specs.kept.Stretches.{trace_in}
+use Rattle.sg_engine.specs.kept.Writing.{IsPut, Broke, Puts, Wrote, Writes}
 use Rattle.sg_engine.specs.Output.{energy_last, energy_lines, line_if, stuck_last, stuck_lines, trace_of}
 use Rattle.sg_engine.proofs.Fronts.{put_on, put_as, broke_on, wrote_all}
 use Rattle.sg_engine.proofs.Waiting.{adds_front, adds_then, front_adds}
@@ -69,6 +73,28 @@ put_breaks_off whole waiting old mid new z f f' put broke = broke_on whole waiti
 pub put_written : (text waiting : List ℕ) (result : Result (Unit {0}) Failed) (old mid new : Stream → Option (List ℕ)) (z f f' : ℕ) → IsPut text waiting old mid z f → Writes waiting result mid new f f' → Writes text result old new z f'
 put_written text waiting (Ok done) old mid new z f f' put wrote = wrote_all text waiting old mid new z f f' put wrote
 put_written text waiting (Err why) old mid new z f f' put broke = put_breaks_off text waiting old mid new z f f' put broke
+
+-- ---- no text
+gain_none : (held : Option (List ℕ)) → held ≡ gain held []
+gain_none None = refl
+gain_none (Some held) = ap Some (sym (append-nil held))
+
+pub none_written : (text : List ℕ) (streams : Stream → Option (List ℕ)) (faults : ℕ) → text ≡ [] → Wrote text streams streams faults faults
+none_written text streams faults none = record {
+  out_held = gain_none (streams Out) ∙ ap (gain (streams Out)) (sym none);
+  err_held = refl;
+  sound = refl;
+}
+
+-- no records have no lines
+pub none_traced : (plan : Plan) (records : List Record) → length records ≡ 0 → trace_in plan records ≡ []
+none_traced plan [] none = by plan.terms.show
+  where
+    by : (show : Show) → trace_of show plan.platform.now plan.deployment.now [] ≡ []
+    by All = refl
+    by Quiet = refl
+    by Summary = refl
+none_traced plan (one ∷ more) none = absurd (omega (arith, none))
 
 -- ---- the lines of actors that are suspended or blocked
 pub stuck_more : (platform : Platform) (deployed : Deployed) (actors : List Actor) (i : ℕ) → i < length actors →

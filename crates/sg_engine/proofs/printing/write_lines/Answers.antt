@@ -1,5 +1,5 @@
 use Rattle.sg_engine.proofs.PutLines.{put_written}
-use Rattle.sg_engine.proofs.printing.write_trace.Goals as goal
+use Rattle.sg_engine.proofs.printing.write_lines.Goals as goal
 
 pub returns-in-Ok-clause-writes : goal.returns-in-Ok-clause-writes
 returns-in-Ok-clause-writes g c = put_written _ _ c.flush.result _ _ _ _ _ _ (rw c.requires.empty at c.in-Ok.ensures) c.flush.ensures.writes
