@@ -70,7 +70,7 @@ module _ (s : Sharing) (touched reached : List ℕ) (joined : AreJoined s touche
   pub user_there : (c id : ℕ) → is_in c reached ≡ true → is_in id (users_on s.users c) ≡ true → is_in id touched ≡ true
   user_there c id r i = into (users_on s.users c) touched id (joined.closed.covered c r) i
 
-  touched_held : (id : ℕ) → is_in id touched ≡ true → IsSome (flow_at s.slots id)
+  pub touched_held : (id : ℕ) → is_in id touched ≡ true → IsSome (flow_at s.slots id)
   touched_held id i = let at = at_in id touched i in subst (λ n. IsSome (flow_at s.slots n)) at.2 (All-get_or (λ id. IsSome (flow_at s.slots id)) touched at.0 0 at.1 joined.part.held)
 
   weighed : (h : Flow → ℕ) (c : ℕ) → is_in c reached ≡ true → (id : ℕ) →

@@ -19,3 +19,4 @@ pub mod Joined
 pub mod Noted
 pub mod Holding
 pub mod Last
+pub mod OneFlow

@@ -96,9 +96,9 @@ take_off now old row k r share c h is in' inv =
     twice a n s = omega arith
 
 -- what limits a flow, with one more of its resources
-pub limits_next : (least : Option ℕ) (first : List ℕ) (row : List ℕ) (levels : List ℕ) (k r : ℕ) → k < length row → r ≡ get_or row k 0 → IsLeast least (first ++ map (λ c. get_or levels c 0) (take k row)) →
-    IsLeast (Some (least_with least (get_or levels r 0))) (first ++ map (λ c. get_or levels c 0) (take (suc k) row))
-limits_next least first row levels k r h is l = subst (IsLeast (Some (least_with least (get_or levels r 0)))) (sym more) (least_push least (first ++ map (λ c. get_or levels c 0) (take k row)) (get_or levels r 0) l)
+pub limits_next : (least : Option ℕ) (first : List ℕ) (row : List ℕ) (level : ℕ → ℕ) (k r : ℕ) → k < length row → r ≡ get_or row k 0 → IsLeast least (first ++ map level (take k row)) →
+    IsLeast (Some (least_with least (level r))) (first ++ map level (take (suc k) row))
+limits_next least first row level k r h is l = subst (IsLeast (Some (least_with least (level r)))) (sym more) (least_push least (first ++ map level (take k row)) (level r) l)
   where
     map_end : (f : ℕ → ℕ) (xs : List ℕ) (x : ℕ) → map f (xs ++ x ∷ []) ≡ map f xs ++ f x ∷ []
     map_end f [] x = refl
@@ -110,5 +110,5 @@ limits_next least first row levels k r h is l = subst (IsLeast (Some (least_with
     front : take (suc k) row ≡ take k row ++ r ∷ []
     front = ap (λ n. take n row) (next k) ∙ take_more row k 0 h ∙ ap (λ x. take k row ++ x ∷ []) (sym is)
 
-    more : first ++ map (λ c. get_or levels c 0) (take (suc k) row) ≡ (first ++ map (λ c. get_or levels c 0) (take k row)) ++ get_or levels r 0 ∷ []
-    more = ap (λ xs. first ++ map (λ c. get_or levels c 0) xs) front ∙ ap (λ xs. first ++ xs) (map_end (λ c. get_or levels c 0) (take k row) r) ∙ sym (append_assoc first (map (λ c. get_or levels c 0) (take k row)) (get_or levels r 0 ∷ []))
+    more : first ++ map level (take (suc k) row) ≡ (first ++ map level (take k row)) ++ level r ∷ []
+    more = ap (λ xs. first ++ map level xs) front ∙ ap (λ xs. first ++ xs) (map_end level (take k row) r) ∙ sym (append_assoc first (map level (take k row)) (level r ∷ []))

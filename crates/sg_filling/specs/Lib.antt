@@ -1,3 +1,4 @@
+pub mod Alone
 pub mod Component
 pub mod Counts
 pub mod Dates

@@ -6,7 +6,8 @@ ghost use Rattle.sg_maxmin.specs.Sharing.{flow_at};
 ghost use Rattle.sg_filling.specs.Component.{AllPass};
 ghost use Rattle.sg_filling.specs.Parts.{AreHeldUnless, FillsFrom, IsFilled, IsFilledAt, IsFilledBut, RunningPass};
 
-use crate::component::{Component, reach, touch};
+use crate::alone::{fill_alone, touch_alone};
+use crate::component::{Component, reach};
 use crate::filling::{Filling, fill};
 use sg_base::{Marks, Steps};
 use sg_maxmin::System;
@@ -26,15 +27,22 @@ fn fill_part<L: Ledger>(
 {
     let touched = component.touched.members().len();
     let reached = component.reached.members().len();
-    touch(system, flow, component, steps);
-    reach(system, reached, component, steps);
-    fill(
-        system,
-        &component.touched.members()[touched..],
-        &component.reached.members()[reached..],
-        filling,
-        steps,
-    );
+    match touch_alone(system, flow, component, steps) {
+        Some(low) => {
+            let came = &component.reached.members()[reached..];
+            fill_alone(system, flow, low, came, filling);
+        }
+        None => {
+            reach(system, reached, component, steps);
+            fill(
+                system,
+                &component.touched.members()[touched..],
+                &component.reached.members()[reached..],
+                filling,
+                steps,
+            );
+        }
+    }
 }
 
 // Solves the connected component of a marked flow, unless it ended or is solved already.

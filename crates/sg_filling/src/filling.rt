@@ -79,8 +79,8 @@ struct Low {
     at: Span,
 }
 
-// Returns the level of a bound.
-fn bound_level(weight: u32, bound: Option<u64>) -> Option<u64>
+/// Returns the level of a bound.
+pub fn bound_level(weight: u32, bound: Option<u64>) -> Option<u64>
     requires { 0 < weight }
     ensures { result ≡ option_map (level_of_bound weight) bound }
 {
@@ -157,8 +157,8 @@ fn take_use(resource: usize, weight: u32, share: u64, filling: &mut Filling)
     filling.stale.insert(resource);
 }
 
-// Returns what remains for each unit of weight that waits. Often that weight is 1, and a division takes long.
-fn level(left: u64, waiting: u64) -> u64
+/// Returns what remains for each unit of weight that waits. Often that weight is 1, and a division takes long.
+pub fn level(left: u64, waiting: u64) -> u64
     ensures { result ≡ left / waiting }
 {
     match waiting {
@@ -185,8 +185,8 @@ fn set_levels(listed: &[usize], left: &[u64], waiting: &[u64], levels: &mut [u64
     }
 }
 
-// Returns the smaller of the two, if there are two.
-fn smaller(least: Option<u64>, level: u64) -> Option<u64>
+/// Returns the smaller of the two, if there are two.
+pub fn smaller(least: Option<u64>, level: u64) -> Option<u64>
     ensures { result ≡ Some (least_with least level) }
 {
     match least {

@@ -5,6 +5,7 @@
 //! of `sg_levels`.
 #![tactic(auto)]
 
+mod alone;
 mod by_part;
 mod component;
 mod dates;
