@@ -12,3 +12,4 @@ pub mod Looks
 pub mod Untouched
 pub mod Leveled
 pub mod Joining
+pub mod Idle

@@ -177,6 +177,29 @@ fn next_crowd(crowd: usize, changed: usize) -> usize {
     }
 }
 
+// Returns whether a set has no members.
+fn is_empty(marks: &Marks) -> bool
+    ensures { result ≡ true → marks.now.members ≡ [] }
+{
+    marks.members().is_empty()
+}
+
+// Returns whether nothing changed since the last rate update.
+fn is_settled(pending: &Pending) -> bool
+    ensures { result ≡ true → IsNothing pending.now.resources.room pending.now }
+{
+    if !is_empty(&pending.began) {
+        return false;
+    }
+    if !is_empty(&pending.marked) {
+        return false;
+    }
+    if !is_empty(&pending.ended) {
+        return false;
+    }
+    is_empty(&pending.resources)
+}
+
 /// Brings the rates of all flows up to date.
 pub fn settle_flows<L: Ledger>(
     system: &mut System,
@@ -201,6 +224,9 @@ pub fn settle_flows<L: Ledger>(
         (ended_in system.old.slots pending.old.ended.members) pending.old.resources.members }
 {
     rated.changed.clear();
+    if is_settled(pending) {
+        return;
+    }
     end_all(system, &mut solver.levels, pending.ended.members(), steps);
     system.is_sound();
     mark_active(&solver.levels, &mut pending.resources);

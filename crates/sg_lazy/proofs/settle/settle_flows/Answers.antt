@@ -10,6 +10,7 @@ use Rattle.sg_filling.proofs.Rows.{held_below}
 use Rattle.sg_lazy.specs.kept.Changes.{WritesRates}
 use Rattle.sg_lazy.specs.kept.Held.{IsWithout}
 use Rattle.sg_lazy.specs.kept.Leveled.{RowsPass, rate_at}
+use Rattle.sg_lazy.proofs.Idle.{leveled_none, refilled_none}
 use Rattle.sg_lazy.proofs.Leveled.{notes_on, pending_within, ready_on, still_leveled}
 use Rattle.sg_lazy.proofs.Looks.{along, close, marked_within, passes, within_work}
 use Rattle.sg_lazy.proofs.Settled.{moved_cases, moved_held, rate_fits, rate_is, refilled}
@@ -148,3 +149,16 @@ returns-clause-looks g c =
     let all = marked_within s t rates began marked ended resources without sound are c.requires.lazy.marked_are c.args.solver.now.levels c.end_all.new.levels _ pending.resources c.requires.leveled stays refl c.mark_active.ensures refl in
     within_work s t rates began marked ended resources without sound are c.args.steps.now c.end_all.new.steps c.solve.new.steps (c.end_all.ensures.looks ∙ ap (λ e. c.args.steps.now + lengths (uses_at s.slots) e) c.members.ensures.members)
     (c.solve.ensures.looks p q (along s t rates began marked ended resources without sound are) all)
+
+-- ---- nothing changed
+pub returns-then-is_settled-clause-refilled : goal.returns-then-is_settled-clause-refilled
+returns-then-is_settled-clause-refilled g c =
+    let pending = c.args.pending.now in
+    let none = c.is_settled.ensures c.if-is_settled.true in
+    refilled_none c.args.system.now c.args.rated.now.rates.items pending.began.members pending.marked.members pending.ended.members pending.resources.members c.clear.new.self.members none.began none.marked none.ended none.changed (ap (λ (m : MarkSet). m.members) c.clear.ensures) c.requires.lazy
+
+pub returns-then-is_settled-clause-leveled : goal.returns-then-is_settled-clause-leveled
+returns-then-is_settled-clause-leveled g c =
+    let pending = c.args.pending.now in
+    let none = c.is_settled.ensures c.if-is_settled.true in
+    leveled_none c.args.system.now c.args.solver.now.levels c.args.rated.now.rates.items pending.began.members pending.marked.members pending.resources.members none.began none.marked none.changed c.requires.leveled
