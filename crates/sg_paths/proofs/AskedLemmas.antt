@@ -29,7 +29,7 @@ held_least routes asked from to links right held =
     least_found routes from to links e
 
 -- what stands at a place once a place was written
-at_set : {X : Type 0} (xs : List X) (i k : ℕ) (x y : X) → slice_get (slice_set xs i x) k ≡ Some y → (x ≡ y) ⊎ (slice_get xs k ≡ Some y)
+pub at_set : {X : Type 0} (xs : List X) (i k : ℕ) (x y : X) → slice_get (slice_set xs i x) k ≡ Some y → (x ≡ y) ⊎ (slice_get xs k ≡ Some y)
 at_set [] i k x y h = inr h
 at_set (z ∷ xs) zero zero x y h = inl (cc)
 at_set (z ∷ xs) zero (suc k) x y h = inr h

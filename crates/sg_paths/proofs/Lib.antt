@@ -1,5 +1,6 @@
 pub mod OrderLemmas
 pub mod TrailLemmas
+pub mod TreeLemmas
 pub mod PathLemmas
 pub mod TableLemmas
 pub mod LeastLemmas

@@ -10,14 +10,22 @@ use Rattle.sg_paths.specs.declared.trail.Settled.{Settled}
 use Rattle.sg_paths.specs.Order.{IsNotAfter}
 use Rattle.sg_paths.specs.Path.{IsPath, links_of, HasPath, IsLeastPath}
 use Rattle.sg_paths.specs.Trail.{links_in, links_at, hop_links, LeadsBack, IsTrail, IsSettledAt, IsNew}
+use Rattle.sg_paths.specs.Arrivals.{from_at, from_in, to_at, to_in}
 use Rattle.sg_paths.specs.Crossing.{AreWithin, IsCrossing}
 use Rattle.sg_paths.proofs.OrderLemmas.{not_after_through, not_after_behind, not_after_longer, nothing_before}
-use Rattle.sg_paths.proofs.TrailLemmas.{pushed, settled_or_new}
+use Rattle.sg_paths.proofs.TrailLemmas.{pushed, settled_or_new, still_there}
+
+-- a finalized point's route leads from it to the finalized point that is next
+pub record IsJoined (routes : List PathRoute) (settled : List Settled) (s : Settled) : Type 0 where
+  pub few : s.route < length routes
+  pub from : from_at routes s.route ≡ s.point
+  pub next : IsSettledAt settled s.next (to_at routes s.route)
 
 -- the links from each finalized point on are those of a shortest path
 pub record IsKnown (routes : List PathRoute) (settled : List Settled) (to : ℕ) (label : ℕ → List LinkId) : Type 0 where
   pub trail : IsTrail routes settled label
   pub least : (k : ℕ) (s : Settled) → slice_get settled k ≡ Some s → IsLeastPath routes s.point to (label k)
+  pub joined : (k : ℕ) (s : Settled) → 0 < k → slice_get settled k ≡ Some s → IsJoined routes settled s
 
 -- a path from a new point crosses into the finalized ones, and no later than it ends
 pub crosses : (routes : List PathRoute) (settled : List Settled) (to : ℕ) (label : ℕ → List LinkId) (known : IsKnown routes settled to label) → IsSettledAt settled 0 to
@@ -98,6 +106,7 @@ pub known_more : (routes : List PathRoute) (settled : List Settled) (to : ℕ) (
 known_more routes settled to label known root leads hop nearest = record {
   trail = record { first = label_before label n best 0 some ∙ (known.trail).first; each = λ k s above h. each k s above (pushed settled hop k s h) };
   least = λ k s h. least k s (pushed settled hop k s h);
+  joined = λ k s above h. joined k s above (pushed settled hop k s h);
 }
   where
     n : ℕ
@@ -131,11 +140,26 @@ known_more routes settled to label known root leads hop nearest = record {
         subst (λ (h : Settled). IsLeastPath routes h.point to (new_label k)) l.1
         (subst (λ (t : List LinkId). IsLeastPath routes hop.point to t) (sym (ap new_label l.0 ∙ label_last label n best)) (hop_least routes settled to label known root hop nearest))
 
+    own : IsJoined routes (settled ++ hop ∷ []) hop
+    own =
+        let crossing = nearest.crossing in record {
+          few = slice_get_within routes hop.route crossing.route crossing.route_is;
+          from = ap from_in crossing.route_is ∙ crossing.from;
+          next = (crossing.next, still_there settled hop hop.next crossing.next crossing.next_is, crossing.to ∙ sym (ap to_in crossing.route_is));
+        }
+
+    joined : (k : ℕ) (s : Settled) → 0 < k → ((k < n) × (slice_get settled k ≡ Some s)) ⊎ ((k ≡ n) × (hop ≡ s)) → IsJoined routes (settled ++ hop ∷ []) s
+    joined k s above (inl l) =
+        let old : IsJoined routes settled s = known.joined k s above l.1 in
+        record { few = old.few; from = old.from; next = ((old.next).0, still_there settled hop s.next (old.next).0 (old.next).1, (old.next).2) }
+    joined k s above (inr l) = subst (λ (h : Settled). IsJoined routes (settled ++ hop ∷ []) h) l.1 own
+
 -- where paths end, the path of no route is least
 pub known_first : (routes : List PathRoute) (start : Settled) → IsKnown routes (start ∷ []) start.point (λ k. [])
 known_first routes start = record {
   trail = record { first = refl; each = λ k s above h. absurd (alone k s above h) };
   least = λ k s h. first k s h;
+  joined = λ k s above h. absurd (alone k s above h);
 }
   where
     alone : (k : ℕ) (s : Settled) → 0 < k → slice_get (start ∷ []) k ≡ Some s → ⊥

@@ -8,5 +8,6 @@ pub mod Ahead
 pub mod Crossing
 pub mod Reach
 pub mod Asked
+pub mod Trees
 pub mod Whole
 pub mod Kept

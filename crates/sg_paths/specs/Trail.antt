@@ -42,6 +42,10 @@ AreLinksOf routes settled hop links =
 abbrev pub IsSettledAt : List Settled → ℕ → ℕ → Type 0
 IsSettledAt settled place point = (s : Settled) × (slice_get settled place ≡ Some s) × (s.point ≡ point)
 
+-- a point is finalized
+abbrev pub IsSettled : List Settled → ℕ → Type 0
+IsSettled settled point = (place : ℕ) × IsSettledAt settled place point
+
 -- a point is finalized nowhere
 abbrev pub IsNew : List Settled → ℕ → Type 0
 IsNew settled point = (k : ℕ) (s : Settled) → slice_get settled k ≡ Some s → s.point ≡ point → ⊥
@@ -49,3 +53,12 @@ IsNew settled point = (k : ℕ) (s : Settled) → slice_get settled k ≡ Some s
 -- the places of the finalized points are found by their numbers
 pub record HasPlaces (settled : List Settled) (places : List ℕ) : Type 0 where
   pub at : (k : ℕ) (s : Settled) → slice_get settled k ≡ Some s → slice_get places s.point ≡ Some k
+
+-- these are the links of the path from a finalized point, which isn't the first
+pub record IsWritten (routes : List PathRoute) (settled : List Settled) (from : ℕ) (links : List LinkId) : Type 0 where
+  pub place : ℕ
+  pub hop : Settled
+  pub above : 0 < place
+  pub there : slice_get settled place ≡ Some hop
+  pub point : hop.point ≡ from
+  pub are : AreLinksOf routes settled hop links

@@ -3,11 +3,12 @@ ghost use Rattle.std.specs.Prelude.{◌≡◌, ◌≢◌, ◌<◌, All, IfOk, If
 ghost use Rattle.sg_paths.specs.Path.{HasNoPath, HasPath, IsLeast};
 
 use crate::arrivals::{Arrivals, arrivals_of};
-use crate::asked::{Asked, room_for};
+use crate::asked::room_for;
 use crate::least::Reach;
-use crate::recall::find_or_recall;
+use crate::recall::{Found, find_or_recall};
 use crate::route::PathRoute;
 use crate::search_room::{copy, countable, most_links, room};
+use crate::trees::trees_for;
 use sg_base::{LinkId, Memory};
 use std::alloc::Global;
 use std::marker::Model;
@@ -26,7 +27,7 @@ pub struct Paths {
     routes: Vec<PathRoute>,
     arrivals: Arrivals,
     reach: Reach,
-    asked: Vec<Option<Asked>>,
+    found: Found,
 }
 
 // A function of its own, so that a proof in which one is dropped doesn't go into its parts.
@@ -37,7 +38,7 @@ impl Drop for Paths {
             routes: _,
             arrivals: _,
             reach: _,
-            asked: _,
+            found: _,
         } = self;
     }
 }
@@ -50,7 +51,7 @@ impl Model for Paths {
 
     ghost view = { λ p. record { points = p.points; routes = p.routes.items } };
 
-    ghost invariant = { λ p. IsWhole p.points p.routes.items p.arrivals p.reach p.asked.items };
+    ghost invariant = { λ p. IsWhole p.points p.routes.items p.arrivals p.reach p.found };
 }
 
 impl Paths {
@@ -70,12 +71,13 @@ impl Paths {
         let arrivals = arrivals_of(alloc, points as usize, routes)?;
         let reach = room(alloc, points as usize, routes.len(), most)?;
         let asked = room_for(alloc, places_for(points, routes.len()))?;
+        let trees = trees_for(alloc, points as usize, routes)?;
         Ok(Paths {
             points,
             routes: copied,
             arrivals,
             reach,
-            asked,
+            found: Found { asked, trees },
         })
     }
 
@@ -84,7 +86,8 @@ impl Paths {
     /// if there is no path, as when one of the points doesn't exist. It takes no memory.
     ///
     /// It takes n log n steps at most, with n routes and links of routes in all, and touches only what it reaches. A
-    /// path of at most 128 links is stored, and returned again without a search, until another replaces it.
+    /// path of at most 128 links is stored, and returned again without a search, until another replaces it. So is the
+    /// tree of the paths that a search found, from which it takes the paths of other points to the same one.
     pub fn search(&mut self, from: u32, to: u32) -> Option<&[LinkId]>
         requires { from ≢ to }
         ensures reached { IfSome result (λ links. HasPath self.old.routes from to links.now) }
@@ -99,7 +102,7 @@ impl Paths {
             self.routes.as_slice(),
             &self.arrivals,
             &mut self.reach,
-            &mut self.asked,
+            &mut self.found,
             from,
             to,
         ) {

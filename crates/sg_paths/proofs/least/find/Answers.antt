@@ -1,20 +1,23 @@
 -- The search begins, makes a step, and ends.
-use Rattle.std.proofs.Common.{◌≡◌, ◌≤◌, ◌<◌, ◌+◌, ◌++◌, [], ◌∷◌, ℕ, List, length, length-append, get_or, vec_len, refl, sym, subst, ap, ◌∙◌, arith}
+use Rattle.std.proofs.Common.{◌≡◌, ◌≤◌, ◌<◌, ◌+◌, ◌++◌, [], ◌∷◌, ℕ, List, length, get_or, vec_len, refl, sym, subst, ap, ◌∙◌, arith}
 use Rattle.std.proofs.lemmas.Option.{slice_get_within}
 use Rattle.sg_heap.specs.Agenda.{Key, key}
 use Rattle.sg_paths.specs.declared.trail.Settled.{Settled}
 use Rattle.sg_paths.specs.declared.ahead.Ahead.{Ahead}
 use Rattle.sg_paths.specs.declared.route.PathRoute.{PathRoute}
 use Rattle.sg_paths.specs.Ahead.{EntersFrom, GoesBack}
-use Rattle.sg_paths.specs.Path.{IsLeastPath}
-use Rattle.sg_paths.specs.Trail.{first_settled, AreLinksOf, IsNew, IsSettledAt, LeadsBack}
+use Rattle.std.proofs.lemmas.Bool.{OnFalse_at, OnFalse_from, OnTrue_at, OnTrue_from}
+use Rattle.sg_paths.specs.Path.{HasNoPath, IsLeastPath}
+use Rattle.sg_paths.specs.Trail.{first_settled, IsNew, IsSettledAt, LeadsBack}
+use Rattle.sg_paths.specs.Trees.{IsTree}
 use Rattle.sg_paths.proofs.AheadLemmas.{back_places, got}
 use Rattle.sg_paths.proofs.AtHand.{at_hand, left_read, next_read}
-use Rattle.sg_paths.proofs.StateLemmas.{IsFirst, IsUnderWay, Leaves, begins, few_left, first_mark, first_of, goes_back, hop_is_least, inside_left, is_left, is_nearest, key_small, ranks_left, same_route, settles}
+use Rattle.sg_paths.proofs.StateLemmas.{IsFirst, IsUnderWay, Leaves, begins, few_left, first_mark, first_of, goes_back, inside_left, is_left, key_small, ranks_left, same_route, settles}
 use Rattle.sg_paths.proofs.PathLemmas.{no_path}
 use Rattle.sg_paths.proofs.SearchLemmas.{none_crosses}
 use Rattle.sg_paths.proofs.WorkLemmas.{work}
-use Rattle.sg_paths.proofs.TrailLemmas.{leads_back, leads_first, new_first, new_more, root_still}
+use Rattle.sg_paths.proofs.TrailLemmas.{leads_back, leads_first, root_still}
+use Rattle.sg_paths.proofs.TreeLemmas.{apart_first, tree_known, written_least}
 use Rattle.sg_paths.proofs.least.find.Goals as goal
 
 pub settling-init : goal.settling-init
@@ -29,7 +32,6 @@ settling-init c =
       back = subst (λ (l : List Settled). LeadsBack l) (sym settled) (leads_first start);
       places = c.begin.ensures.places;
       fits = c.begin.ensures.fits;
-      new = subst (λ (l : List Settled). IsNew l c.args.from) (sym settled) (new_first start c.args.from c.requires.apart);
       roomy = record {
         places = c.begin.ensures.count;
         settled = omega (arith, c.requires.roomy.settled, c.begin.ensures.capacity);
@@ -94,7 +96,6 @@ settling-preserved-then-left-gt0 c =
       back = inv.back;
       places = inv.places;
       fits = inv.fits;
-      new = inv.new;
       roomy = record { places = inv.roomy.places; settled = inv.roomy.settled; ahead = places; short = inv.roomy.short; best = inv.roomy.best; held = inv.roomy.held };
     }
 
@@ -160,7 +161,6 @@ settling-preserved-in-Some-place_of c =
       back = inv.back;
       places = inv.places;
       fits = inv.fits;
-      new = inv.new;
       roomy = record { places = inv.roomy.places; settled = inv.roomy.settled; ahead = (on.state).places; short = inv.roomy.short; best = inv.roomy.best; held = inv.roomy.held };
     }
 
@@ -197,73 +197,6 @@ settle-requires-clause-point c =
     let d : PathRoute = c.index-routes-i.result in
     let at = at_hand routes (length c.args.reach.now.places.items) to settled places old ranks i k d c.requires.search.within inv.roomy.places inv.state c.in-Some.ensures.first in
     at.from
-
-pub write_links-requires-clause-back : goal.write_links-requires-clause-back
-write_links-requires-clause-back c =
-    let k : Key = key c.in-Some.date c.in-Some.serial in
-    let routes = c.args.routes.now in
-    let to = c.args.to in
-    let old = c.settling.reach.ahead in
-    let settled = c.settling.reach.settled.items in
-    let places = c.settling.reach.places.items in
-    let i = c.in-Some.i in
-    let ranks = c.settling.rank + 1 in
-    let inv = c.settling.invariant in
-    let d : PathRoute = c.index-routes-i.result in
-    let route : PathRoute = get_or routes i d in
-    let at = at_hand routes (length c.args.reach.now.places.items) to settled places old ranks i k d c.requires.search.within inv.roomy.places inv.state c.in-Some.ensures.first in
-    let next : IsSettledAt settled c.index.result.now route.to = next_read routes to settled places old ranks i k d c.index-routes-i-in-Some.result c.index.result.now _ inv.state inv.places at c.index.ensures in
-    let hop : Settled = record { point = route.from; route = i; next = c.index.result.now } in
-    let below_next : c.index.result.now < length settled = slice_get_within settled c.index.result.now next.0 next.1 in
-    let R : List Settled → Type 0 = λ l. LeadsBack l in
-    let same : settled ++ hop ∷ [] ≡ c.deref.result.now = sym (c.deref.ensures.value ∙ c.settle.ensures.settled) in
-    subst R same (leads_back settled hop inv.back below_next)
-
-pub write_links-requires-clause-next : goal.write_links-requires-clause-next
-write_links-requires-clause-next c =
-    let k : Key = key c.in-Some.date c.in-Some.serial in
-    let routes = c.args.routes.now in
-    let to = c.args.to in
-    let old = c.settling.reach.ahead in
-    let settled = c.settling.reach.settled.items in
-    let places = c.settling.reach.places.items in
-    let i = c.in-Some.i in
-    let ranks = c.settling.rank + 1 in
-    let inv = c.settling.invariant in
-    let d : PathRoute = c.index-routes-i.result in
-    let route : PathRoute = get_or routes i d in
-    let at = at_hand routes (length c.args.reach.now.places.items) to settled places old ranks i k d c.requires.search.within inv.roomy.places inv.state c.in-Some.ensures.first in
-    let next : IsSettledAt settled c.index.result.now route.to = next_read routes to settled places old ranks i k d c.index-routes-i-in-Some.result c.index.result.now _ inv.state inv.places at c.index.ensures in
-    let hop : Settled = record { point = route.from; route = i; next = c.index.result.now } in
-    let below_next : c.index.result.now < length settled = slice_get_within settled c.index.result.now next.0 next.1 in
-    let same : length c.deref.result.now ≡ length (settled ++ hop ∷ []) = ap (length {A = Settled}) (c.deref.ensures.value ∙ c.settle.ensures.settled) in
-    omega (arith, below_next, same, length-append settled (hop ∷ []))
-
-pub returns-then-point-from-clause-yes : goal.returns-then-point-from-clause-yes
-returns-then-point-from-clause-yes c =
-    let k : Key = key c.in-Some.date c.in-Some.serial in
-    let routes = c.args.routes.now in
-    let to = c.args.to in
-    let old = c.settling.reach.ahead in
-    let settled = c.settling.reach.settled.items in
-    let places = c.settling.reach.places.items in
-    let i = c.in-Some.i in
-    let ranks = c.settling.rank + 1 in
-    let inv = c.settling.invariant in
-    let d : PathRoute = c.index-routes-i.result in
-    let route : PathRoute = get_or routes i d in
-    let at = at_hand routes (length c.args.reach.now.places.items) to settled places old ranks i k d c.requires.search.within inv.roomy.places inv.state c.in-Some.ensures.first in
-    let read : c.index-left.result.now ≡ get_or old.left.items i 0 = left_read routes to settled old ranks i k c.index-left.result.now _ inv.state at.first c.index-left.ensures in
-    let back : get_or old.left.items i 0 ≡ 0 = let z = c.if-left-gt0.false in omega (arith, read, z) in
-    let next : IsSettledAt settled c.index.result.now route.to = next_read routes to settled places old ranks i k d c.index-routes-i-in-Some.result c.index.result.now _ inv.state inv.places at c.index.ensures in
-    let hop : Settled = record { point = route.from; route = i; next = c.index.result.now } in
-    let Q : List Settled → Type 0 = λ l. IsNew l route.from in
-    let new_point : IsNew settled route.from = subst Q c.as_slice.ensures.value (c.in_default-place_of.ensures.none refl) in
-    let nearest = is_nearest routes to settled places ranks i k hop route old inv.state at.first inv.places back at.there refl refl next new_point in
-    let same : c.deref.result.now ≡ settled ++ hop ∷ [] = c.deref.ensures.value ∙ c.settle.ensures.settled in
-    let R : List Settled → Type 0 = λ l. AreLinksOf routes l hop c.write_links.new.out.items in
-    let S : ℕ → Type 0 = λ p. IsLeastPath routes p to c.write_links.new.out.items in
-    subst S c.if-point-from.true (hop_is_least routes to settled ranks hop old c.write_links.new.out.items inv.state inv.root inv.back nearest (subst R same c.write_links.ensures.links))
 
 pub enter-requires-in-Some-clause-point : goal.enter-requires-in-Some-clause-point
 enter-requires-in-Some-clause-point c =
@@ -358,7 +291,6 @@ settling-preserved c =
       back = subst (λ (l : List Settled). LeadsBack l) same (leads_back settled hop inv.back below_next);
       places = c.settle.ensures.places;
       fits = c.settle.ensures.fits;
-      new = subst (λ (l : List Settled). IsNew l c.args.from) same (new_more settled hop c.args.from inv.new c.if-point-from.false);
       roomy = record {
         places = c.settle.ensures.count ∙ inv.roomy.places;
         settled = omega (arith, inv.roomy.settled, c.settle.ensures.capacity);
@@ -369,8 +301,45 @@ settling-preserved c =
       };
     }
 
+pub write_path-requires-clause-from : goal.write_path-requires-clause-from
+write_path-requires-clause-from c = let n = c.settling.invariant.roomy.places in omega (arith, c.requires.from, n)
+
+pub write_path-requires-clause-apart : goal.write_path-requires-clause-apart
+write_path-requires-clause-apart c = apart_first c.settling.reach.settled.items c.args.from c.args.to c.requires.apart c.settling.invariant.root
+
+pub returns-then-is_enough-clause-yes : goal.returns-then-is_enough-clause-yes
+returns-then-is_enough-clause-yes c =
+    let state = c.settling.invariant.state in
+    OnTrue_from c.write_path.result (IsLeastPath c.args.routes.now c.args.from c.args.to c.write_path.new.reach.best.items)
+    (λ e. written_least c.args.routes.now c.args.from c.args.to c.settling.reach.settled.items state.label c.write_path.new.reach.best.items state.known (OnTrue_at e c.write_path.ensures.yes))
+
+pub returns-then-is_enough-clause-no : goal.returns-then-is_enough-clause-no
+returns-then-is_enough-clause-no c =
+    let there = c.if-is_enough.ensures in
+    OnFalse_from c.write_path.result (HasNoPath c.args.routes.now c.args.from c.args.to)
+    (λ e. absurd (OnFalse_at e c.write_path.ensures.no there.0 (there.1).0 (there.1).1 (there.1).2))
+
+pub returns-then-is_enough-clause-tree : goal.returns-then-is_enough-clause-tree
+returns-then-is_enough-clause-tree c =
+    let state = c.settling.invariant.state in
+    let same : c.settling.reach.settled.items ≡ c.write_path.new.reach.settled.items = sym c.write_path.ensures.settled in
+    subst (λ (l : List Settled). IsTree c.args.routes.now c.args.to l) same (tree_known c.args.routes.now c.args.to c.settling.reach.settled.items state.label state.known)
+
+pub returns-clause-yes : goal.returns-clause-yes
+returns-clause-yes c =
+    let state = c.settling.invariant.state in
+    OnTrue_from c.write_path-2.result (IsLeastPath c.args.routes.now c.args.from c.args.to c.write_path-2.new.reach.best.items)
+    (λ e. written_least c.args.routes.now c.args.from c.args.to c.settling.reach.settled.items state.label c.write_path-2.new.reach.best.items state.known (OnTrue_at e c.write_path-2.ensures.yes))
+
 pub returns-clause-no : goal.returns-clause-no
 returns-clause-no c =
     let inv = c.settling.invariant in
-    no_path c.args.routes.now c.settling.reach.settled.items c.args.to (inv.state).label (inv.state).known inv.root c.args.from inv.new
-    (λ hop crossing. none_crosses c.args.routes.now c.settling.reach.settled.items c.settling.reach.ahead (inv.state).begun c.in_default.ensures.none hop crossing)
+    OnFalse_from c.write_path-2.result (HasNoPath c.args.routes.now c.args.from c.args.to)
+    (λ e. no_path c.args.routes.now c.settling.reach.settled.items c.args.to (inv.state).label (inv.state).known inv.root c.args.from (OnFalse_at e c.write_path-2.ensures.no)
+    (λ hop crossing. none_crosses c.args.routes.now c.settling.reach.settled.items c.settling.reach.ahead (inv.state).begun c.in_default.ensures.none hop crossing))
+
+pub returns-clause-tree : goal.returns-clause-tree
+returns-clause-tree c =
+    let state = c.settling.invariant.state in
+    let same : c.settling.reach.settled.items ≡ c.write_path-2.new.reach.settled.items = sym c.write_path-2.ensures.settled in
+    subst (λ (l : List Settled). IsTree c.args.routes.now c.args.to l) same (tree_known c.args.routes.now c.args.to c.settling.reach.settled.items state.label state.known)

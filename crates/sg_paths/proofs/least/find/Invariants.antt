@@ -1,5 +1,5 @@
 use Rattle.std.proofs.Common.{◌+◌, ◌≤◌, length}
-use Rattle.sg_paths.specs.Trail.{HasPlaces, IsNew, IsSettledAt, LeadsBack}
+use Rattle.sg_paths.specs.Trail.{HasPlaces, IsSettledAt, LeadsBack}
 use Rattle.sg_paths.specs.Reach.{IsRoomy}
 use Rattle.sg_paths.proofs.StateLemmas.{IsUnderWay}
 use Rattle.sg_paths.proofs.WorkLemmas.{work}
@@ -12,7 +12,6 @@ invariant-settling l = record {
   back : LeadsBack l.reach.settled.items;
   places : HasPlaces l.reach.settled.items l.reach.places.items;
   fits : length l.reach.settled.items ≤ length l.reach.places.items;
-  new : IsNew l.reach.settled.items l.from;
   roomy : IsRoomy l.routes (length l.fn.reach.places.items) l.reach;
 }
 

@@ -9,9 +9,9 @@ use Rattle.sg_paths.proofs.recall.find_or_recall.Goals as goal
 pub returns-then-recall-clause-yes : goal.returns-then-recall-clause-yes
 returns-then-recall-clause-yes c =
     let P : List (Option Asked) → Type 0 = λ l. AreHeld l c.args.from c.args.to c.recall.new.best.items in
-    held_least c.args.routes.now c.args.asked.now.items c.args.from c.args.to c.recall.new.best.items c.requires.right (subst P c.as_slice.ensures.value c.if-recall.ensures.yes)
+    held_least c.args.routes.now c.args.found.now.asked.items c.args.from c.args.to c.recall.new.best.items c.requires.right (subst P c.as_slice.ensures.value c.if-recall.ensures.yes)
 
 pub returns-clause-right : goal.returns-clause-right
 returns-clause-right c =
-    let P : List LinkId → Type 0 = λ l. MayHoldMore c.args.asked.now.items c.hold.new.asked.items c.args.from c.args.to l in
-    more_right c.args.routes.now c.args.asked.now.items c.hold.new.asked.items c.args.from c.args.to c.find.new.reach.best.items c.requires.right (subst P c.as_slice-2.ensures.value c.hold.ensures) c.if-not-find.ensures.yes
+    let P : List LinkId → Type 0 = λ l. MayHoldMore c.args.found.now.asked.items c.hold.new.asked.items c.args.from c.args.to l in
+    more_right c.args.routes.now c.args.found.now.asked.items c.hold.new.asked.items c.args.from c.args.to c.find_or_follow.new.reach.best.items c.requires.right (subst P c.as_slice-2.ensures.value c.hold.ensures) c.if-not-find_or_follow.ensures.yes

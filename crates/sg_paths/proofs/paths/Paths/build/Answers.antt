@@ -4,6 +4,7 @@ use Rattle.sg_paths.specs.Ahead.{steps_in}
 use Rattle.sg_paths.specs.Reach.{IsRoomy}
 use Rattle.sg_paths.specs.Trail.{AreShort}
 use Rattle.sg_paths.proofs.ReachLemmas.{ready_of, within_of}
+use Rattle.sg_paths.proofs.TreeLemmas.{none_onward}
 use Rattle.sg_paths.proofs.paths.Paths.build.Goals as goal
 
 pub invariant_of-result : goal.invariant_of-result
@@ -20,4 +21,8 @@ invariant_of-result c =
     } in
     let ready = ready_of c.args.points c.args.routes.now c.in_ok-copied.copied.items c.in_ok-arrivals.arrivals c.in_ok-reach.reach c.in_ok-copied.ensures
     (within_of c.args.points c.args.routes.now c.requires) c.in_ok-arrivals.ensures few roomy in
-    record { ready = ready; right = λ k one there. absurd (c.in_ok-asked.ensures k one there) }
+    record {
+      ready = ready;
+      right = λ k one there. absurd (c.in_ok-asked.ensures k one there);
+      onward = none_onward c.in_ok-copied.copied.items c.in_ok-trees.trees.hops.items c.in_ok-trees.ensures;
+    }

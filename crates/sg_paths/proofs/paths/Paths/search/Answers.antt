@@ -3,6 +3,7 @@ use Rattle.sg_base.specs.declared.ids.LinkId.{LinkId}
 use Rattle.sg_paths.specs.declared.route.PathRoute.{PathRoute}
 use Rattle.sg_paths.specs.Path.{Net, HasPath, IsLeastPath}
 use Rattle.sg_paths.proofs.PathLemmas.{no_path_outside}
+use Rattle.sg_paths.proofs.ReachLemmas.{whole_on}
 use Rattle.sg_paths.proofs.paths.Paths.search.Goals as goal
 use Rattle.sg_paths.proofs.paths.Paths.search.Goals.{then-from-self-via-then-from-self, then-from-self-via-else-from-self+then-to-self}
 
@@ -49,3 +50,15 @@ returns-then-from-self c =
             (subst (λ (rs : List PathRoute). HasPath rs c.args.from c.args.to links) (sym routes) has);
       },
     )
+
+pub invariant_of-self-then-find_or_recall : goal.invariant_of-self-then-find_or_recall
+invariant_of-self-then-find_or_recall c =
+    let inv = c.self.invariant in
+    whole_on c.self.inside.points c.as_slice.result.now c.self.inside.routes.items c.self.inside.arrivals c.self.inside.reach c.find_or_recall.new.reach c.find_or_recall.new.found
+    c.as_slice.ensures.value inv.ready c.find_or_recall.ensures.roomy c.find_or_recall.ensures.right c.find_or_recall.ensures.onward
+
+pub invariant_of-self-else-find_or_recall : goal.invariant_of-self-else-find_or_recall
+invariant_of-self-else-find_or_recall c =
+    let inv = c.self.invariant in
+    whole_on c.self.inside.points c.as_slice.result.now c.self.inside.routes.items c.self.inside.arrivals c.self.inside.reach c.find_or_recall.new.reach c.find_or_recall.new.found
+    c.as_slice.ensures.value inv.ready c.find_or_recall.ensures.roomy c.find_or_recall.ensures.right c.find_or_recall.ensures.onward
