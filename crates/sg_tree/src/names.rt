@@ -51,8 +51,9 @@ pub fn add_pair(
         ≡ or_else (get_by (pair_eq q) space.old) (if pair_eq q pair then Some number else None)) }
     ensures memory { OnErr result (IsUnchanged space.old space.new) }
 {
-    if !space.contains_key(&pair) {
-        space.insert(pair, small_number(number)?)?;
+    // Most pairs are new, so that the second insertion is rare.
+    if let Some(first) = space.insert(pair, small_number(number)?)? {
+        space.insert(pair, first)?;
     }
     Ok(())
 }
