@@ -6,3 +6,4 @@ pub mod Repeats
 pub mod TableLemmas
 pub mod Rising
 pub mod PlatformKinds
+pub mod PlainRoutes

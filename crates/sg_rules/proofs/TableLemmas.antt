@@ -61,3 +61,18 @@ limit_small Semaphore = omega arith
 pub few_at : (tree : Members) (table : Table) (rows : List Value) → map view rows ≡ rows_at (table_text table) tree → first (table_kinds table (get_member (table_text table) tree)) ≡ None → length rows < 1048576
 unfolding rows_at
 few_at tree table rows seen none = omega (arith, limit_small table, few_rows table (get_member (table_text table) tree) none, ap length seen, length-map rows view)
+
+pub few_keys : (table : Table) → length (keys_of table) < 100
+few_keys Zone = omega arith
+few_keys Host = omega arith
+few_keys Router = omega arith
+few_keys Link = omega arith
+few_keys Route = omega arith
+few_keys ZoneRoute = omega arith
+few_keys Spoke = omega arith
+few_keys Network = omega arith
+few_keys Profile = omega arith
+few_keys StateProfile = omega arith
+few_keys Actor = omega arith
+few_keys Mutex = omega arith
+few_keys Semaphore = omega arith

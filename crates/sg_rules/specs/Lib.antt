@@ -5,3 +5,4 @@ pub mod Rules
 pub mod Faults
 pub mod Rising
 pub mod PlatformKinds
+pub mod Plain

@@ -155,7 +155,8 @@ fn end_fault(names: &Names, name: &str) -> Option<Kind>
     }
 }
 
-fn is_given_pair(pairs: &IndexMap<(u32, u32), u32>, number: usize, pair: (u32, u32)) -> bool
+/// Returns whether an earlier row than this gave the pair.
+pub fn is_given_pair(pairs: &IndexMap<(u32, u32), u32>, number: usize, pair: (u32, u32)) -> bool
     ensures { result ≡ is_taken (get_by (pair_eq pair) pairs.now) number }
 {
     match pairs.get(&pair) {
@@ -387,7 +388,7 @@ fn whole_fault(least: u64, greatest: u64, number: i64) -> Option<Kind>
     }
 }
 
-fn are_texts(items: &[Value]) -> bool
+pub fn are_texts(items: &[Value]) -> bool
     ensures { result ≡ list_all (λ d. is_some (as_str d)) (map view items.now) }
 {
     for item in items {
@@ -420,7 +421,7 @@ fn has_unknown(links: &IndexMap<String, u32>, items: &[Value]) -> bool
 }
 
 #[tactic(auto, unfolding(crate::specs::Rules::link_list_kinds))]
-fn link_list_fault(links: &IndexMap<String, u32>, items: &[Value]) -> Option<Kind>
+pub fn link_list_fault(links: &IndexMap<String, u32>, items: &[Value]) -> Option<Kind>
     ensures { result
         ≡ first (link_list_kinds (λ name. get_by_text links.now name) (map view items.now)) }
 {

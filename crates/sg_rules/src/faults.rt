@@ -11,10 +11,11 @@ ghost use Rattle.sg_tree.specs.Faults.{at_place, kind_if, of_type};
 ghost use Rattle.sg_tree.specs.Tree.{has_only};
 ghost use Rattle.sg_tree.specs.declared.fault.Kind.TheVariants as kind;
 ghost use Rattle.sg_rules.specs.Rules.{key_kinds, key_text};
-ghost use Rattle.sg_tables.specs.Tables.{row_limit, table_text};
+ghost use Rattle.sg_tables.specs.Tables.{keys_of, row_limit, table_text};
 ghost use Rattle.sg_rules.specs.Faults.{row_faults, table_kinds, table_faults, rows_before, faults_of};
 
 use crate::checks::key_fault;
+use crate::routes::is_plain;
 use sg_base::Memory;
 use sg_names::Names;
 use sg_tables::{Key, Table};
@@ -95,28 +96,50 @@ fn whole_fault(keys: &[Key], row: &Value) -> Option<Kind>
     }
 }
 
-/// Returns the first fault of the row at a place, which has this number in its space.
+/// Returns the first fault of the keys of the row at a place in a table.
+#[tactic(auto, using(crate::proofs::TableLemmas::few_keys))]
+fn fault_of_keys(
+    alloc: Global,
+    names: &Names,
+    number: usize,
+    place: Place,
+    table: Table,
+    row: &Value,
+) -> Result<Option<Fault>, Memory>
+    ensures { IfOk result
+        (λ fault. fault
+        ≡ first (along
+        (λ i key. at_place place.table place.row (i + 1)
+        (key_kinds (names_view names.now) number (view row.now) key)) 0
+        (keys_of table))) }
+{
+    if is_plain(names, table, number, row) {
+        return Ok(None);
+    }
+    keys_fault(alloc, names, number, place, table.keys(), row)
+}
+
+/// Returns the first fault of the row at a place in a table, which has this number in its space.
 #[tactic(auto, unfolding(crate::specs::Faults::row_faults))]
 fn row_fault(
     alloc: Global,
     names: &Names,
     number: usize,
     place: Place,
-    keys: &[Key],
+    table: Table,
     row: &Value,
 ) -> Result<Option<Fault>, Memory>
-    requires { length keys.now < 100 }
     ensures { IfOk result
         (λ fault. fault
-        ≡ first (row_faults (names_view names.now) keys.now number place.table place.row
+        ≡ first (row_faults (names_view names.now) (keys_of table) number place.table place.row
         (view row.now))) }
 {
-    match whole_fault(keys, row) {
+    match whole_fault(table.keys(), row) {
         Some(kind) => {
             let place = Place { key: 0, ..place };
             Ok(Some(Fault { place, kind }))
         }
-        None => keys_fault(alloc, names, number, place, keys, row),
+        None => fault_of_keys(alloc, names, number, place, table, row),
     }
 }
 
@@ -124,18 +147,17 @@ fn row_fault(
 fn rows_fault(
     alloc: Global,
     names: &Names,
-    keys: &[Key],
+    kind: Table,
     before: usize,
     table: u32,
     rows: &[Value],
 ) -> Result<Option<Fault>, Memory>
-    requires few_keys { length keys.now < 100 }
     requires few_rows { length rows.now < 2 ^ 20 }
     requires few_before { before < 2 ^ 63 }
     ensures { IfOk result
         (λ fault. fault
         ≡ first (along
-        (λ i row. row_faults (names_view names.now) keys.now (before + i) table (i + 1)
+        (λ i row. row_faults (names_view names.now) (keys_of kind) (before + i) table (i + 1)
         (view row)) 0 rows.now)) }
 {
     for (i, row) in rows.iter().enumerate() {
@@ -144,7 +166,7 @@ fn rows_fault(
             row: i as u32 + 1,
             key: 0,
         };
-        let found = row_fault(alloc, names, before + i, place, keys, row)?;
+        let found = row_fault(alloc, names, before + i, place, kind, row)?;
         if found.is_some() {
             return Ok(found);
         }
@@ -208,14 +230,7 @@ fn table_fault(
         }
         None => {
             let rows = rows_at(tree, table.text());
-            rows_fault(
-                alloc,
-                names,
-                table.keys(),
-                before(names, table),
-                number,
-                rows,
-            )
+            rows_fault(alloc, names, table, before(names, table), number, rows)
         }
     }
 }

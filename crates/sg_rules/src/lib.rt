@@ -9,6 +9,7 @@ mod faults;
 mod laws;
 mod power;
 mod profiles;
+mod routes;
 
 pub use arguments::text_of;
 pub use faults::first_fault;
