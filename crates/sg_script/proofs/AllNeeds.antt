@@ -6,7 +6,7 @@ use Rattle.sg_edge.specs.Sources.{Source}
 use Rattle.sg_edge.specs.declared.files.Stage.{Stage}
 use Rattle.sg_script.specs.Known.{ScriptNames}
 use Rattle.sg_script.specs.Laws.{NeedIsMost, NeedsAddUp}
-use Rattle.sg_script.specs.Needed.{greatest, need_of}
+use Rattle.sg_script.specs.Needed.{greatest, need_of, needed_by}
 use Rattle.sg_script.specs.Rest.{GoesOn}
 use Rattle.sg_script.specs.Stands.{AreNeeded, IsWithinNeed, one_more}
 use Rattle.sg_script.proofs.Chains.{may_back}
@@ -26,15 +26,18 @@ some_asked actors actor earlier asks none made = elim (cases_lt actors actor) [
   | inr within ↦ omega (arith, within)
 ]
 
-pub most : NeedIsMost
-most known source actors asks count none (inl nothing) = omega (arith, nothing)
-most known source actors asks count none (inr needs) =
+-- each fetch needs no more than all of them
+pub one_needs : (known : ScriptNames) (source : Source) (actors : ℕ) (asks : ℕ → ℕ) → ((x : ℕ) → actors < x → asks x ≡ 0) → (actor earlier : ℕ) → earlier < asks actor → need_of known source actor earlier ≤ needed_by known source actors asks
+one_needs known source actors asks none actor earlier made =
     omega (
       arith,
-      needs.few,
-      greatest_at (asks needs.actor) (λ i. need_of known source needs.actor i) needs.earlier needs.made,
-      greatest_at (actors + 1) (λ a. greatest (asks a) (λ i. need_of known source a i)) needs.actor (some_asked actors needs.actor needs.earlier asks none needs.made),
+      greatest_at (asks actor) (λ i. need_of known source actor i) earlier made,
+      greatest_at (actors + 1) (λ a. greatest (asks a) (λ i. need_of known source a i)) actor (some_asked actors actor earlier asks none made),
     )
+
+pub most : NeedIsMost
+most known source actors asks count none (inl nothing) = omega (arith, nothing)
+most known source actors asks count none (inr needs) = omega (arith, needs.few, one_needs known source actors asks none needs.actor needs.earlier needs.made)
 
 -- more fetches need no less
 pub within_more : (known : ScriptNames) (source : Source) (asks more : ℕ → ℕ) (count : ℕ) → ((x : ℕ) → asks x ≤ more x) → IsWithinNeed known source asks count → IsWithinNeed known source more count
@@ -52,7 +55,7 @@ one_more_rises actor asks x = elim (cases_Bool (eqb x actor)) [
   | inr isnt ↦ rw isnt (omega arith)
 ]
 
-one_more_made : (actor : ℕ) (asks : ℕ → ℕ) → asks actor < one_more actor asks actor
+pub one_more_made : (actor : ℕ) (asks : ℕ → ℕ) → asks actor < one_more actor asks actor
 one_more_made actor asks =
     let is : eqb actor actor ≡ true = grind (arith, nat_tests) in
     rw is (omega arith)

@@ -14,13 +14,13 @@ use Rattle.sg_script.specs.declared.fault.ScriptFault.TheVariants.{Line, Read, M
 use Rattle.sg_script.specs.Answer.{answer_of}
 use Rattle.sg_script.specs.Needed.{need_from, need_of}
 use Rattle.sg_script.specs.Rest.{May}
-use Rattle.sg_script.specs.Stands.{one_more, IsAsked, IsCut, IsNearNeed, AskIs, BreaksOnFailure, Kept, nothing_read, answer_from, Stands, Reads}
+use Rattle.sg_script.specs.Stands.{one_more, IsAsked, IsCut, IsEnough, IsNearNeed, AskIs, BreaksOnFailure, Kept, nothing_read, answer_from, Stands, Reads}
 use Rattle.sg_script.specs.kept.Queues.{waits}
 use Rattle.sg_script.specs.kept.Spending.{IsThrifty, Spends}
 use Rattle.sg_script.specs.kept.Steps.{Goes, Answers, Ends, no_ask, one_ask}
 use Rattle.sg_script.proofs.Chains.{may_back}
 use Rattle.sg_script.proofs.QueueLemmas.{none_wait}
-use Rattle.sg_script.proofs.Spending.{no_length}
+use Rattle.sg_script.proofs.Spending.{all_may, begun_or_not, no_length}
 
 -- the answer to a fetch from a source that has a piece more
 joined : (known : ScriptNames) (taken piece rest : List ℕ) (broken : Bool) (actor k : ℕ) → answer_of known (record { bytes = (taken ++ piece) ++ rest; broken = broken }) actor k ≡ answer_of known (record { bytes = taken ++ (piece ++ rest); broken = broken }) actor k
@@ -54,7 +54,7 @@ need_next known taken piece rest broken source asks actor stage old stands may b
 
 near_need : (known : ScriptNames) (taken piece : List ℕ) (asks : ℕ → ℕ) (actor : ℕ) (v w : PartView) (old : Kept) → Stands known taken v.stage asks old → Reads piece v w → IsThrifty known actor v.stage w.stage piece old → IsNearNeed known taken piece w.stage actor (asks actor)
 near_need known taken piece asks actor v w old stands reads thrifty source goes = elim (some_wait (waits known.members old.queues actor)) [
-  | inr waits ↦ inl (thrifty.idle waits)
+  | inr waits ↦ inl (thrifty.idle waits).0
   | inl empty ↦ elim (thrifty.near goes.rest source.broken goes.may) [
     | inl none ↦ inl (no_length piece none)
     | inr near ↦ inr (omega (
@@ -62,6 +62,21 @@ near_need known taken piece asks actor v w old stands reads thrifty source goes 
       near,
       length-append taken piece,
       need_next known taken piece goes.rest source.broken source asks actor v.stage old stands (may_back v.stage w.stage piece goes.rest source.broken reads.stayed goes.may) goes.bytes refl empty,
+    ))
+  ]
+]
+
+-- after what answers this fetch no read met the end or failed
+enough_last : (known : ScriptNames) (taken piece : List ℕ) (asks : ℕ → ℕ) (actor : ℕ) (v w : PartView) (old : Kept) → Stands known taken v.stage asks old → Reads piece v w → IsThrifty known actor v.stage w.stage piece old → IsEnough known (taken ++ piece) actor (asks actor) → w.stage ≡ v.stage
+enough_last known taken piece asks actor v w old stands reads thrifty enough = elim (some_wait (waits known.members old.queues actor)) [
+  | inr waits ↦ (thrifty.idle waits).1
+  | inl empty ↦ elim (begun_or_not v.stage) [
+    | inr isnt ↦ (reads.stayed isnt).1
+    | inl is ↦ thrifty.last (λ rest broken. omega (
+      arith,
+      enough rest broken,
+      length-append taken piece,
+      need_next known taken piece rest broken (record { bytes = (taken ++ piece) ++ rest; broken = broken }) asks actor v.stage old stands (all_may v.stage (piece ++ rest) broken is) refl refl empty,
     ))
   ]
 ]
@@ -82,6 +97,7 @@ asked_is known taken asks actor answer v w old new stands is = record {
   piece = is.piece;
   reads = is.reads;
   near = near_need known taken is.piece asks actor v w old stands is.reads is.thrifty;
+  last = enough_last known taken is.piece asks actor v w old stands is.reads is.thrifty;
   answer_is = λ rest broken may.
       let none : asks actor ≡ asks actor + 0 = omega arith in
       joined known taken is.piece rest broken actor (asks actor)
@@ -112,6 +128,7 @@ cut_is known taken asks actor v w old new stands is = record {
   piece = is.piece;
   reads = is.reads;
   near = near_need known taken is.piece asks actor v w old stands is.reads is.thrifty;
+  last = enough_last known taken is.piece asks actor v w old stands is.reads is.thrifty;
   stands = record {
     answers = λ rest broken may other later.
         joined known taken is.piece rest broken other (asks other + later)

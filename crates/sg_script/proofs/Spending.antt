@@ -34,7 +34,7 @@ no_length (x ∷ l) none = absurd (omega (arith, none))
 pub thrifty_none : (known : ScriptNames) (actor : ℕ) (stage : Stage) (old : Kept) → IsThrifty known actor stage stage [] old
 thrifty_none known actor stage old = record {
   near = λ rest broken may. inl refl;
-  idle = λ waits. refl;
+  idle = λ waits. (refl, refl);
   enough = λ suffices. refl;
   last = λ suffices. refl;
 }
@@ -142,13 +142,13 @@ cost_then known actor s p a b empty empty' spends rest broken may =
     let none : spends.own actor ≡ 0 = omega (arith, spends.queued actor, ap length empty, ap length empty') in
     omega (arith, spends.cost rest broken may actor 0, later_same known broken actor a.lines (a.pending ++ (p ++ rest)) (spends.own actor) 0 none)
 
-begun_or_not : (s : Stage) → (s ≡ Begun) ⊎ (s ≢ Begun)
+pub begun_or_not : (s : Stage) → (s ≡ Begun) ⊎ (s ≢ Begun)
 begun_or_not Fresh = inr (λ e. cc)
 begun_or_not Begun = inl refl
 begun_or_not Over = inr (λ e. cc)
 begun_or_not Broken = inr (λ e. cc)
 
-all_may : (s : Stage) (rest : List ℕ) (broken : Bool) → s ≡ Begun → May s rest broken
+pub all_may : (s : Stage) (rest : List ℕ) (broken : Bool) → s ≡ Begun → May s rest broken
 all_may s rest broken is = rw is tt
 
 -- what suffices with two pieces suffices with the second, if the first was read

@@ -24,15 +24,16 @@ abbrev pub Suffices : ScriptNames → ℕ → Kept → List ℕ → Type 0
 Suffices known actor kept piece = (rest : List ℕ) (broken : Bool) →
     cost_from known kept (piece ++ rest) broken actor ≤ length kept.pending + length piece
 
--- A fetch read nothing, or less than a piece more than it needs, whatever may still come. It read
--- nothing if an action waits for the actor, or what is kept suffices. After a piece that suffices
--- no read follows, which may meet the end or fail.
+-- A fetch read nothing, or less than a piece more than it needs, whatever may still come. It made no
+-- read if an action waits for the actor, and took nothing if what is kept suffices. After a piece
+-- that suffices no read follows, which may meet the end or fail.
 pub record Frugal (known : ScriptNames) (actor : ℕ) (old_part new_part : PartView)
     (old : Kept) : Type 0 where
   pub piece : List ℕ
   pub reads : Reads piece old_part new_part
   pub near : (rest : List ℕ) (broken : Bool) → May new_part.stage rest broken →
       IsNear known actor piece old rest broken
-  pub idle : waits known.members old.queues actor ≢ [] → piece ≡ []
+  pub idle : waits known.members old.queues actor ≢ [] →
+      (piece ≡ []) × (new_part.stage ≡ old_part.stage)
   pub enough : Suffices known actor old [] → piece ≡ []
   pub last : Suffices known actor old piece → new_part.stage ≡ old_part.stage

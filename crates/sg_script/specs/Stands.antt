@@ -78,13 +78,20 @@ IsNearNeed known taken piece stage actor earlier =
     (source : Source) → GoesOn (taken ++ piece) stage source → (piece ≡ [])
     ⊎ (length (taken ++ piece) ≤ need_of known source actor earlier + 4095)
 
--- the answer is the whole script's, and the script stands for what was read and asked
+-- what was taken answers this fetch, whatever follows it
+abbrev pub IsEnough : ScriptNames → List ℕ → ℕ → ℕ → Type 0
+IsEnough known taken actor earlier = (rest : List ℕ) (broken : Bool) →
+    need_of known (record { bytes = taken ++ rest; broken = broken }) actor earlier ≤ length taken
+
+-- the answer is the whole script's, and the script stands for what was read and asked; if what was
+-- taken answers the fetch, no read of it met the end or failed
 pub record IsAsked (known : ScriptNames) (taken : List ℕ) (asks : ℕ → ℕ) (actor : ℕ)
     (answer : Result (Option Action) ScriptFault) (old_part new_part : PartView)
     (new : Kept) : Type 0 where
   pub piece : List ℕ
   pub reads : Reads piece old_part new_part
   pub near : IsNearNeed known taken piece new_part.stage actor (asks actor)
+  pub last : IsEnough known (taken ++ piece) actor (asks actor) → new_part.stage ≡ old_part.stage
   pub answer_is : (rest : List ℕ) (broken : Bool) → May new_part.stage rest broken →
       answer_of known (record { bytes = (taken ++ piece) ++ rest; broken = broken }) actor
       (asks actor) ≡ answer
@@ -96,6 +103,7 @@ pub record IsCut (known : ScriptNames) (taken : List ℕ) (asks : ℕ → ℕ) (
   pub piece : List ℕ
   pub reads : Reads piece old_part new_part
   pub near : IsNearNeed known taken piece new_part.stage actor (asks actor)
+  pub last : IsEnough known (taken ++ piece) actor (asks actor) → new_part.stage ≡ old_part.stage
   pub stands : Stands known (taken ++ piece) new_part.stage asks new
 
 -- What a fetch did that had this answer. Before it these bytes were taken, and so many fetches of

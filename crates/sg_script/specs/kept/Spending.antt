@@ -27,6 +27,6 @@ pub record IsThrifty (known : ScriptNames) (actor : ℕ) (start stage : Stage) (
     (old : Kept) : Type 0 where
   pub near : (rest : List ℕ) (broken : Bool) → May stage rest broken →
       IsNear known actor piece old rest broken
-  pub idle : waits known.members old.queues actor ≢ [] → piece ≡ []
+  pub idle : waits known.members old.queues actor ≢ [] → (piece ≡ []) × (stage ≡ start)
   pub enough : Suffices known actor old [] → piece ≡ []
   pub last : Suffices known actor old piece → stage ≡ start
