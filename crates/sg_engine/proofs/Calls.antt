@@ -19,19 +19,19 @@ use Rattle.sg_script.specs.Answer.{answer_of}
 use Rattle.sg_script.specs.Known.{ScriptNames as Names}
 use Rattle.sg_script.specs.declared.script.Script.{Script}
 use Rattle.sg_script.specs.Rest.{GoesOn}
-use Rattle.sg_script.specs.Stands.{Kept, kept_of, IsAsked, IsCut, IsWithinNeed, one_more}
+use Rattle.sg_script.specs.Stands.{Kept, kept_of, IsAsked, IsCut, IsEnough, IsWithinNeed, one_more}
 use Rattle.sg_script.specs.declared.fault.ScriptFault.{ScriptFault}
-use Rattle.sg_script.proofs.AllNeeds.{add_up, within_more}
+use Rattle.sg_script.proofs.AllNeeds.{add_up, one_more_made, within_more}
 use Rattle.sg_script.proofs.Chains.{reads_none, reads_then}
 use Rattle.sg_engine.specs.declared.actor_call.ActorCall.{ActorCall}
 use Rattle.sg_engine.specs.declared.ended.Ended.{Ended}
 use Rattle.sg_engine.specs.declared.ended.Ended.TheVariants as ended
 use Rattle.sg_engine.specs.kept.CallList.{calls_of}
 use Rattle.sg_engine.specs.Run.{Scene, scene, Answering, Progress, at_world, then_unless_ended, ended_by, in_world, with_front, ask_step, answer_step, unless_killed}
-use Rattle.sg_engine.specs.kept.Moments.{Cast, Moment, moment, moment_of, Fits, StandsFor, IsStretch, LacksMemory, ending, script_part}
+use Rattle.sg_engine.specs.kept.Moments.{Cast, Moment, moment, moment_of, Fits, StandsFor, StaysOpen, IsStretch, LacksMemory, ending, script_part}
 use Rattle.sg_engine.proofs.Asked.{ask_made, asks_rise}
 use Rattle.sg_engine.proofs.Runs.{ask_keeps, calls_keep_behind, contexts_fall}
-use Rattle.sg_engine.proofs.Reaching.{goes_back, matched_as, reached_then, reached_as, reached_spent, rest_as, goes_on_to, ends_at, stands_as}
+use Rattle.sg_engine.proofs.Reaching.{goes_back, matched_as, open_then, reached_then, reached_as, reached_spent, rest_as, goes_on_to, ends_at, stands_as}
 
 -- ---- one call
 -- a step of the kernel, for which nothing of the script was read
@@ -45,6 +45,7 @@ stepped names taken cast part kept old new room world step how begun stands is e
     record {
       piece = [];
       reads = reads_none part begun;
+      last = λ all. refl;
       setup = ap (λ (k : Known). k.setup) is;
       world = led;
       stands = stands_as names taken (taken ++ []) cast (moment part kept new) led (sym (append-nil taken)) (record { script = stands.script; core = core; cast = stands.cast });
@@ -63,6 +64,7 @@ pub used_up : (names : Names) (taken : List ℕ) (cast : Cast) (part : PartView)
 used_up names taken cast part kept known world actor begun stands used = record {
   piece = [];
   reads = reads_none part begun;
+  last = λ all. refl;
   setup = refl;
   world = world;
   stands = stands_as names taken (taken ++ []) cast (moment part kept known) world (sym (append-nil taken)) stands;
@@ -74,6 +76,15 @@ used_up names taken cast part kept known world actor begun stands used = record 
       ap (λ (b : Bool). cond b (at_world (Some ended.Budget) world) (answer_step known.setup actor (answer_of names source actor (world.asks actor)) (record world { asks = one_more actor world.asks }))) here;
 }
 
+-- the fetch is among those that were made
+pub ask_last : (names : Names) (taken piece : List ℕ) (part part' : PartView) (kept : Kept) (cast : Cast) (known : Known) (world : World) (actor : ℕ) → StandsFor names taken cast (moment part kept known) world → (known.core.events == known.setup.budget) ≡ false →
+    (IsEnough names (taken ++ piece) actor (world.asks actor) → part'.stage ≡ part.stage) → StaysOpen names (λ answers. ask_step known.setup answers actor world) (taken ++ piece) part.stage part'.stage
+ask_last names taken piece part part' kept cast known world actor stands unused last all =
+    let here : (world.core.events == known.setup.budget) ≡ false = ap (λ (core : Core). core.events == known.setup.budget) (sym stands.core) ∙ unused in
+    last (λ rest broken.
+    let answers = answer_of names (record { bytes = (taken ++ piece) ++ rest; broken = broken }) in
+    all rest broken actor (world.asks actor) (subst (λ (asks : ℕ → ℕ). world.asks actor < asks actor) (sym (ask_made known.setup answers actor world here)) (one_more_made actor world.asks)))
+
 -- the script has answered a fetch
 abbrev pub asked_to : (names : Names) (taken : List ℕ) (cast : Cast) (part part' : PartView) (kept kept' : Kept) (known : Known) (world : World) (actor : ℕ) (answer : Result (Option Action) ScriptFault) →
     StandsFor names taken cast (moment part kept known) world → (known.core.events == known.setup.budget) ≡ false → IsAsked names taken world.asks actor answer part part' kept' →
@@ -81,6 +92,7 @@ abbrev pub asked_to : (names : Names) (taken : List ℕ) (cast : Cast) (part par
 asked_to names taken cast part part' kept kept' known world actor answer stands unused is_asked = record {
   piece = is_asked.piece;
   reads = is_asked.reads;
+  last = ask_last names taken is_asked.piece part part' kept cast known world actor stands unused is_asked.last;
   setup = refl;
   world = record world { asks = one_more actor world.asks };
   stands = record {
@@ -117,6 +129,7 @@ pub cut_asked : (names : Names) (taken : List ℕ) (cast : Cast) (part part' : P
 cut_asked names taken cast part part' kept kept' known world actor stands unused cut = record {
   piece = cut.piece;
   reads = cut.reads;
+  last = ask_last names taken cut.piece part part' kept cast known world actor stands unused cut.last;
   needed = λ source goes.
       let here : (world.core.events == known.setup.budget) ≡ false = ap (λ (core : Core). core.events == known.setup.budget) (sym stands.core) ∙ unused in
       subst (λ (asks : ℕ → ℕ). IsWithinNeed names source asks (length (taken ++ cut.piece))) (sym (ask_made known.setup (answer_of names source) actor world here))
@@ -176,7 +189,8 @@ one_more_call {spent} names whole roads setup firsts script calls i d taken cast
     reached_spent first.world.work spent names whole (rest_from (scene roads setup firsts script) calls (i + 1)) taken cast' old new first.work
     (reached_then names whole (rest_from (scene roads setup firsts script) calls i) (rest_from (scene roads setup firsts script) calls (i + 1)) taken cast cast' old mid new first
     (reached_as names _ (λ answers. rest_from (scene roads setup firsts script) calls i answers first.world) (rest_from (scene roads setup firsts script) calls (i + 1)) (taken ++ first.piece) cast' mid new (λ answers. calls_more (scene roads setup firsts script) answers calls i d first.world within)
-    (goes_on_to names (at_place (scene roads setup firsts script) (get_or calls i d) first.world) (rest_from (scene roads setup firsts script) calls (i + 1)) (taken ++ first.piece) cast' mid new here)))
+    (goes_on_to names (at_place (scene roads setup firsts script) (get_or calls i d) first.world) (rest_from (scene roads setup firsts script) calls (i + 1)) (taken ++ first.piece) cast' mid new
+    (λ answers. calls_keep_behind asks_rise (at_place (scene roads setup firsts script) (get_or calls i d) first.world answers) (scene roads setup firsts script) answers (drop (i + 1) calls)) here)))
 
 -- one more call was answered, and the run has ended
 pub last_call : {spent : ℕ} (names : Names) (whole : Answering → Progress) (roads : Roads) (setup : Setup) (firsts : List Mind) (script : Bool) (calls : List ActorCall) (i : ℕ) (d : ActorCall) (how : Ended) (taken : List ℕ) (cast cast' : Cast) (old mid new : Moment) → i < length calls → mid.kernel.setup ≡ setup →
@@ -188,7 +202,8 @@ last_call {spent} names whole roads setup firsts script calls i d how taken cast
     reached_spent first.world.work spent names whole (ending (Some how)) taken cast' old new first.work
     (reached_then names whole (rest_from (scene roads setup firsts script) calls i) (ending (Some how)) taken cast cast' old mid new first
     (reached_as names _ (λ answers. rest_from (scene roads setup firsts script) calls i answers first.world) (ending (Some how)) (taken ++ first.piece) cast' mid new (λ answers. calls_more (scene roads setup firsts script) answers calls i d first.world within)
-    (ends_at names (at_place (scene roads setup firsts script) (get_or calls i d) first.world) (rest_from (scene roads setup firsts script) calls (i + 1)) how (taken ++ first.piece) cast' mid new here)))
+    (ends_at names (at_place (scene roads setup firsts script) (get_or calls i d) first.world) (rest_from (scene roads setup firsts script) calls (i + 1)) how (taken ++ first.piece) cast' mid new
+    (λ answers. calls_keep_behind asks_rise (at_place (scene roads setup firsts script) (get_or calls i d) first.world answers) (scene roads setup firsts script) answers (drop (i + 1) calls)) here)))
 
 -- no call is left
 pub all_called : {spent : ℕ} (names : Names) (whole : Answering → Progress) (at : Scene) (calls : List ActorCall) (i : ℕ) (taken : List ℕ) (cast : Cast) (old new : Moment) → length calls ≤ i →
@@ -204,6 +219,15 @@ cut_later names whole roads setup firsts script calls i d taken cast left old mi
     record {
       piece = first.piece ++ cut.piece;
       reads = reads_then first.piece cut.piece old.part mid.part new first.reads cut.reads;
+      last = open_then names whole (λ answers. unless_killed (scene roads mid.kernel.setup firsts script) answers (get_or calls i d).actor.0 (get_or calls i d).call first.world) taken first.piece cut.piece old.part mid.part new first.reads cut.reads
+          (λ source goes x.
+          let at : Scene = scene roads setup firsts script in
+          let answers = answer_of names source in
+          let call : Progress = at_place at (get_or calls i d) first.world answers in
+          let here : (at_place (scene roads mid.kernel.setup firsts script) (get_or calls i d) first.world answers).world.asks x ≡ call.world.asks x = ap (λ (s : Setup). (at_place (scene roads s firsts script) (get_or calls i d) first.world answers).world.asks x) same in
+          let all : whole answers ≡ with_front first.made (then_unless_ended call (calls_of at answers (drop (i + 1) calls))) = first.is source goes ∙ ap (with_front first.made) (calls_more at answers calls i d first.world within) in
+          omega (arith, here, ap (λ (p : Progress). p.world.asks x) all, calls_keep_behind asks_rise call at answers (drop (i + 1) calls) x))
+          first.last cut.last;
       needed = λ source goes.
           let at : Scene = scene roads setup firsts script in
           let answers = answer_of names source in

@@ -110,6 +110,7 @@ pub created_short : (names : Names) (taken : List ℕ) (cast : Cast) (left : ℕ
 created_short names taken cast left part kept old world firsts actor target given begun stands unused is left_is = record {
   piece = [];
   reads = reads_none part begun;
+  last = λ all. refl;
   needed = λ source goes.
       let same : taken ++ [] ≡ taken = append-nil taken in
       let there : GoesOn taken part.stage source = subst (λ (t : List ℕ). GoesOn t part.stage source) same goes in

@@ -1,5 +1,5 @@
 -- From what a run has come to, to what it has written in all.
-use Rattle.std.proofs.Common.{◌≡◌, ◌≢◌, ◌≤◌, ◌+◌, ◌-◌, ◌∙◌, arith, ap, sym, subst, refl, ℕ, List, [], ◌++◌, length, Bool, true, false, IsTrue, Option, None, Some}
+use Rattle.std.proofs.Common.{◌≡◌, ◌≢◌, ◌<◌, ◌≤◌, ◌+◌, ◌-◌, ◌∙◌, arith, ap, sym, subst, refl, ℕ, List, [], ◌++◌, length, Bool, true, false, IsTrue, Option, None, Some}
 use Rattle.std.proofs.lemmas.List.{append-nil}
 use Rattle.std.specs.Prelude.{MatchBool, IsSome}
 use Rattle.sg_edge.specs.declared.sinks.Stream.{Stream}
@@ -13,18 +13,18 @@ use Rattle.sg_calls.specs.World.{Core}
 use Rattle.sg_rows.specs.Deployment.{Deployed, started_number}
 use Rattle.sg_rows.specs.Platform.{Platform}
 use Rattle.sg_script.specs.Answer.{answer_of}
-use Rattle.sg_script.specs.Known.{known_in}
+use Rattle.sg_script.specs.Known.{ScriptNames as Names, known_in}
 use Rattle.sg_script.specs.Needed.{needed_by}
 use Rattle.sg_script.specs.Stands.{Reads}
 use Rattle.sg_script.specs.Rest.{GoesOn}
-use Rattle.sg_script.proofs.AllNeeds.{most}
+use Rattle.sg_script.proofs.AllNeeds.{most, one_needs}
 use Rattle.sg_script.proofs.Whole.{given_goes_on}
 use Rattle.sg_engine.specs.declared.ended.Ended.{Ended}
 use Rattle.sg_engine.specs.declared.show.Show.{Show}
 use Rattle.sg_engine.specs.Gains.{GainsAll, GainsFronts}
-use Rattle.sg_engine.specs.RunContract.{is_cut, Ends, IsBroken, TakesContexts}
+use Rattle.sg_engine.specs.RunContract.{is_cut, AreEnough, Ends, EndsOnDemand, IsBroken, TakesContexts}
 use Rattle.sg_engine.specs.Output.{first_of, trace_of, last_lines, fault_line, written_of, run_output, scene_of}
-use Rattle.sg_engine.specs.kept.Moments.{AreNeededBy, script_part}
+use Rattle.sg_engine.specs.kept.Moments.{AnswersAll, AreNeededBy, StaysOpen, script_part}
 use Rattle.sg_engine.specs.Run.{Answering, Progress, run_of}
 use Rattle.sg_engine.specs.kept.Stretches.{CutsOff, IsOver}
 use Rattle.sg_engine.proofs.Asked.{only_actors}
@@ -124,6 +124,31 @@ run_needed platform deployed script budget crew show piece old new source going 
     let asks = (run_of (scene_of platform deployed script budget) (first_of platform deployed budget crew) (answer_of names source)).world.asks in
     takes_up script piece old new (needed_by names source (length deployed.actors) asks + 4095) reads same
     (most names source (length deployed.actors) asks (length piece) (only_actors platform deployed script budget crew (answer_of names source)) (needed source (going piece reads)))
+
+-- what is enough for the fetches of a whole answers all of them
+pub answers_all : (names : Names) (actors : ℕ) (whole : Answering → Progress) (taken : List ℕ) → ((answers : Answering) (x : ℕ) → actors < x → (whole answers).world.asks x ≡ 0) →
+    AreEnough (λ source. needed_by names source actors (whole (answer_of names source)).world.asks) taken → AnswersAll names whole taken
+answers_all names actors whole taken none enough rest broken actor earlier made =
+    let source : Source = record { bytes = taken ++ rest; broken = broken } in
+    let few : needed_by names source actors (whole (answer_of names source)).world.asks ≤ length taken = enough rest broken in
+    omega (arith, few, one_needs names source actors (whole (answer_of names source)).world.asks (none (answer_of names source)) actor earlier made)
+
+-- a part that is as it was is as open as it was
+pub ends_none : (need : Source → ℕ) (old new : PartView) → new ≡ old → EndsOnDemand need old new
+ends_none need old new same = subst (λ (p : PartView). EndsOnDemand need old p) (sym same) (record { taken = []; left = sym (before-nil old.left); shut = λ isnt. refl; last = λ enough. refl })
+
+pub ends_up : (script : Bool) (piece : List ℕ) (old new : PartView) (need : Source → ℕ) → Reads piece (script_part script old) (script_part script new) → (script ≡ false → new ≡ old) → (AreEnough need piece → (script_part script new).stage ≡ (script_part script old).stage) → EndsOnDemand need old new
+ends_up true piece old new need reads same last = record { taken = piece; left = reads.left; shut = λ isnt. (reads.stayed isnt).0; last = last }
+ends_up false piece old new need reads same last = ends_none need old new (same refl)
+
+-- no read of a run followed one after which its fetches had their answers
+pub run_last : (platform : Platform) (deployed : Deployed) (script : Bool) (budget crew : ℕ) (show : Show) (piece : List ℕ) (old new : PartView) → Reads piece (script_part script old) (script_part script new) → (script ≡ false → new ≡ old) →
+    StaysOpen (known_in deployed) (run_of (scene_of platform deployed script budget) (first_of platform deployed budget crew)) piece (script_part script old).stage (script_part script new).stage → EndsOnDemand (λ source. (run_output platform deployed script budget crew show source).need) old new
+run_last platform deployed script budget crew show piece old new reads same stays =
+    let names = known_in deployed in
+    let whole = run_of (scene_of platform deployed script budget) (first_of platform deployed budget crew) in
+    ends_up script piece old new (λ source. (run_output platform deployed script budget crew show source).need) reads same
+    (λ enough. stays (answers_all names (length deployed.actors) whole piece (only_actors platform deployed script budget crew) enough))
 
 left_told : (piece : List ℕ) (a b : Option (List ℕ)) → a ≡ before piece b → IsSome a → IsSome b
 left_told piece a None is some = subst IsSome is some

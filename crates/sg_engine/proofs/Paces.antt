@@ -35,11 +35,11 @@ use Rattle.sg_engine.specs.Gains.{GainsAll, GainsFronts}
 use Rattle.sg_engine.specs.Output.{first_of, scene_of, trace_of}
 use Rattle.sg_engine.specs.Pace.{IsInPace, first_parts, pace_of}
 use Rattle.sg_engine.specs.Run.{Scene, Answering, Progress, are_completed, at_world, then_unless_ended, and_then_by, round_or_pass, with_front}
-use Rattle.sg_engine.specs.kept.Moments.{AreNeededBy, Cast, moment, script_part}
+use Rattle.sg_engine.specs.kept.Moments.{AreNeededBy, StaysOpen, Cast, moment, script_part}
 use Rattle.sg_engine.specs.kept.Stretches.{Trace, Advances, CutsOff, IsPaced}
 use Rattle.sg_engine.proofs.Asked.{asks_rise, only_actors_by}
-use Rattle.sg_engine.proofs.Endings.{Going, takes_none, takes_up}
-use Rattle.sg_engine.proofs.Reaching.{goes_back, reached_needed}
+use Rattle.sg_engine.proofs.Endings.{Going, answers_all, ends_none, ends_up, takes_none, takes_up}
+use Rattle.sg_engine.proofs.Reaching.{answers_fewer, goes_back, open_then, reached_needed}
 use Rattle.sg_engine.proofs.Runs.{parts_keep, then_keeps}
 use Rattle.sg_engine.proofs.Simulating.{SoFar, trace_none}
 use Rattle.sg_engine.proofs.Waiting.{gains_then}
@@ -98,7 +98,7 @@ part_next n m at answers first world made more some here =
     ∙ ap (with_front made) (one_part at answers world some)
 
 -- the fetches of the parts so far are among those with one more
-part_rises : (n m : ℕ) (at : Scene) (answers : Answering) (first : World) → m ≡ suc n → (x : ℕ) → (parts_from n at answers first).world.asks x ≤ (parts_from m at answers first).world.asks x
+pub part_rises : (n m : ℕ) (at : Scene) (answers : Answering) (first : World) → m ≡ suc n → (x : ℕ) → (parts_from n at answers first).world.asks x ≤ (parts_from m at answers first).world.asks x
 part_rises n m at answers first more x =
     let here = parts_from n at answers first in
     subst (λ (p : Progress). here.world.asks x ≤ p.world.asks x) (sym (ap (λ (k : ℕ). parts_from k at answers first) more ∙ parts_more n at answers first))
@@ -111,6 +111,7 @@ pub paced_here : {from count : ℕ} (names : Names) (trace : Trace) (whole : Ans
 paced_here names trace whole rest n at first cast p0 p1 q0 q1 k0 k1 start before far = record {
   piece = far.reached.piece;
   reads = far.reached.reads;
+  last = λ all. far.stays (answers_fewer names (λ answers. parts_from (n + 1) at answers first) (λ answers. parts_from n at answers first) far.reached.piece (λ source goes. part_rises n (n + 1) at (answer_of names source) first (omega arith)) all);
   number = n;
   written = λ source goes. (
     [],
@@ -125,11 +126,17 @@ paced_here names trace whole rest n at first cast p0 p1 q0 q1 k0 k1 start before
 -- what was written of a part, whatever that was
 paced_on : {from count : ℕ} (names : Names) (trace : Trace) (whole : Answering → Progress) (rest : Answering → World → Progress) (n : ℕ) (at : Scene) (first : World) (cast : Cast) (p0 p1 p2 : PartView) (q0 q1 : Kept) (k0 k1 : Known) (start before after : Option (List ℕ)) →
     (far : SoFar from count names trace whole rest (λ answers. parts_from n at answers first) cast p0 p1 q0 q1 k0 k1 start before) → list_all is_over k1.core.actors ≡ false →
-    (piece : List ℕ) → Reads piece p1 p2 → AreNeededBy names (λ answers. round_or_pass at answers far.reached.world) (far.reached.piece ++ piece) p2.stage →
+    (piece : List ℕ) → Reads piece p1 p2 → StaysOpen names (λ answers. round_or_pass at answers far.reached.world) (far.reached.piece ++ piece) p1.stage p2.stage → AreNeededBy names (λ answers. round_or_pass at answers far.reached.world) (far.reached.piece ++ piece) p2.stage →
     ((source : Source) → GoesOn (far.reached.piece ++ piece) p2.stage source → (text : List ℕ) × (after ≡ gain before text)) → IsPaced names trace (λ parts answers. parts_from parts at answers first) p0 p2 start after
-paced_on names trace whole rest n at first cast p0 p1 p2 q0 q1 k0 k1 start before after far some piece reads needed gains = record {
+paced_on names trace whole rest n at first cast p0 p1 p2 q0 q1 k0 k1 start before after far some piece reads stays needed gains = record {
   piece = far.reached.piece ++ piece;
   reads = reads_then far.reached.piece piece p0 p1 p2 far.reached.reads reads;
+  last = open_then names (λ answers. parts_from (n + 1) at answers first) (λ answers. round_or_pass at answers far.reached.world) [] far.reached.piece piece p0 p1 p2 far.reached.reads reads
+      (λ source goes x.
+      let answers = answer_of names source in
+      let some_here : list_all is_over far.reached.world.core.actors ≡ false = ap (λ (c : Core). list_all is_over c.actors) (sym far.reached.stands.core) ∙ some in
+      omega (arith, ap (λ (p : Progress). p.world.asks x) (part_next n (n + 1) at answers first far.reached.world far.reached.made (omega arith) some_here (far.counted source goes))))
+      (λ all. far.stays (answers_fewer names (λ answers. parts_from (n + 1) at answers first) (λ answers. parts_from n at answers first) far.reached.piece (λ source goes. part_rises n (n + 1) at (answer_of names source) first (omega arith)) all)) stays;
   number = n;
   written = λ source goes.
       let here = far.counted source (goes_back far.reached.piece piece p1 p2 source reads goes) in
@@ -151,10 +158,10 @@ pub paced_ends : {from count : ℕ} (next : ℕ) (b : Bool) (names : Names) (tra
     MatchBool b (CutsOff names trace (λ answers. round_or_pass at answers far.reached.world) far.reached.piece cast'.contexts p1 p2 before after) (Advances next names trace (λ answers. round_or_pass at answers far.reached.world) how far.reached.piece cast' (moment p1 q1 k1) (moment p2 q2 k2) before after) →
     IsPaced names trace (λ parts answers. parts_from parts at answers first) p0 p2 start after
 paced_ends next true names trace whole rest n at first how cast cast' p0 p1 p2 q0 q1 q2 k0 k1 k2 start before after far some cut =
-    paced_on names trace whole rest n at first cast p0 p1 p2 q0 q1 k0 k1 start before after far some cut.piece cut.reads cut.needed
+    paced_on names trace whole rest n at first cast p0 p1 p2 q0 q1 k0 k1 start before after far some cut.piece cut.reads cut.last cut.needed
     (λ source goes. let front = cut.front source goes in (front.1.done, front.1.held))
 paced_ends next false names trace whole rest n at first how cast cast' p0 p1 p2 q0 q1 q2 k0 k1 k2 start before after far some part =
-    paced_on names trace whole rest n at first cast p0 p1 p2 q0 q1 k0 k1 start before after far some part.reached.piece part.reached.reads
+    paced_on names trace whole rest n at first cast p0 p1 p2 q0 q1 k0 k1 start before after far some part.reached.piece part.reached.reads part.reached.last
     (reached_needed names (λ answers. round_or_pass at answers far.reached.world) how far.reached.piece cast' (moment p1 q1 k1) (moment p2 q2 (record k2 { records = part.records })) part.reached)
     (λ source goes. (trace part.records, part.printed))
 
@@ -168,7 +175,7 @@ ends_gain false X out err mid new all = (out, all.1.out_held)
 pub run_paced : (platform : Platform) (deployed : Deployed) (script : Bool) (budget crew : ℕ) (show : Show) (old new : Stream → Option (List ℕ)) (mid : Option (List ℕ)) (text : List ℕ) (before after : Part → PartView) (source : Source) →
     Going (script_part script (before Script)) (script_part script (after Script)) source → (script ≡ false → after Script ≡ before Script) →
     IsPaced (known_in deployed) (trace_of show platform deployed) (first_parts platform deployed script budget crew) (script_part script (before Script)) (script_part script (after Script)) (old Out) mid → new Out ≡ gain mid text →
-    IsInPace (pace_of platform deployed script budget crew show source) old new before after
+    IsInPace (pace_of platform deployed script budget crew show) source old new before after
 run_paced platform deployed script budget crew show old new mid text before after source going same paced more =
     let names = known_in deployed in
     let goes = going paced.piece paced.reads in
@@ -181,10 +188,12 @@ run_paced platform deployed script budget crew show old new mid text before afte
       written = more ∙ ap (λ (h : Option (List ℕ)). gain h text) wrote.1 ∙ gain-gain (old Out) (made ++ wrote.0) text ∙ ap (gain (old Out)) (append_assoc made wrote.0 text);
       read = takes_up script paced.piece (before Script) (after Script) (needed_by names source (length deployed.actors) next.world.asks + 4095) paced.reads same
           (most names source (length deployed.actors) next.world.asks (length paced.piece) (only_actors_by platform deployed script budget crew (paced.number + 1) (answer_of names source)) (paced.needed source goes));
+      last = ends_up script paced.piece (before Script) (after Script) (λ other. (pace_of platform deployed script budget crew show other (paced.number + 1)).need) paced.reads same
+          (λ enough. paced.last (answers_all names (length deployed.actors) (first_parts platform deployed script budget crew (paced.number + 1)) paced.piece (only_actors_by platform deployed script budget crew (paced.number + 1)) enough));
     }
 
 -- if nothing was done
-pub none_paced : (platform : Platform) (deployed : Deployed) (script : Bool) (budget crew : ℕ) (show : Show) (old new : Stream → Option (List ℕ)) (before after : Part → PartView) (source : Source) → new Out ≡ old Out → after Script ≡ before Script → IsInPace (pace_of platform deployed script budget crew show source) old new before after
+pub none_paced : (platform : Platform) (deployed : Deployed) (script : Bool) (budget crew : ℕ) (show : Show) (old new : Stream → Option (List ℕ)) (before after : Part → PartView) (source : Source) → new Out ≡ old Out → after Script ≡ before Script → IsInPace (pace_of platform deployed script budget crew show) source old new before after
 none_paced platform deployed script budget crew show old new before after source same_out same_part =
     let none : (first_parts platform deployed script budget crew 0 (answer_of (known_in deployed) source)).made ≡ [] =
     ap (λ (p : Progress). p.made) (parts_none 0 (scene_of platform deployed script budget) (answer_of (known_in deployed) source) (first_of platform deployed budget crew) refl) in
@@ -193,4 +202,5 @@ none_paced platform deployed script budget crew show old new before after source
       behind = [];
       written = same_out ∙ sym (ap (λ (l : List Record). gain (old Out) (trace_of show platform deployed l ++ [])) none ∙ ap (λ (l : List ℕ). gain (old Out) (l ++ [])) (trace_none show platform deployed) ∙ gain-nil (old Out));
       read = takes_none _ (before Script) (after Script) same_part;
+      last = ends_none _ (before Script) (after Script) same_part;
     }

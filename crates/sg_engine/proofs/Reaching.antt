@@ -1,19 +1,21 @@
 -- Stretches of a run, one after another.
-use Rattle.std.proofs.Common.{◌≡◌, ◌≤◌, ◌∙◌, sym, ap, subst, refl, ℕ, List, [], ◌++◌, length, Option, None, Some, Result, Ok, Err, append_assoc, arith}
+use Rattle.std.proofs.Common.{◌≡◌, ◌≤◌, ◌∙◌, inl, inr, sym, ap, subst, refl, ℕ, List, [], ◌++◌, length, Option, None, Some, Result, Ok, Err, append_assoc, arith}
 use Rattle.std.specs.Prelude.{MatchResult}
 use Rattle.std.proofs.lemmas.List.{append-nil}
 use Rattle.sg_base.specs.declared.trace_record.Record.{Record}
 use Rattle.sg_edge.specs.Sources.{Source}
 use Rattle.sg_edge.specs.Files.{PartView}
+use Rattle.sg_edge.specs.declared.files.Stage.TheVariants.{Begun}
 use Rattle.sg_engine.specs.World.{World}
 use Rattle.sg_script.specs.Answer.{answer_of}
 use Rattle.sg_script.specs.Known.{ScriptNames as Names}
 use Rattle.sg_script.specs.Stands.{IsWithinNeed, Reads}
 use Rattle.sg_script.specs.Rest.{GoesOn}
 use Rattle.sg_script.proofs.Chains.{may_back, reads_then}
+use Rattle.sg_script.proofs.Spending.{all_may, begun_or_not}
 use Rattle.sg_engine.specs.declared.ended.Ended.{Ended}
 use Rattle.sg_engine.specs.Run.{Answering, Progress, with_front, then_unless_ended}
-use Rattle.sg_engine.specs.kept.Moments.{AreNeededBy, Cast, LacksMemory, LeavesContexts, Moment, StandsFor, IsStretch, ending}
+use Rattle.sg_engine.specs.kept.Moments.{AnswersAll, AreNeededBy, StaysOpen, Cast, LacksMemory, LeavesContexts, Moment, StandsFor, IsStretch, ending}
 
 -- a source that continues from a later moment continues from an earlier one
 pub goes_back : (taken piece : List ℕ) (old new : PartView) (source : Source) → Reads piece old new → GoesOn (taken ++ piece) new.stage source → GoesOn taken old.stage source
@@ -29,6 +31,40 @@ front-front first second progress = ap (λ (l : List Record). record progress { 
 pub stands_as : (names : Names) (taken other : List ℕ) (cast : Cast) (now : Moment) (world : World) → taken ≡ other → StandsFor names taken cast now world → StandsFor names other cast now world
 stands_as names taken other cast now world same stands = subst (λ (t : List ℕ). StandsFor names t cast now world) same stands
 
+-- ---- what was taken answers all fetches
+-- what answers all fetches of the whole answers those of what makes no more
+pub answers_fewer : (names : Names) (whole fewer : Answering → Progress) (taken : List ℕ) → ((source : Source) → GoesOn taken Begun source → (x : ℕ) → (fewer (answer_of names source)).world.asks x ≤ (whole (answer_of names source)).world.asks x) →
+    AnswersAll names whole taken → AnswersAll names fewer taken
+answers_fewer names whole fewer taken rises all rest broken actor earlier made =
+    let source : Source = record { bytes = taken ++ rest; broken = broken } in
+    all rest broken actor earlier (omega (arith, made, rises source (record { rest = rest; bytes = refl; may = tt }) actor))
+
+-- so it is of a whole in other words
+pub answers_as : (names : Names) (whole other : Answering → Progress) (taken : List ℕ) → ((answers : Answering) → other answers ≡ whole answers) → AnswersAll names other taken → AnswersAll names whole taken
+answers_as names whole other taken same all = answers_fewer names other whole taken (λ source goes x. omega (arith, ap (λ (p : Progress). p.world.asks x) (same (answer_of names source)))) all
+
+-- what is open after a first piece is so after a second, if the fetches behind it are among those of the whole
+pub open_then : (names : Names) (whole next : Answering → Progress) (taken p q : List ℕ) (u v w : PartView) → Reads p u v → Reads q v w → ((source : Source) → GoesOn (taken ++ p) v.stage source → (x : ℕ) → (next (answer_of names source)).world.asks x ≤ (whole (answer_of names source)).world.asks x) →
+    StaysOpen names whole (taken ++ p) u.stage v.stage → StaysOpen names next ((taken ++ p) ++ q) v.stage w.stage → StaysOpen names whole (taken ++ (p ++ q)) u.stage w.stage
+open_then names whole next taken p q u v w reads reads' rises first second all = elim (begun_or_not v.stage) [
+  | inl is ↦
+      let joined : AnswersAll names whole ((taken ++ p) ++ q) = subst (AnswersAll names whole) (sym (append_assoc taken p q)) all in
+      let here : w.stage ≡ v.stage = second (answers_fewer names whole next ((taken ++ p) ++ q) (λ source goes. rises source (record {
+        rest = q ++ goes.rest;
+        bytes = goes.bytes ∙ append_assoc (taken ++ p) q goes.rest;
+        may = all_may v.stage (q ++ goes.rest) source.broken is;
+      })) joined) in
+      elim (begun_or_not u.stage) [
+        | inl was ↦ here ∙ is ∙ sym was
+        | inr wasnt ↦ here ∙ (reads.stayed wasnt).1
+      ]
+  | inr isnt ↦
+      let (none, same) = reads'.stayed isnt in
+      let shorter : p ++ q ≡ p = rw none (append-nil p) in
+      let front : taken ++ (p ++ q) ≡ taken ++ p = ap (λ (l : List ℕ). taken ++ l) shorter in
+      same ∙ first (subst (AnswersAll names whole) front all)
+]
+
 -- one stretch, and then another from where it led
 abbrev pub reached_then : {spent next : ℕ} (names : Names) (whole : Answering → Progress) (middle rest : Answering → World → Progress) (taken : List ℕ) (cast then_cast : Cast) (old mid new : Moment) →
     (first : IsStretch spent names whole middle taken cast old mid) → IsStretch next names (λ answers. middle answers first.world) rest (taken ++ first.piece) then_cast mid new → IsStretch next names whole rest taken then_cast old new
@@ -37,6 +73,8 @@ reached_then names whole middle rest taken cast then_cast old mid new first seco
     record {
       piece = first.piece ++ second.piece;
       reads = reads_then first.piece second.piece old.part mid.part new.part first.reads second.reads;
+      last = open_then names whole (λ answers. middle answers first.world) taken first.piece second.piece old.part mid.part new.part first.reads second.reads
+          (λ source goes x. omega (arith, ap (λ (p : Progress). p.world.asks x) (first.is source goes))) first.last second.last;
       setup = second.setup ∙ first.setup;
       world = second.world;
       stands = stands_as names _ _ then_cast new second.world joined second.stands;
@@ -57,6 +95,7 @@ abbrev pub reached_as : {spent : ℕ} (names : Names) (whole other : Answering �
 reached_as names whole other rest taken cast old new same reached = record {
   piece = reached.piece;
   reads = reached.reads;
+  last = λ all. reached.last (answers_as names whole other (taken ++ reached.piece) same all);
   setup = reached.setup;
   world = reached.world;
   stands = reached.stands;
@@ -71,6 +110,7 @@ lacks_as : (names : Names) (whole other : Answering → Progress) (taken : List 
 lacks_as names whole other taken left old new same cut = record {
   piece = cut.piece;
   reads = cut.reads;
+  last = λ all. cut.last (answers_as names whole other (taken ++ cut.piece) same all);
   needed = λ source goes.
       let within : Progress → Type 0 = λ p. IsWithinNeed names source p.world.asks (length (taken ++ cut.piece)) in
       subst within (sym (same (answer_of names source))) (cut.needed source goes);
@@ -88,6 +128,7 @@ abbrev pub rest_as : {spent : ℕ} (names : Names) (whole : Answering → Progre
 rest_as names whole rest other taken cast old new same reached = record {
   piece = reached.piece;
   reads = reached.reads;
+  last = reached.last;
   setup = reached.setup;
   world = reached.world;
   stands = reached.stands;
@@ -97,12 +138,17 @@ rest_as names whole rest other taken cast old new same reached = record {
   is = λ source goes. reached.is source goes ∙ ap (with_front reached.made) (same (answer_of names source) reached.world);
 }
 
+-- what follows a first stretch makes no fetch unmade
+abbrev pub Rises : (Answering → Progress) → (Answering → World → Progress) → Type 0
+Rises first next = (answers : Answering) (x : ℕ) → (first answers).world.asks x ≤ (then_unless_ended (first answers) (next answers)).world.asks x
+
 -- a first stretch that doesn't end the run
-abbrev pub goes_on_to : {spent : ℕ} (names : Names) (first : Answering → Progress) (next : Answering → World → Progress) (taken : List ℕ) (cast : Cast) (old new : Moment) →
+abbrev pub goes_on_to : {spent : ℕ} (names : Names) (first : Answering → Progress) (next : Answering → World → Progress) (taken : List ℕ) (cast : Cast) (old new : Moment) → Rises first next →
     IsStretch spent names first (ending None) taken cast old new → IsStretch spent names (λ answers. then_unless_ended (first answers) (next answers)) next taken cast old new
-goes_on_to names first next taken cast old new reached = record {
+goes_on_to names first next taken cast old new rises reached = record {
   piece = reached.piece;
   reads = reached.reads;
+  last = λ all. reached.last (answers_fewer names (λ answers. then_unless_ended (first answers) (next answers)) first (taken ++ reached.piece) (λ source goes. rises (answer_of names source)) all);
   setup = reached.setup;
   world = reached.world;
   stands = reached.stands;
@@ -116,11 +162,12 @@ goes_on_to names first next taken cast old new reached = record {
 }
 
 -- a first stretch that ends the run
-abbrev pub ends_at : {spent : ℕ} (names : Names) (first : Answering → Progress) (next : Answering → World → Progress) (how : Ended) (taken : List ℕ) (cast : Cast) (old new : Moment) →
+abbrev pub ends_at : {spent : ℕ} (names : Names) (first : Answering → Progress) (next : Answering → World → Progress) (how : Ended) (taken : List ℕ) (cast : Cast) (old new : Moment) → Rises first next →
     IsStretch spent names first (ending (Some how)) taken cast old new → IsStretch spent names (λ answers. then_unless_ended (first answers) (next answers)) (ending (Some how)) taken cast old new
-ends_at names first next how taken cast old new reached = record {
+ends_at names first next how taken cast old new rises reached = record {
   piece = reached.piece;
   reads = reached.reads;
+  last = λ all. reached.last (answers_fewer names (λ answers. then_unless_ended (first answers) (next answers)) first (taken ++ reached.piece) (λ source goes. rises (answer_of names source)) all);
   setup = reached.setup;
   world = reached.world;
   stands = reached.stands;
@@ -135,6 +182,7 @@ pub reached_none : (names : Names) (rest : Answering → World → Progress) (ta
 reached_none names rest taken cast now world reads stands = record {
   piece = [];
   reads = reads;
+  last = λ all. refl;
   setup = refl;
   world = world;
   stands = stands_as names _ _ cast now world (sym (append-nil taken)) stands;

@@ -31,7 +31,7 @@ use Rattle.sg_engine.specs.declared.ended.Ended.{Ended}
 use Rattle.sg_engine.specs.declared.ended.Ended.TheVariants as ended
 use Rattle.sg_engine.specs.declared.plan.Plan.{Plan}
 use Rattle.sg_engine.specs.RunContract.{is_cut}
-use Rattle.sg_engine.specs.kept.Moments.{Cast, Moment, moment, Fits, StandsFor, IsStretch, LacksMemory, ending, cuts}
+use Rattle.sg_engine.specs.kept.Moments.{Cast, Moment, moment, Fits, StandsFor, StaysOpen, IsStretch, LacksMemory, ending, cuts}
 use Rattle.sg_engine.specs.Run.{Scene, scene, Answering, Progress, at_world, with_front, then_unless_ended, and_then_by, round_or_pass, run_from, work_behind}
 use Rattle.sg_engine.specs.declared.show.Show.{Show}
 use Rattle.sg_engine.specs.declared.show.Show.TheVariants as show
@@ -43,7 +43,7 @@ use Rattle.sg_engine.specs.kept.SeatRules.{IsSeated}
 use Rattle.sg_engine.specs.kept.Stretches.{Trace, Advances, CutsOff, IsCutOff, IsOver}
 use Rattle.sg_engine.proofs.Fronts.{front_more}
 use Rattle.sg_engine.proofs.Asked.{asks_rise}
-use Rattle.sg_engine.proofs.Reaching.{goes_back, reached_left, reached_needed, reached_then, reached_as, goes_on_to, ends_at}
+use Rattle.sg_engine.proofs.Reaching.{answers_fewer, goes_back, open_then, reached_left, reached_needed, reached_then, reached_as, goes_on_to, ends_at}
 use Rattle.sg_engine.proofs.Runs.{contexts_fall, part_keeps, run_keeps_behind}
 use Rattle.sg_engine.proofs.Waiting.{front_behind, gains_then}
 use Rattle.sg_engine.proofs.Working.{run_rises_behind}
@@ -56,6 +56,7 @@ abbrev pub with_records : {spent : ℕ} (names : Names) (whole : Answering → P
 with_records names whole rest taken cast part part' kept kept' old new old' new' front reached before setup core setup' after = record {
   piece = reached.piece;
   reads = reached.reads;
+  last = reached.last;
   setup = setup' ∙ reached.setup ∙ sym setup;
   world = reached.world;
   stands = record { script = reached.stands.script; core = core ∙ reached.stands.core; cast = reached.stands.cast };
@@ -89,6 +90,7 @@ pub cuts_off_at : {spent : ℕ} (names : Names) (trace : Trace) (whole : Answeri
 cuts_off_at names trace whole how taken cast part part' kept kept' mid new before after reached none front = record {
   piece = reached.piece;
   reads = reached.reads;
+  last = reached.last;
   needed = reached_needed names whole how taken cast (moment part kept mid) (moment part' kept' new) reached;
   contexts = reached_left names whole how taken cast (moment part kept mid) (moment part' kept' new) reached;
   front = λ source goes.
@@ -101,6 +103,7 @@ pub cuts_off_by : (names : Names) (trace : Trace) (whole : Answering → Progres
 cuts_off_by names trace whole taken left part part' before after cut same = record {
   piece = cut.piece;
   reads = cut.reads;
+  last = cut.last;
   needed = cut.needed;
   contexts = cut.contexts;
   front = λ source goes. (trace (whole (answer_of names source)).made, record { done = []; split = refl; held = same ∙ sym (gain-nil before) });
@@ -111,6 +114,7 @@ pub lacks_room : (names : Names) (at : Scene) (taken : List ℕ) (cast : Cast) (
 lacks_room names at taken cast now world begun stands = record {
   piece = [];
   reads = reads_none now.part begun;
+  last = λ all. refl;
   needed = λ source goes.
       let same : taken ++ [] ≡ taken = append-nil taken in
       let there : GoesOn taken now.part.stage source = subst (λ (t : List ℕ). GoesOn t now.part.stage source) same goes in
@@ -192,6 +196,7 @@ abbrev pub over_by : {spent : ℕ} (start count : ℕ) (names : Names) (trace : 
 over_by {spent} start count names trace whole how cast p0 p1 q0 q1 k0 k1 core before after reached same printed worked = record {
   piece = reached.piece;
   reads = reached.reads;
+  last = reached.last;
   needed = reached_needed names whole (Some how) [] cast (moment p0 q0 k0) (moment p1 q1 k1) reached;
   world = reached.world;
   core_is = same ∙ reached.stands.core;
@@ -212,6 +217,7 @@ completed start count names trace whole n m at cast p0 p1 q0 q1 k0 k1 core befor
     over_by start count names trace whole ended.Completed cast p0 p1 q0 q1 k0 k1 core before after (record {
       piece = reached.piece;
       reads = reached.reads;
+      last = reached.last;
       setup = reached.setup;
       world = reached.world;
       stands = reached.stands;
@@ -228,6 +234,7 @@ used_up start count names trace whole n at cast p0 p1 q0 q1 k0 k1 core before af
     over_by start count names trace whole ended.Budget cast p0 p1 q0 q1 k0 k1 core before after (record {
       piece = reached.piece;
       reads = reached.reads;
+      last = reached.last;
       setup = reached.setup;
       world = reached.world;
       stands = reached.stands;
@@ -251,7 +258,8 @@ part_on {next} names trace whole n m at cast cast' p0 p1 p2 q0 q1 q2 k0 k1 k1' k
     reached_then names whole (rest_of n at) (rest_of m at) [] cast cast' (moment p0 q0 k0) (moment p1 q1 k1') (moment p2 q2 (record k2 { records = reached.made ++ part.records })) reached
     (reached_as names (λ answers. then_unless_ended (round_or_pass at answers reached.world) (rest_of m at answers)) (λ answers. rest_of n at answers reached.world) (rest_of m at) reached.piece cast' (moment p1 q1 k1') (moment p2 q2 (record k2 { records = reached.made ++ part.records }))
     (λ answers. run_goes n m at answers reached.world more some_here)
-    (goes_on_to names (λ answers. round_or_pass at answers reached.world) (rest_of m at) reached.piece cast' (moment p1 q1 k1') (moment p2 q2 (record k2 { records = reached.made ++ part.records })) shifted))
+    (goes_on_to names (λ answers. round_or_pass at answers reached.world) (rest_of m at) reached.piece cast' (moment p1 q1 k1') (moment p2 q2 (record k2 { records = reached.made ++ part.records }))
+    (λ answers. run_keeps_behind asks_rise m (round_or_pass at answers reached.world) at answers) shifted))
 
 -- one part more, which has ended the run
 abbrev pub part_last : {spent next : ℕ} (names : Names) (trace : Trace) (whole : Answering → Progress) (how : Ended) (n m : ℕ) (at : Scene) (cast cast' : Cast) (p0 p1 p2 : PartView) (q0 q1 q2 : Kept) (k0 k1 k1' k2 : Known) (before after : Option (List ℕ)) →
@@ -267,7 +275,8 @@ part_last {next} names trace whole how n m at cast cast' p0 p1 p2 q0 q1 q2 k0 k1
     reached_then names whole (rest_of n at) (ending (Some how)) [] cast cast' (moment p0 q0 k0) (moment p1 q1 k1') (moment p2 q2 (record k2 { records = reached.made ++ part.records })) reached
     (reached_as names (λ answers. then_unless_ended (round_or_pass at answers reached.world) (rest_of m at answers)) (λ answers. rest_of n at answers reached.world) (ending (Some how)) reached.piece cast' (moment p1 q1 k1') (moment p2 q2 (record k2 { records = reached.made ++ part.records }))
     (λ answers. run_goes n m at answers reached.world more some_here)
-    (ends_at names (λ answers. round_or_pass at answers reached.world) (rest_of m at) how reached.piece cast' (moment p1 q1 k1') (moment p2 q2 (record k2 { records = reached.made ++ part.records })) shifted))
+    (ends_at names (λ answers. round_or_pass at answers reached.world) (rest_of m at) how reached.piece cast' (moment p1 q1 k1') (moment p2 q2 (record k2 { records = reached.made ++ part.records }))
+    (λ answers. run_keeps_behind asks_rise m (round_or_pass at answers reached.world) at answers) shifted))
 
 -- ---- the lines of records
 -- the trace of records and then of others
@@ -297,6 +306,14 @@ pub part_cut : {spent : ℕ} (names : Names) (trace : Trace) → Appends trace �
 part_cut names trace appends whole n m at cast left p0 p1 p2 q0 q1 k0 k1 start before after reached more some printed cut = record {
   piece = reached.piece ++ cut.piece;
   reads = reads_then reached.piece cut.piece p0 p1 p2 reached.reads cut.reads;
+  last = open_then names whole (λ answers. round_or_pass at answers reached.world) [] reached.piece cut.piece p0 p1 p2 reached.reads cut.reads
+      (λ source goes x.
+      let answers = answer_of names source in
+      let first = round_or_pass at answers reached.world in
+      let some_here : list_all is_over reached.world.core.actors ≡ false = ap (λ (c : Core). list_all is_over c.actors) (sym reached.stands.core) ∙ some in
+      let all : whole answers ≡ with_front reached.made (then_unless_ended first (rest_of m at answers)) = reached.is source goes ∙ ap (with_front reached.made) (run_goes n m at answers reached.world more some_here) in
+      omega (arith, ap (λ (p : Progress). p.world.asks x) all, run_keeps_behind asks_rise m first at answers x))
+      reached.last cut.last;
   needed = λ source goes.
       let answers = answer_of names source in
       let first = round_or_pass at answers reached.world in
@@ -347,6 +364,7 @@ pub record SoFar (start count : ℕ) (names : Names) (trace : Trace) (whole : An
   pub spent : ℕ
   pub worked : count ≤ start + spent
   pub reached : IsStretch spent names whole rest [] cast (moment p0 q0 k0) (moment p1 q1 (record k1 { records = records }))
+  pub stays : StaysOpen names parts reached.piece p0.stage p1.stage
   pub printed : after ≡ gain before (trace reached.made)
   pub counted : (source : Source) → GoesOn reached.piece p1.stage source → parts (answer_of names source) ≡ record { world = reached.world; made = reached.made; ended = None }
 
@@ -360,6 +378,7 @@ far_first start names trace whole rest parts cast part kept known held world beg
   reached = record {
     piece = [];
     reads = reads_none part begun;
+    last = λ all. refl;
     setup = refl;
     world = world;
     stands = stands;
@@ -368,6 +387,7 @@ far_first start names trace whole rest parts cast part kept known held world beg
     records = sym (append-nil known.records);
     is = λ source goes. same (answer_of names source);
   };
+  stays = λ all. refl;
   printed = sym (ap (gain held) none ∙ gain-nil held);
   counted = λ source goes. first (answer_of names source);
 }
@@ -383,18 +403,21 @@ pub far_on : {next : ℕ} (from count later : ℕ) (names : Names) (trace : Trac
     (far : SoFar from count names trace whole (rest_of n at) parts cast p0 p1 q0 q1 k0 k1 start before) → n ≡ suc m → list_all is_over k1.core.actors ≡ false → k0.records ≡ [] → k1.records ≡ [] →
     Advances next names trace (λ answers. round_or_pass at answers far.reached.world) None far.reached.piece cast' (moment p1 q1 k1) (moment p2 q2 k2) before after → later ≤ from + next →
     (list_all is_over far.reached.world.core.actors ≡ false → (answers : Answering) → parts answers ≡ record { world = far.reached.world; made = far.reached.made; ended = None } → parts' answers ≡ with_front far.reached.made (round_or_pass at answers far.reached.world)) →
-    SoFar from later names trace whole (rest_of m at) parts' cast' p0 p2 q0 q2 k0 k2 start after
-far_on {next} from count later names trace appends whole n m at parts parts' cast cast' p0 p1 p2 q0 q1 q2 k0 k1 k2 start before after far more some first cleared part worked one_more =
+    ((answers : Answering) (x : ℕ) → (parts answers).world.asks x ≤ (parts' answers).world.asks x) → SoFar from later names trace whole (rest_of m at) parts' cast' p0 p2 q0 q2 k0 k2 start after
+far_on {next} from count later names trace appends whole n m at parts parts' cast cast' p0 p1 p2 q0 q1 q2 k0 k1 k2 start before after far more some first cleared part worked one_more rises =
+    let some_here : list_all is_over far.reached.world.core.actors ≡ false = ap (λ (c : Core). list_all is_over c.actors) (sym far.reached.stands.core) ∙ some in
     let made : part.records ≡ part.reached.made = part.reached.records ∙ ap (λ (l : List Record). l ++ part.reached.made) cleared in
     record {
       records = far.reached.made ++ part.records;
       spent = next;
       worked = worked;
       reached = part_on names trace whole n m at cast cast' p0 p1 p2 q0 q1 q2 k0 k1 (record k1 { records = far.records }) k2 before after far.reached more refl refl some first part cleared;
+      stays = open_then names parts' (λ answers. round_or_pass at answers far.reached.world) [] far.reached.piece part.reached.piece p0 p1 p2 far.reached.reads part.reached.reads
+          (λ source goes x. omega (arith, ap (λ (p : Progress). p.world.asks x) (one_more some_here (answer_of names source) (far.counted source goes))))
+          (λ all. far.stays (answers_fewer names parts' parts far.reached.piece (λ source goes. rises (answer_of names source)) all)) part.reached.last;
       printed = far_printed trace appends far.reached.made part.records part.reached.made start before after made far.printed part.printed;
       counted = λ source goes.
           let answers = answer_of names source in
-          let some_here : list_all is_over far.reached.world.core.actors ≡ false = ap (λ (c : Core). list_all is_over c.actors) (sym far.reached.stands.core) ∙ some in
           one_more some_here answers (far.counted source (goes_back far.reached.piece part.reached.piece p1 p2 source part.reached.reads goes))
           ∙ ap (with_front far.reached.made) (part.reached.is source goes)
           ∙ ap (λ (l : List Record). record { world = part.reached.world; made = far.reached.made ++ l; ended = None }) (append-nil part.reached.made);

@@ -26,13 +26,15 @@ use Rattle.sg_script.proofs.AllNeeds.{needed_none}
 use Rattle.sg_route.specs.Roads.{Roads}
 use Rattle.sg_engine.proofs.Crews.{last_taken}
 use Rattle.sg_engine.specs.declared.ended.Ended.{Ended}
+use Rattle.sg_engine.specs.declared.setup.Setup.{Setup as Asked}
+use Rattle.sg_engine.specs.declared.show.Show.{Show}
 use Rattle.sg_engine.specs.declared.plan.Plan.{Plan}
 use Rattle.sg_engine.specs.declared.simulation.Simulation.{Simulation}
 use Rattle.sg_engine.specs.kept.Invariant.{at_moment, has_not_begun, minds_in, places_in, unstarted, AreBlank, AreRoadsOf, IsBeginning, IsFirst, IsKept, StartsFrom, TakesInAll, TakesLast}
 use Rattle.sg_engine.specs.kept.Moments.{script_in, Fits}
 use Rattle.sg_engine.specs.kept.Stretches.{planned_output, planned_pace}
-use Rattle.sg_engine.specs.Pace.{IsInPace}
-use Rattle.sg_engine.specs.RunContract.{IsRun}
+use Rattle.sg_engine.specs.Pace.{IsInPace, pace_in}
+use Rattle.sg_engine.specs.RunContract.{IsRun, output_of}
 use Rattle.sg_engine.specs.Roles.{first_minds, minds_from}
 use Rattle.sg_engine.specs.kept.SeatRules.{mind_in, IsSeated}
 
@@ -117,9 +119,17 @@ first_taken_in_all mind platform deployed budget how part crew old new first sta
 
 -- a run with the whole pool is one with the contexts that remain and those that were taken
 pub same_run : (plan : Plan) (source : Source) (how : Ended) (old new : Stream → Option (List ℕ)) (crew whole left rest start count : ℕ) (before after : Part → PartView) → whole ≡ crew → rest ≡ left →
-    IsRun (planned_output plan crew source) how old new crew left start count before after → IsRun (planned_output plan whole source) how old new whole rest start count before after
+    IsRun (planned_output plan crew) source how old new crew left start count before after → IsRun (planned_output plan whole) source how old new whole rest start count before after
 same_run plan source how old new crew whole left rest start count before after same same_left run = rw (same, same_left) run
 
 -- so is its pace
-pub same_pace : (plan : Plan) (source : Source) (old new : Stream → Option (List ℕ)) (crew whole : ℕ) (before after : Part → PartView) → whole ≡ crew → IsInPace (planned_pace plan crew source) old new before after → IsInPace (planned_pace plan whole source) old new before after
+pub same_pace : (plan : Plan) (source : Source) (old new : Stream → Option (List ℕ)) (crew whole : ℕ) (before after : Part → PartView) → whole ≡ crew → IsInPace (planned_pace plan crew) source old new before after → IsInPace (planned_pace plan whole) source old new before after
 same_pace plan source old new crew whole before after same pace = rw same pace
+
+-- the same of the run of a setup
+pub run_of_as : (setup : Asked) (budget : ℕ) (show : Show) (source : Source) (how : Ended) (old new : Stream → Option (List ℕ)) (crew whole left rest start count : ℕ) (before after : Part → PartView) → whole ≡ crew → rest ≡ left →
+    IsRun (output_of setup budget crew show) source how old new crew left start count before after → IsRun (output_of setup budget whole show) source how old new whole rest start count before after
+run_of_as setup budget show source how old new crew whole left rest start count before after same same_left run = rw (same, same_left) run
+
+pub pace_in_as : (setup : Asked) (budget : ℕ) (show : Show) (source : Source) (old new : Stream → Option (List ℕ)) (crew whole : ℕ) (before after : Part → PartView) → whole ≡ crew → IsInPace (pace_in setup budget crew show) source old new before after → IsInPace (pace_in setup budget whole show) source old new before after
+pace_in_as setup budget show source old new crew whole before after same pace = rw same pace

@@ -1,6 +1,7 @@
 -- How soon a run writes its lines, beside how far it reads its script.
 use Rattle.std.specs.Prelude.{◌≡◌, ◌+◌, ℕ, Bool, Option, List, ◌++◌, length}
 use Rattle.sg_edge.specs.declared.files.Part.{Part}
+use Rattle.sg_edge.specs.declared.files.Part.TheVariants.{Script}
 use Rattle.sg_edge.specs.declared.sinks.Stream.{Stream}
 use Rattle.sg_edge.specs.declared.sinks.Stream.TheVariants.{Out}
 use Rattle.sg_edge.specs.Files.{PartView}
@@ -16,7 +17,7 @@ use Rattle.sg_engine.specs.declared.show.Show.{Show}
 use Rattle.sg_engine.specs.Fuel.{parts_from}
 use Rattle.sg_engine.specs.Output.{first_of, scene_of, trace_of}
 use Rattle.sg_engine.specs.Run.{Answering, Progress}
-use Rattle.sg_engine.specs.RunContract.{ForSources, IsReadOnDemand}
+use Rattle.sg_engine.specs.RunContract.{EndsOnDemand, ForSources, IsReadOnDemand}
 
 -- how far a run has come: the trace lines that it has made, and how many bytes of its script its fetches need
 pub record Pace : Type 0 where
@@ -39,16 +40,18 @@ pace_of platform deployed script budget crew show source parts = pace_at platfor
 
 -- However a run has ended, even by a failed write: the lines of its first scheduling rounds and time advances, so many,
 -- are all on Out. Of the script no more was taken than these and the next one need, and less than a piece of 4,096
--- bytes. Since any write may fail, no line waits while more is read than that.
-pub record IsInPace (pace : ℕ → Pace) (old new : Stream → Option (List ℕ)) (before after : Part → PartView) : Type 0 where
+-- bytes, and no read followed one after which their fetches had their answers. Since any write may fail, no line waits
+-- while more is read than that.
+pub record IsInPace (pace : Source → ℕ → Pace) (source : Source) (old new : Stream → Option (List ℕ)) (before after : Part → PartView) : Type 0 where
   pub parts : ℕ
   pub behind : List ℕ
-  pub written : new Out ≡ gain (old Out) ((pace parts).out ++ behind)
-  pub read : IsReadOnDemand (pace (parts + 1)).need before after
+  pub written : new Out ≡ gain (old Out) ((pace source parts).out ++ behind)
+  pub read : IsReadOnDemand (pace source (parts + 1)).need before after
+  pub last : EndsOnDemand (λ other. (pace other (parts + 1)).need) (before Script) (after Script)
 
 -- a run keeps pace for each source that the script's part may have given
 abbrev pub KeepsPace : Bool → (Source → ℕ → Pace) → (Stream → Option (List ℕ)) → (Stream → Option (List ℕ)) → (Part → PartView) → (Part → PartView) → Type 0
-KeepsPace script pace old new before after = ForSources script before after (λ source. IsInPace (pace source) old new before after)
+KeepsPace script pace old new before after = ForSources script before after (λ source. IsInPace pace source old new before after)
 
 -- the pace of the run of a setup, with so many contexts, by what the script's part gives
 abbrev pub pace_in : Setup → ℕ → ℕ → Show → Source → ℕ → Pace

@@ -1,11 +1,11 @@
 -- What a whole run has done, in the words of its contract.
-use Rattle.std.specs.Prelude.{◌≡◌, ◌≢◌, ◌<◌, ◌≤◌, ◌+◌, ◌⊎◌, ℕ, Bool, true, false, IsTrue, MatchBool, List, length, drop, All, Option, None}
+use Rattle.std.specs.Prelude.{◌≡◌, ◌≢◌, ◌<◌, ◌≤◌, ◌+◌, ◌⊎◌, ℕ, Bool, true, false, IsTrue, MatchBool, List, [], ◌++◌, length, drop, All, Option, None}
 use Rattle.sg_base.specs.Mind.{Mind}
 use Rattle.sg_edge.specs.Cause.{HasCause}
-use Rattle.sg_edge.specs.Files.{PartView, Only, KeepsTelling, TakesUpTo}
+use Rattle.sg_edge.specs.Files.{before, PartView, Only, KeepsTelling, TakesUpTo}
 use Rattle.sg_edge.specs.declared.files.Part.{Part}
 use Rattle.sg_edge.specs.declared.files.Part.TheVariants.{Script}
-use Rattle.sg_edge.specs.declared.files.Stage.TheVariants.{Broken}
+use Rattle.sg_edge.specs.declared.files.Stage.TheVariants.{Begun, Broken}
 use Rattle.sg_edge.specs.Sources.{Source, Gives}
 use Rattle.sg_edge.specs.declared.sinks.Stream.{Stream}
 use Rattle.sg_edge.specs.declared.sinks.Stream.TheVariants.{Err}
@@ -35,17 +35,39 @@ IsBroken old new = (new.stage ≡ Broken) × (old.faults ≤ new.faults) × ((ol
 abbrev pub IsReadOnDemand : ℕ → (Part → PartView) → (Part → PartView) → Type 0
 IsReadOnDemand need old new = TakesUpTo (need + 4095) (old Script) (new Script)
 
+-- these bytes are enough for what needs so many: it needs no more of them and what follows, whatever that is
+abbrev pub AreEnough : (Source → ℕ) → List ℕ → Type 0
+AreEnough need bytes = (rest : List ℕ) (broken : Bool) → need (record { bytes = bytes ++ rest; broken = broken }) ≤ length bytes
+
+-- If the bytes that were taken are enough, no read met the end or failed. None were taken of a part that wasn't open.
+pub record EndsOnDemand (need : Source → ℕ) (old new : PartView) : Type 0 where
+  pub taken : List ℕ
+  pub left : old.left ≡ before taken new.left
+  pub shut : old.stage ≢ Begun → taken ≡ []
+  pub last : AreEnough need taken → new.stage ≡ old.stage
+
 -- of so many contexts in the pool so many remain: its run took all that it takes, or was cut off and took no more
 abbrev pub TakesContexts : ℕ → Ended → ℕ → ℕ → Type 0
 TakesContexts want how crew left = MatchBool (is_cut how) (crew ≤ left + want) (crew ≡ left + want)
 
--- What was written is this, and the end, and so many contexts remain in the pool. The count rose by its work at most,
--- and the script was read on demand, even if the run was cut off.
-pub record IsRun (want : Output) (how : Ended) (old new : Stream → Option (List ℕ)) (crew left start count : ℕ) (before after : Part → PartView) : Type 0 where
-  pub ends : Ends want.out want.err want.ended how old new
-  pub contexts : TakesContexts want.contexts how crew left
-  pub work : count ≤ start + want.work
-  pub needed : IsReadOnDemand want.need before after
+-- What was written is what is wanted for this source, and the end, and so many contexts remain in the pool. The count
+-- rose by its work at most, and the script was read on demand, even if the run was cut off: no read followed one after
+-- which the fetches of the run had their answers, whatever came next.
+pub record IsRun (want : Source → Output) (source : Source) (how : Ended) (old new : Stream → Option (List ℕ)) (crew left start count : ℕ) (before after : Part → PartView) : Type 0 where
+  pub ends : Ends (want source).out (want source).err (want source).ended how old new
+  pub contexts : TakesContexts (want source).contexts how crew left
+  pub work : count ≤ start + (want source).work
+  pub needed : IsReadOnDemand (want source).need before after
+  pub last : EndsOnDemand (λ other. (want other).need) (before Script) (after Script)
+
+-- a fact for each source that the script's part may have given; without a script, for any
+abbrev pub ForSources : Bool → (Part → PartView) → (Part → PartView) → (Source → Type 0) → Type 0
+ForSources script old new P = (source : Source) → (IsTrue script → Gives (old Script) (new Script) source) → P source
+
+-- it is this run for each source that the script's part may have given
+abbrev pub RunsAs : Bool → (Source → Output) → Ended → (Stream → Option (List ℕ)) → (Stream → Option (List ℕ)) → ℕ → ℕ → ℕ → ℕ → (Part → PartView) → (Part → PartView) → Type 0
+RunsAs script want how old new crew left start count before after =
+    ForSources script before after (λ source. IsRun want source how old new crew left start count before after)
 
 -- why a run ended by a failed write or a failed read: a write has failed; the script's part is broken, and was before or
 -- has broken since
@@ -80,10 +102,6 @@ pub record IsEnding {F : Type 0} (shows : F → Part → PartView) (script : Boo
   pub cause : IsRunCause how had faults (shows before) (shows after)
   pub memory : how ≡ ended.Memory → new Err ≡ old Err
   pub reads : TakesScript shows script before after
-
--- a fact for each source that the script's part may have given; without a script, for any
-abbrev pub ForSources : Bool → (Part → PartView) → (Part → PartView) → (Source → Type 0) → Type 0
-ForSources script old new P = (source : Source) → (IsTrue script → Gives (old Script) (new Script) source) → P source
 
 -- a setup stands for what it stood for
 pub record StandsAsBefore (old new : Setup) : Type 0 where

@@ -56,8 +56,8 @@ impl Buffer {
         requires answered { IsOfDeployment deployment.now answered.now }
         requires deployed { IsDeployedOn platform.now deployment.now }
         requires sound { O.faults out.old ≡ 0 }
-        ensures { Puts (self.old ++ line_of answered.now platform.now deployment.now) self.new result
-            (O.contents out.old) (O.contents out.new) (O.faults out.old) (O.faults out.new) }
+        ensures { Puts (self.old ++ line_of answered.now platform.now deployment.now) self.new
+            result (O.contents out.old) (O.contents out.new) (O.faults out.old) (O.faults out.new) }
     {
         if self.lines.len() + LINE > ROOM {
             match self.flush(out) {

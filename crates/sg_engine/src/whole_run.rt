@@ -2,11 +2,11 @@
 ghost use Rattle.std.specs.Prelude.{◌≡◌, ◌≢◌, ◌+◌, ◌<◌, ◌≤◌, ⊤, length, IsTrue, MatchBool};
 ghost use Rattle.sg_edge.specs.declared.files.Stage.TheVariants.{Fresh, Broken};
 ghost use Rattle.sg_edge.specs.Cause.{HasCause};
-ghost use Rattle.sg_engine.specs.RunContract.{is_cut as is_cut_spec, ForSources, HasContexts, IsEnding, IsRun, StandsAsBefore, TakesFirst, output_of};
+ghost use Rattle.sg_engine.specs.RunContract.{is_cut as is_cut_spec, HasContexts, IsEnding, RunsAs, StandsAsBefore, TakesFirst, output_of};
 ghost use Rattle.sg_engine.specs.kept.Invariant.{crew_in, AreRoadsOf, Holds, IsBeginning, TakesInAll, TakesLast};
-ghost use Rattle.sg_engine.specs.kept.Moments.{names_of, script_in, ReadsScript};
+ghost use Rattle.sg_engine.specs.kept.Moments.{script_in, ReadsScript};
 ghost use Rattle.sg_engine.specs.Pace.{KeepsPace, pace_in};
-ghost use Rattle.sg_engine.specs.kept.Stretches.{parts_by, planned_output, planned_pace, trace_in, HasRun, IsPaced};
+ghost use Rattle.sg_engine.specs.kept.Stretches.{planned_output, planned_pace, Simulates};
 
 use crate::advance::advance;
 use crate::ended::Ended;
@@ -19,7 +19,7 @@ use crate::simulation::Simulation;
 use crate::start::start;
 use sg_actor::Actor;
 use sg_base::{Memory, Steps};
-use sg_edge::{Files, Part, Sinks, Stream};
+use sg_edge::{Files, Part, Sinks};
 use sg_route::Router;
 use std::alloc::Global;
 use std::mem;
@@ -38,19 +38,12 @@ fn simulate<R: Threads + Sync, F: Files, O: Sinks, L: Ledger>(
     requires beginning { IsBeginning (λ b. mind b) engine.now.plan (F.shows files.old) router.old
         sim.old }
     requires sound { O.faults out.old ≡ 0 }
-    ensures run { HasRun engine.now.plan (crew_in engine.now.plan sim.old) result sim.new
-        steps.old steps.new (script_in engine.now.plan (F.shows files.old))
-        (script_in engine.now.plan (F.shows files.new))
-        (O.contents out.old Stream.Out) (O.contents out.new Stream.Out) }
-    ensures pace { IsPaced (names_of engine.now.plan) (trace_in engine.now.plan)
-        (parts_by engine.now.plan (crew_in engine.now.plan sim.old))
-        (script_in engine.now.plan (F.shows files.old))
-        (script_in engine.now.plan (F.shows files.new))
-        (O.contents out.old Stream.Out) (O.contents out.new Stream.Out) }
+    ensures run { Simulates engine.now.plan (crew_in engine.now.plan sim.old) result sim.new
+        steps.old steps.new (F.shows files.old) (F.shows files.new)
+        (O.contents out.old) (O.contents out.new) }
     ensures kept { MatchBool (is_cut_spec result) ⊤
         (Holds (λ b. mind b) engine.now.plan (F.shows files.new) sim.new) }
     ensures crew { TakesInAll sim.old sim.new }
-    ensures err { O.contents out.new Stream.Err ≡ O.contents out.old Stream.Err }
     ensures cause { HasCause (result ≡ Ended.WriteFault) (result ≡ Ended.ReadFault)
         (O.faults out.old) (O.faults out.new)
         ((script_in engine.now.plan (F.shows files.new)).stage ≡ Broken) }
@@ -97,11 +90,12 @@ fn run_from<R: Threads + Sync, F: Files, O: Sinks, L: Ledger>(
     requires beginning { IsBeginning (λ b. mind b) engine.now.plan (F.shows files.old) router.old
         sim.old }
     requires sound { O.faults out.old ≡ 0 }
-    ensures output { ForSources engine.now.plan.script (F.shows files.old) (F.shows files.new)
-        (λ source. IsRun (planned_output engine.now.plan (crew_in engine.now.plan sim.old) source)
-        result (O.contents out.old) (O.contents out.new) (crew_in engine.now.plan sim.old)
-        (length sim.new.crew.items) steps.old steps.new (F.shows files.old) (F.shows files.new)) }
-    ensures pace { KeepsPace engine.now.plan.script (planned_pace engine.now.plan (crew_in engine.now.plan sim.old))
+    ensures output { RunsAs engine.now.plan.script
+        (planned_output engine.now.plan (crew_in engine.now.plan sim.old)) result
+        (O.contents out.old) (O.contents out.new) (crew_in engine.now.plan sim.old)
+        (length sim.new.crew.items) steps.old steps.new (F.shows files.old) (F.shows files.new) }
+    ensures pace { KeepsPace engine.now.plan.script
+        (planned_pace engine.now.plan (crew_in engine.now.plan sim.old))
         (O.contents out.old) (O.contents out.new) (F.shows files.old) (F.shows files.new) }
     ensures crew { TakesInAll sim.old sim.new }
     ensures ending { IsEnding F.shows engine.now.plan.script result files.old files.new
@@ -129,16 +123,16 @@ fn run_plan<R: Threads + Sync, F: Files, O: Sinks, L: Ledger>(
     out: &mut O,
     steps: &mut Steps<L>,
 ) -> Ended
-    requires begun { IsTrue engine.now.plan.script
-        → (F.shows files.old Part.Script).stage ≢ Fresh }
+    requires begun { IsTrue engine.now.plan.script → (F.shows files.old Part.Script).stage ≢ Fresh }
     requires crew { HasContexts (λ b. mind b) crew.old.items engine.now.plan.deployment.now }
     requires roads { AreRoadsOf engine.now.plan.platform.now router.old }
     requires sound { O.faults out.old ≡ 0 }
-    ensures output { ForSources engine.now.plan.script (F.shows files.old) (F.shows files.new)
-        (λ source. IsRun (planned_output engine.now.plan (length crew.old.items) source) result
-        (O.contents out.old) (O.contents out.new) (length crew.old.items) (length crew.new.items)
-        steps.old steps.new (F.shows files.old) (F.shows files.new)) }
-    ensures pace { KeepsPace engine.now.plan.script (planned_pace engine.now.plan (length crew.old.items))
+    ensures output { RunsAs engine.now.plan.script
+        (planned_output engine.now.plan (length crew.old.items)) result (O.contents out.old)
+        (O.contents out.new) (length crew.old.items) (length crew.new.items) steps.old steps.new
+        (F.shows files.old) (F.shows files.new) }
+    ensures pace { KeepsPace engine.now.plan.script
+        (planned_pace engine.now.plan (length crew.old.items))
         (O.contents out.old) (O.contents out.new) (F.shows files.old) (F.shows files.new) }
     ensures crew { TakesLast engine.now.plan.deployment.now result crew.old.items crew.new.items }
     ensures ending { IsEnding F.shows engine.now.plan.script result files.old files.new
@@ -165,7 +159,8 @@ fn run_plan<R: Threads + Sync, F: Files, O: Sinks, L: Ledger>(
 ///
 /// What is written, the end, and how many contexts are taken are those of the definition, for what the script's part
 /// gives, and there are at most as many visits as its time advances may take. Of the script at most 4,095 bytes more
-/// are taken than the fetches of the run need. The lines of each scheduling round and each time advance are written
+/// are taken than the fetches of the run need, and no read follows one after which all these fetches have their answers,
+/// whatever comes next. The lines of each scheduling round and each time advance are written
 /// after it: if a write fails, no more of the script was taken than these need up to that write, and 4,095 bytes.
 /// Memory is taken at the beginning, before each scheduling round, for actors that are created and for lines of the
 /// script, and none once the run has ended.
@@ -186,11 +181,11 @@ pub fn run<R: Threads + Sync, F: Files, O: Sinks, L: Ledger>(
     requires begun { IsTrue setup.old.script → (F.shows files.old Part.Script).stage ≢ Fresh }
     requires crew { HasContexts (λ b. mind b) crew.old.items setup.old.deployment }
     requires sound { O.faults out.old ≡ 0 }
-    ensures output { ForSources setup.old.script (F.shows files.old) (F.shows files.new)
-        (λ source. IsRun (output_of setup.old budget (length crew.old.items) show source) result
-        (O.contents out.old) (O.contents out.new) (length crew.old.items) (length crew.new.items)
-        steps.old steps.new (F.shows files.old) (F.shows files.new)) }
-    ensures pace { KeepsPace setup.old.script (pace_in setup.old budget (length crew.old.items) show)
+    ensures output { RunsAs setup.old.script (output_of setup.old budget (length crew.old.items)
+        show) result (O.contents out.old) (O.contents out.new) (length crew.old.items)
+        (length crew.new.items) steps.old steps.new (F.shows files.old) (F.shows files.new) }
+    ensures pace { KeepsPace setup.old.script
+        (pace_in setup.old budget (length crew.old.items) show)
         (O.contents out.old) (O.contents out.new) (F.shows files.old) (F.shows files.new) }
     ensures crew { TakesFirst setup.old.deployment result crew.old.items crew.new.items }
     ensures ending { IsEnding F.shows setup.old.script result files.old files.new

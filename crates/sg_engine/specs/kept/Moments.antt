@@ -1,5 +1,5 @@
 -- How far a run has come between two moments, whatever its script may still give.
-use Rattle.std.specs.Prelude.{◌≡◌, ◌≢◌, ◌≤◌, ◌-◌, ℕ, Bool, true, false, ◌||◌, IsTrue, List, [], ◌++◌, length, Option, None, Some, Result, Ok, IfOk, MatchResult}
+use Rattle.std.specs.Prelude.{◌≡◌, ◌≢◌, ◌<◌, ◌≤◌, ◌-◌, ℕ, Bool, true, false, ◌||◌, IsTrue, List, [], ◌++◌, length, Option, None, Some, Result, Ok, IfOk, MatchResult}
 use Rattle.sg_base.specs.declared.memory.Memory.{Memory}
 use Rattle.sg_base.specs.declared.trace_record.Record.{Record}
 use Rattle.sg_base.specs.declared.ids.ActorId.{ActorId}
@@ -16,6 +16,7 @@ use Rattle.sg_states.specs.Actors.{is_answered, is_ended}
 use Rattle.sg_engine.specs.World.{World}
 use Rattle.sg_rows.specs.Deployment.{Deployed, extent_of}
 use Rattle.sg_script.specs.Answer.{answer_of}
+use Rattle.sg_script.specs.Needed.{need_of}
 use Rattle.sg_script.specs.Rest.{GoesOn}
 use Rattle.sg_script.specs.Known.{ScriptNames as Names, known_in}
 use Rattle.sg_script.specs.Stands.{AreLimited, AreNeeded, IsWithinNeed, Kept, kept_of, Stands, Reads}
@@ -87,12 +88,23 @@ pub record StandsFor (names : Names) (taken : List ℕ) (had : Cast) (now : Mome
   pub core : now.kernel.core ≡ world.core
   pub cast : had ≡ cast_of world
 
+-- what was taken answers all fetches of the whole, whatever follows it
+abbrev pub AnswersAll : Names → (Answering → Progress) → List ℕ → Type 0
+AnswersAll names whole taken = (rest : List ℕ) (broken : Bool) (actor earlier : ℕ) →
+    let source : Source = record { bytes = taken ++ rest; broken = broken } in
+    earlier < (whole (answer_of names source)).world.asks actor → need_of names source actor earlier ≤ length taken
+
+-- if so, no read met the end or failed
+abbrev pub StaysOpen : Names → (Answering → Progress) → List ℕ → Stage → Stage → Type 0
+StaysOpen names whole taken old new = AnswersAll names whole taken → new ≡ old
+
 -- From the old moment to the new one a piece of the script was taken, and records were made. For each source that
 -- continues from there, the whole is these records and then the rest, from the world for which the new moment stands,
--- with so much work spent.
+-- with so much work spent. No read followed one after which the whole had all its answers.
 pub record IsStretch (spent : ℕ) (names : Names) (whole : Answering → Progress) (rest : Answering → World → Progress) (taken : List ℕ) (had : Cast) (old new : Moment) : Type 0 where
   pub piece : List ℕ
   pub reads : Reads piece old.part new.part
+  pub last : StaysOpen names whole (taken ++ piece) old.part.stage new.part.stage
   pub setup : new.kernel.setup ≡ old.kernel.setup
   pub world : World
   pub stands : StandsFor names (taken ++ piece) had new world
@@ -115,6 +127,7 @@ LeavesContexts names whole taken stage left = (source : Source) → GoesOn taken
 pub record LacksMemory (names : Names) (whole : Answering → Progress) (taken : List ℕ) (left : ℕ) (old new : PartView) : Type 0 where
   pub piece : List ℕ
   pub reads : Reads piece old new
+  pub last : StaysOpen names whole (taken ++ piece) old.stage new.stage
   pub needed : AreNeededBy names whole (taken ++ piece) new.stage
   pub contexts : LeavesContexts names whole (taken ++ piece) new.stage left
 

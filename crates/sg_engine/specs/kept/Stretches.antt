@@ -2,6 +2,9 @@
 use Rattle.std.specs.Prelude.{◌≡◌, ◌≤◌, ◌+◌, ℕ, MatchBool, List, [], ◌++◌, length, Option, Some}
 use Rattle.sg_base.specs.declared.trace_record.Record.{Record}
 use Rattle.sg_edge.specs.Files.{PartView}
+use Rattle.sg_edge.specs.declared.files.Part.{Part}
+use Rattle.sg_edge.specs.declared.sinks.Stream.{Stream}
+use Rattle.sg_edge.specs.declared.sinks.Stream.TheVariants.{Out, Err}
 use Rattle.sg_edge.specs.Sinks.{gain, GainsFront}
 use Rattle.sg_edge.specs.Sources.{Source}
 use Rattle.sg_calls.specs.World.{Core}
@@ -19,7 +22,7 @@ use Rattle.sg_trace.specs.Ending.{ending_of}
 use Rattle.sg_trace.specs.declared.last.Last.{Last}
 use Rattle.sg_engine.specs.Pace.{Pace, first_parts, pace_of}
 use Rattle.sg_engine.specs.Run.{Answering, Progress, run_of}
-use Rattle.sg_engine.specs.kept.Moments.{AreNeededBy, Cast, LeavesContexts, Moment, moment, IsStretch, ending}
+use Rattle.sg_engine.specs.kept.Moments.{AreNeededBy, StaysOpen, Cast, LeavesContexts, Moment, moment, IsStretch, ending, names_of, script_in}
 
 -- how records are written as lines
 abbrev pub Trace : Type 0
@@ -39,6 +42,7 @@ pub record Advances (spent : ℕ) (names : Names) (trace : Trace) (whole : Answe
 pub record CutsOff (names : Names) (trace : Trace) (whole : Answering → Progress) (taken : List ℕ) (left : ℕ) (old new : PartView) (before after : Option (List ℕ)) : Type 0 where
   pub piece : List ℕ
   pub reads : Reads piece old new
+  pub last : StaysOpen names whole (taken ++ piece) old.stage new.stage
   pub needed : AreNeededBy names whole (taken ++ piece) new.stage
   pub contexts : LeavesContexts names whole (taken ++ piece) new.stage left
   pub front : (source : Source) → GoesOn (taken ++ piece) new.stage source → GainsFront (trace (whole (answer_of names source)).made) before after
@@ -54,6 +58,7 @@ pub record IsCutOff (start count left : ℕ) (names : Names) (trace : Trace) (wh
 pub record IsOver (start count left : ℕ) (names : Names) (trace : Trace) (whole : Answering → Progress) (how : Ended) (core : Core) (old new : PartView) (before after : Option (List ℕ)) : Type 0 where
   pub piece : List ℕ
   pub reads : Reads piece old new
+  pub last : StaysOpen names whole piece old.stage new.stage
   pub needed : AreNeededBy names whole piece new.stage
   pub world : World
   pub core_is : core ≡ world.core
@@ -70,6 +75,7 @@ pub record IsPaced (names : Names) (trace : Trace) (parts : ℕ → Answering �
   pub reads : Reads piece old new
   pub number : ℕ
   pub written : (source : Source) → GoesOn piece new.stage source → GainsBehind (trace (parts number (answer_of names source)).made) before after
+  pub last : StaysOpen names (parts (number + 1)) piece old.stage new.stage
   pub needed : AreNeededBy names (parts (number + 1)) piece new.stage
 
 -- ---- in the words of contracts
@@ -114,3 +120,9 @@ HasRun plan crew how sim start count old new before after =
     MatchBool (is_cut how)
     (IsCutOff start count (length sim.crew.items) (known_in plan.deployment.now) (trace_in plan) (run_by plan crew) old new before after)
     (IsOver start count (length sim.crew.items) (known_in plan.deployment.now) (trace_in plan) (run_by plan crew) how sim.kernel.core old new before after)
+
+-- What simulating to the end has done, with so many contexts in the pool: the run, and its pace. Err stays.
+pub record Simulates {A : Type 0} (plan : Plan) (crew : ℕ) (how : Ended) (sim : Simulation A) (start count : ℕ) (before after : Part → PartView) (old new : Stream → Option (List ℕ)) : Type 0 where
+  pub run : HasRun plan crew how sim start count (script_in plan before) (script_in plan after) (old Out) (new Out)
+  pub pace : IsPaced (names_of plan) (trace_in plan) (parts_by plan crew) (script_in plan before) (script_in plan after) (old Out) (new Out)
+  pub err : new Err ≡ old Err

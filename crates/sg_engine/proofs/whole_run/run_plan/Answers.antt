@@ -2,7 +2,7 @@ use Rattle.std.proofs.Common.{ap, arith, length, refl, sym}
 use Rattle.sg_edge.specs.declared.files.Part.TheVariants.{Script}
 use Rattle.sg_engine.specs.kept.Invariant.{crew_in}
 use Rattle.sg_engine.specs.kept.Moments.{script_in}
-use Rattle.sg_engine.proofs.Endings.{is_begun, run_left_none, takes_none}
+use Rattle.sg_engine.proofs.Endings.{ends_none, is_begun, run_left_none, takes_none}
 use Rattle.sg_engine.proofs.Fronts.{fronts_none}
 use Rattle.sg_engine.proofs.Paces.{none_paced}
 use Rattle.sg_engine.proofs.Starting.{begins_with, first_taken_in_all, same_pace, same_run}
@@ -33,6 +33,7 @@ returns-in-Err-clause-output g c = λ source gives. record {
   contexts = run_left_none c.args.engine.now.plan.platform.now c.args.engine.now.plan.deployment.now c.args.engine.now.plan.script c.args.engine.now.plan.terms.budget (length c.args.crew.now.items) (length c.start.new.crew.items) c.args.engine.now.plan.terms.show source c.requires.crew.enough c.in-Err.ensures.left.most;
   work = omega arith;
   needed = takes_none _ _ _ refl;
+  last = ends_none _ _ _ refl;
 }
 
 pub returns-in-Ok-clause-pace : goal.returns-in-Ok-clause-pace

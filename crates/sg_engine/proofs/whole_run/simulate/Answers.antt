@@ -18,7 +18,7 @@ use Rattle.sg_engine.specs.Run.{scene, run_of, run_from, next_work}
 use Rattle.sg_engine.proofs.Crews.{crew_all, crew_same, crew_then}
 use Rattle.sg_engine.proofs.Files.{script_then, script_unread}
 use Rattle.sg_engine.proofs.Simulating.{rest_of, far_first, far_on, far_ends, completed, part_as, trace_appends, trace_none, used_up, work_more}
-use Rattle.sg_engine.proofs.Paces.{paced_ends, paced_here, part_next, parts_none}
+use Rattle.sg_engine.proofs.Paces.{paced_ends, paced_here, part_next, part_rises, parts_none}
 use Rattle.sg_engine.proofs.Uncut.{none_not}
 use Rattle.sg_engine.proofs.whole_run.simulate.Goals as goal
 
@@ -61,7 +61,11 @@ returns-then-ending-clause-run g c =
     let n = c.args.engine.now.plan.terms.budget + 1 - c.loop-turn._turn in
     let m = c.args.engine.now.plan.terms.budget + 1 - (c.loop-turn._turn + 1) in
     let more : n ≡ suc m = omega (arith, c.loop-turn-test.true) in
-    completed c.args.steps.now c.loop-turn.steps (known_in deployed) (trace_of c.args.engine.now.plan.terms.show platform deployed) _ n m _ _ _ _ _ _ _ _ c.loop-turn.sim.kernel.core _ _ far.reached more refl (sym c.ending.ensures.is ∙ c.if-ending.true) far.printed far.worked
+    record {
+      run = completed c.args.steps.now c.loop-turn.steps (known_in deployed) (trace_of c.args.engine.now.plan.terms.show platform deployed) _ n m _ _ _ _ _ _ _ _ c.loop-turn.sim.kernel.core _ _ far.reached more refl (sym c.ending.ensures.is ∙ c.if-ending.true) far.printed far.worked;
+      pace = paced_here _ _ _ _ c.loop-turn._turn _ _ _ _ _ _ _ _ _ _ _ far;
+      err = c.loop-turn.invariant.err;
+    }
 
 pub returns-in-Some-clause-run : goal.returns-in-Some-clause-run
 returns-in-Some-clause-run g c =
@@ -89,8 +93,12 @@ returns-in-Some-clause-run g c =
     let worked : c.advance.new.steps ≤ c.args.steps.now + next =
     work_more c.args.steps.now c.loop-turn.steps c.advance.new.steps far.spent far.reached.world.work (next_work c.loop-turn.sim.kernel.core) (next_work far.reached.world.core) far.worked far.reached.work
     (ap next_work far.reached.stands.core) c.in-Some.ensures.steps in
-    far_ends c.args.steps.now c.loop-turn.steps c.advance.new.steps names trace (trace_appends c.args.engine.now.plan.terms.show platform deployed) (run_of at origin) how (is_cut how) n m at _ _ _
-    _ _ _ _ _ _ c.args.sim.now.kernel c.loop-turn.sim.kernel c.advance.new.sim.kernel (g.O.Sinks.contents c.args.out.now Out) before after far more (sym c.ending.ensures.is ∙ c.if-ending.false) c.requires.beginning.first.kept.cleared inv.kept.cleared part' worked
+    record {
+      run = far_ends c.args.steps.now c.loop-turn.steps c.advance.new.steps names trace (trace_appends c.args.engine.now.plan.terms.show platform deployed) (run_of at origin) how (is_cut how) n m at _ _ _
+          _ _ _ _ _ _ c.args.sim.now.kernel c.loop-turn.sim.kernel c.advance.new.sim.kernel (g.O.Sinks.contents c.args.out.now Out) before after far more (sym c.ending.ensures.is ∙ c.if-ending.false) c.requires.beginning.first.kept.cleared inv.kept.cleared part' worked;
+      pace = paced_ends next (is_cut how) names trace (run_of at origin) _ c.loop-turn._turn at origin (Some how) _ _ _ _ _ _ _ _ c.args.sim.now.kernel c.loop-turn.sim.kernel c.advance.new.sim.kernel (g.O.Sinks.contents c.args.out.now Out) before after far (sym c.ending.ensures.is ∙ c.if-ending.false) part';
+      err = c.in-Some.ensures.part.0 ∙ inv.err;
+    }
 
 pub loop-turn-preserved : goal.loop-turn-preserved
 loop-turn-preserved g c =
@@ -120,7 +128,8 @@ loop-turn-preserved g c =
     record {
       far = far_on c.args.steps.now c.loop-turn.steps c.advance.new.steps names trace (trace_appends c.args.engine.now.plan.terms.show platform deployed) (run_of at origin) n m at (λ answers. parts_from c.loop-turn._turn at answers origin) (λ answers. parts_from (c.loop-turn._turn + 1) at answers origin) _ _
           _ _ _ _ _ _ c.args.sim.now.kernel c.loop-turn.sim.kernel c.advance.new.sim.kernel (g.O.Sinks.contents c.args.out.now Out) before after far more (sym c.ending.ensures.is ∙ c.if-ending.false) c.requires.beginning.first.kept.cleared inv.kept.cleared part' worked
-          (λ some answers here. part_next c.loop-turn._turn (c.loop-turn._turn + 1) at answers origin far.reached.world far.reached.made (omega arith) some here);
+          (λ some answers here. part_next c.loop-turn._turn (c.loop-turn._turn + 1) at answers origin far.reached.world far.reached.made (omega arith) some here)
+          (λ answers. part_rises c.loop-turn._turn (c.loop-turn._turn + 1) at answers origin (omega arith));
       kept = c.in-None.ensures.kept.kept;
       crew = crew_then false c.args.sim.now c.loop-turn.sim c.advance.new.sim inv.crew c.in-None.ensures.kept.crew;
       router = c.in-None.ensures.router ∙ inv.router;
@@ -137,7 +146,11 @@ returns-clause-run g c =
     let far = c.loop-turn.invariant.far in
     let n = c.args.engine.now.plan.terms.budget + 1 - c.loop-turn._turn in
     let none : n ≡ 0 = omega (arith, c.loop-turn-test.false) in
-    used_up c.args.steps.now c.loop-turn.steps (known_in deployed) (trace_of c.args.engine.now.plan.terms.show platform deployed) _ n _ _ _ _ _ _ _ _ c.loop-turn.sim.kernel.core _ _ far.reached none refl far.printed far.worked
+    record {
+      run = used_up c.args.steps.now c.loop-turn.steps (known_in deployed) (trace_of c.args.engine.now.plan.terms.show platform deployed) _ n _ _ _ _ _ _ _ _ c.loop-turn.sim.kernel.core _ _ far.reached none refl far.printed far.worked;
+      pace = paced_here _ _ _ _ c.loop-turn._turn _ _ _ _ _ _ _ _ _ _ _ far;
+      err = c.loop-turn.invariant.err;
+    }
 
 pub returns-then-ending-clause-cause : goal.returns-then-ending-clause-cause
 returns-then-ending-clause-cause g c = record { write = λ is. cc is; sound = λ isnt. c.loop-turn.invariant.sound; read = λ is. cc is }
@@ -160,9 +173,6 @@ returns-clause-cause g c = record { write = λ is. cc is; sound = λ isnt. c.loo
 pub returns-in-Some-clause-kept : goal.returns-in-Some-clause-kept
 returns-in-Some-clause-kept g c = c.in-Some.ensures.kept.kept
 
-pub returns-in-Some-clause-err : goal.returns-in-Some-clause-err
-returns-in-Some-clause-err g c = c.in-Some.ensures.part.0 ∙ c.loop-turn.invariant.err
-
 pub returns-then-ending-clause-crew : goal.returns-then-ending-clause-crew
 returns-then-ending-clause-crew g c = crew_all false c.args.sim.now c.loop-turn.sim (c.loop-turn.invariant.same ∙ sym c.requires.beginning.first.setup) c.loop-turn.invariant.crew
 
@@ -172,31 +182,3 @@ returns-in-Some-clause-crew g c =
 
 pub returns-clause-crew : goal.returns-clause-crew
 returns-clause-crew g c = crew_all false c.args.sim.now c.loop-turn.sim (c.loop-turn.invariant.same ∙ sym c.requires.beginning.first.setup) c.loop-turn.invariant.crew
-
-pub returns-then-ending-clause-pace : goal.returns-then-ending-clause-pace
-returns-then-ending-clause-pace g c = paced_here _ _ _ _ c.loop-turn._turn _ _ _ _ _ _ _ _ _ _ _ c.loop-turn.invariant.far
-
-pub returns-clause-pace : goal.returns-clause-pace
-returns-clause-pace g c = paced_here _ _ _ _ c.loop-turn._turn _ _ _ _ _ _ _ _ _ _ _ c.loop-turn.invariant.far
-
-pub returns-in-Some-clause-pace : goal.returns-in-Some-clause-pace
-returns-in-Some-clause-pace g c =
-    let platform = c.args.engine.now.plan.platform.now in
-    let deployed = c.args.engine.now.plan.deployment.now in
-    let origin = first_of platform deployed c.args.engine.now.plan.terms.budget (crew_in c.args.engine.now.plan c.args.sim.now) in
-    let at = scene_of platform deployed c.args.engine.now.plan.script c.args.engine.now.plan.terms.budget in
-    let names = known_in deployed in
-    let trace = trace_of c.args.engine.now.plan.terms.show platform deployed in
-    let inv = c.loop-turn.invariant in
-    let far = inv.far in
-    let how = c.in-Some.how in
-    let old = at_moment (script_part c.args.engine.now.plan.script (g.F.Files.shows c.loop-turn.files Script)) c.loop-turn.sim in
-    let new = at_moment (script_part c.args.engine.now.plan.script (g.F.Files.shows c.advance.new.files Script)) c.advance.new.sim in
-    let before = g.O.Sinks.contents c.loop-turn.out Out in
-    let after = g.O.Sinks.contents c.advance.new.out Out in
-    let leads = rw inv.router at c.in-Some.ensures.part in
-    let part = leads.1 far.reached.piece far.reached.world (record { script = far.reached.stands.script; core = far.reached.stands.core; cast = far.reached.stands.cast }) in
-    let next = far.reached.world.work + next_work far.reached.world.core in
-    let same : scene c.args.router.now c.loop-turn.sim.kernel.setup (firsts_of deployed) c.args.engine.now.plan.script ≡ at = ap₂ (λ (r : Roads) (t : Setup). scene r t (firsts_of deployed) c.args.engine.now.plan.script) c.requires.beginning.roads.are inv.same in
-    let part' = part_as next names trace _ at (Some how) far.reached.piece _ far.reached.world old new before after same part in
-    paced_ends next (is_cut how) names trace (run_of at origin) _ c.loop-turn._turn at origin (Some how) _ _ _ _ _ _ _ _ c.args.sim.now.kernel c.loop-turn.sim.kernel c.advance.new.sim.kernel (g.O.Sinks.contents c.args.out.now Out) before after far (sym c.ending.ensures.is ∙ c.if-ending.false) part'
