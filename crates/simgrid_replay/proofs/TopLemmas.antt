@@ -11,9 +11,11 @@ use Rattle.sg_edge.specs.Sources.{Source, Gives}
 use Rattle.sg_engine.specs.declared.ended.Ended.{Ended}
 use Rattle.sg_engine.specs.declared.ended.Ended.TheVariants as E
 use Rattle.sg_edge.specs.Cause.{HasCause}
-use Rattle.sg_edge.specs.declared.files.Stage.TheVariants.{Broken}
+use Rattle.sg_edge.specs.declared.files.Stage.{Stage}
+use Rattle.sg_edge.specs.declared.files.Stage.TheVariants.{Fresh, Begun, Over, Broken}
+use Rattle.sg_edge.proofs.Reading.{before-nil}
 use Rattle.sg_engine.specs.Gains.{GainsFronts}
-use Rattle.sg_engine.specs.RunContract.{Ends, IsBroken, is_cut as run_cut, TakesContexts as RunTakes, TakesFirst as RunTakesFirst}
+use Rattle.sg_engine.specs.RunContract.{AreEnough, Ends, EndsOnDemand, IsBroken, is_cut as run_cut, TakesContexts as RunTakes, TakesFirst as RunTakesFirst}
 use Rattle.sg_engine.specs.declared.show.Show.{Show}
 use Rattle.sg_engine.specs.Output.{Output, run_output}
 use Rattle.simgrid_replay.specs.declared.refusal.Refusal.{Refusal}
@@ -28,7 +30,7 @@ use Rattle.sg_words.specs.CommandLine as line
 use Rattle.sg_words.specs.CommandLine.{Asked, Request}
 use Rattle.simgrid_replay.specs.PartSources.{TextsGive, ScriptGives}
 use Rattle.simgrid_replay.specs.kept.Reading.{LeavesContexts, PlatformDecides}
-use Rattle.simgrid_replay.specs.PartOrder.{IsTextBroken, SparesRest}
+use Rattle.simgrid_replay.specs.PartOrder.{IsTextBroken, SparesRest, StopsOnDemand}
 use Rattle.simgrid_replay.specs.Settings.{Setting, platform_given}
 use Rattle.sg_engine.specs.declared.setup.Setup.{Setup}
 use Rattle.sg_rows.specs.Platform.{Platform as Loaded}
@@ -191,6 +193,34 @@ run_needs_on job contexts on script budget show source old mid new scripted coun
     let all : TakesUpTo ((run_on job contexts source on).need + 4095) mid new = subst (λ (o : Output). TakesUpTo (o.need + 4095) mid new) (as_job job contexts on script budget show source scripted counted shown) takes in
     record { bytes = all.bytes; left = sym left ∙ all.left; few = all.few }
 
+-- of a script that was begun and read by a run no read met the end or failed if what was taken is enough
+pub run_stops_on : (job : Asked) (contexts : ℕ) (on : Setting) (script : Bool) (budget : ℕ) (show : Show) (old mid new : PartView) →
+    script ≡ has_script job.request → budget ≡ job.budget → show ≡ show_of job.request job.quiet → mid.left ≡ old.left → mid.stage ≢ Over →
+    EndsOnDemand (λ source. (run_output on.platform on.deployment script budget contexts show source).need) mid new → StopsOnDemand (λ source. (run_on job contexts source on).need) old new
+run_stops_on job contexts on script budget show old mid new scripted counted shown left unread ends =
+    let same : (taken : List ℕ) → AreEnough (λ source. (run_on job contexts source on).need) taken → AreEnough (λ source. (run_output on.platform on.deployment script budget contexts show source).need) taken =
+    λ taken enough rest broken. omega (arith, enough rest broken, ap (λ (o : Output). o.need) (as_job job contexts on script budget show (record { bytes = taken ++ rest; broken = broken }) scripted counted shown)) in
+    record {
+      taken = ends.taken;
+      left = sym left ∙ ends.left;
+      unended = λ enough over. unread (sym (ends.last (same ends.taken enough)) ∙ over);
+      unbroken = λ enough broken. ends.shut (not_begun mid.stage (sym (ends.last (same ends.taken enough)) ∙ broken));
+    }
+  where
+    not_begun : (stage : Stage) → stage ≡ Broken → stage ≢ Begun
+    not_begun stage is also = cc (is, also)
+
+-- nor if none was read
+pub none_stops : (need : Source → ℕ) (old new : PartView) → old.stage ≡ Fresh → new ≡ old → StopsOnDemand need old new
+none_stops need old new fresh same =
+    let stage : new.stage ≡ Fresh = ap (λ (v : PartView). v.stage) same ∙ fresh in
+    record {
+      taken = [];
+      left = ap (λ (v : PartView). v.left) (sym same) ∙ sym (before-nil new.left);
+      unended = λ enough over. cc (stage, over);
+      unbroken = λ enough broken. refl;
+    }
+
 -- the contexts that a run takes are the call's
 pub seats_run : {A : Type 0} (on : Setting) (how : Ended) (code : Status) (old new : List A) → code ≡ status_of how → RunTakesFirst on.deployment how old new → TakesFirst (Ok on) code old new
 seats_run on how code old new is first = record {
@@ -274,6 +304,12 @@ pub setting_needs : (job : Asked) (contexts : ℕ) (s : Source) (given : Result 
 setting_needs job contexts s given on old mid new is same takes =
     subst (λ (v : PartView). TakesUpTo ((or_refused job contexts s given).need + 4095) v new) same
     (subst (λ (r : Result Setting Refusal). TakesUpTo ((or_refused job contexts s r).need + 4095) mid new) (sym is) takes)
+
+pub setting_stops : (job : Asked) (contexts : ℕ) (given : Result Setting Refusal) (on : Setting) (old mid new : PartView) → given ≡ Ok on → mid ≡ old →
+    StopsOnDemand (λ s. (run_on job contexts s on).need) mid new → StopsOnDemand (λ s. (or_refused job contexts s given).need) old new
+setting_stops job contexts given on old mid new is same stops =
+    subst (λ (v : PartView). StopsOnDemand (λ s. (or_refused job contexts s given).need) v new) same
+    (subst (λ (r : Result Setting Refusal). StopsOnDemand (λ s. (or_refused job contexts s r).need) mid new) (sym is) stops)
 
 pub setting_leaves : (job : Asked) (contexts : ℕ) (s : Source) (given : Result Setting Refusal) (on : Setting) (how : Status) (crew left : ℕ) → given ≡ Ok on →
     LeavesContexts (run_on job contexts s on).contexts how crew left → LeavesContexts (or_refused job contexts s given).contexts how crew left

@@ -27,7 +27,7 @@ Exits code holds = (how : Status) × (code ≡ status_code how) × holds how
 -- What a whole call does for the words of a command line: all clauses of `simgrid` hold of it.
 pub record DoesCall {F A : Type 0} (shows : F → Part → PartView) (words : List Text) (before after : F) (old new : Stream → Option (List ℕ)) (had faults : ℕ) (crew left : List A) (start count : ℕ) (how : Status) : Type 0 where
   pub output : ForJob words (shows before) (shows after) (λ job p d s. Prints (outcome job (length crew) p d s) how old new)
-  pub takes : ForJob words (shows before) (shows after) (λ job p d s. TakesForJob (outcome job (length crew) p d s) how start count (shows before) (shows after) crew left)
+  pub takes : ForJob words (shows before) (shows after) (λ job p d s. TakesForJob (outcome job (length crew) p d) s how start count (shows before) (shows after) crew left)
   pub parts : (job : Asked) → AskFor words job → TakesParts shows job.request (length crew) before after
   pub seats : (job : Asked) → AskFor words job → (p d : Source) → TextsGive job.request (shows before) (shows after) p d →
       TakesFirst (setting job.request (length crew) p d) how crew left

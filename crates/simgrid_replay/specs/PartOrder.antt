@@ -1,13 +1,14 @@
 -- What a call does to the parts: how far they are read, and which are not begun.
-use Rattle.std.specs.Prelude.{◌≡◌, ◌+◌, ◌⊎◌, ℕ, false, IsErr}
+use Rattle.std.specs.Prelude.{◌≡◌, ◌≢◌, ◌+◌, ◌⊎◌, ℕ, false, IsErr, List, []}
 use Rattle.sg_base.specs.declared.status.Status.{Status}
 use Rattle.sg_base.specs.declared.status.Status.TheVariants as status
 use Rattle.sg_platform.specs.PlatformOf.{greatest_text}
-use Rattle.sg_edge.specs.Files.{KeepsTelling, PartView, SameFrom, TakesUpTo}
+use Rattle.sg_edge.specs.Files.{before, KeepsTelling, PartView, SameFrom, TakesUpTo}
 use Rattle.sg_edge.specs.Sources.{Source, Gives}
 use Rattle.sg_edge.specs.declared.files.Part.{Part}
 use Rattle.sg_edge.specs.declared.files.Part.TheVariants as part
-use Rattle.sg_edge.specs.declared.files.Stage.TheVariants.{Broken}
+use Rattle.sg_edge.specs.declared.files.Stage.TheVariants.{Broken, Over}
+use Rattle.sg_engine.specs.RunContract.{AreEnough}
 use Rattle.sg_words.specs.CommandLine.{Request}
 use Rattle.simgrid_replay.specs.PartSources.{IsNamedBy, TextsGive}
 use Rattle.simgrid_replay.specs.Requests.{has_parts, has_script}
@@ -17,6 +18,14 @@ use Rattle.simgrid_replay.specs.Settings.{platform_given, setting}
 pub record AreBounded (old new : Part → PartView) : Type 0 where
   pub platform : TakesUpTo (greatest_text + 1) (old part.Platform) (new part.Platform)
   pub deployment : TakesUpTo (greatest_text + 1) (old part.Deployment) (new part.Deployment)
+
+-- If the bytes that were taken are enough, whatever follows them, no read met the end, and none failed: what is broken
+-- then couldn't be begun, and nothing of it was taken.
+pub record StopsOnDemand (need : Source → ℕ) (old new : PartView) : Type 0 where
+  pub taken : List ℕ
+  pub left : old.left ≡ before taken new.left
+  pub unended : AreEnough need taken → new.stage ≢ Over
+  pub unbroken : AreEnough need taken → new.stage ≡ Broken → taken ≡ []
 
 -- No part is begun after one that can't be read or is refused, and no script if the request has none.
 pub record AreInOrder (request : Request) (contexts : ℕ) (old new : Part → PartView) : Type 0 where

@@ -1,6 +1,6 @@
 //! The run of a job whose platform and deployment are there.
 ghost use Rattle.std.specs.Prelude.{◌≡◌, ◌≢◌, ◌<◌, ◌≤◌, length, All, None, Ok, false, IsTrue};
-ghost use Rattle.sg_edge.specs.declared.files.Stage.TheVariants.{Fresh, Broken};
+ghost use Rattle.sg_edge.specs.declared.files.Stage.TheVariants.{Fresh, Broken, Over};
 ghost use Rattle.sg_edge.specs.Files.{Only};
 ghost use Rattle.sg_edge.specs.Sources.{Source};
 ghost use Rattle.sg_words.specs.Views.{job_view};
@@ -50,6 +50,7 @@ fn begin_script<F: Files>(job: &Job, files: &mut F)
     requires { (F.shows files.old Part.Script).stage ≡ Fresh }
     ensures begun { IsTrue (has_script (request_of job.now))
         → (F.shows files.new Part.Script).stage ≢ Fresh }
+    ensures unread { (F.shows files.new Part.Script).stage ≢ Over }
     ensures left { (F.shows files.new Part.Script).left ≡ (F.shows files.old Part.Script).left }
     ensures unscripted { has_script (request_of job.now) ≡ false → files.new ≡ files.old }
     ensures faults { (F.shows files.old Part.Script).faults
@@ -88,10 +89,10 @@ pub fn run_job<R: Threads + Sync, F: Files, O: Sinks, L: Ledger>(
     requires blank { All (λ b. mind b ≡ None) crew.old.items }
     requires sound { O.faults out.old ≡ 0 }
     ensures output { (s : Source) → ScriptGives (request_of on.entry.job.now) (F.shows files.old)
-        (F.shows files.new) s → ComesTo (run_on (job_view on.entry.job.now) (length crew.old.items)
-        s (setting_in on.entry.setup)) result (O.contents out.old) (O.contents out.new)
-        (length crew.old.items) (length crew.new.items) steps.old steps.new (F.shows files.old)
-        (F.shows files.new) }
+        (F.shows files.new) s → ComesTo (λ given. run_on (job_view on.entry.job.now)
+        (length crew.old.items) given (setting_in on.entry.setup)) s result (O.contents out.old)
+        (O.contents out.new) (length crew.old.items) (length crew.new.items) steps.old steps.new
+        (F.shows files.old) (F.shows files.new) }
     ensures crew { TakesFirst (Ok (setting_in on.entry.setup)) result crew.old.items
         crew.new.items }
     ensures unrefused { is_refusal result ≡ false }

@@ -41,7 +41,7 @@ fn do_job<R: Threads + Sync, F: Files, O: Sinks, L: Ledger>(
     requires sound { O.faults out.old ≡ 0 }
     ensures output { (p d s : Source)
         → PartsGive (request_of job.now) (F.shows files.old) (F.shows files.new) p d s
-        → ComesTo (outcome (job_view job.now) (length crew.old.items) p d s) result
+        → ComesTo (outcome (job_view job.now) (length crew.old.items) p d) s result
         (O.contents out.old) (O.contents out.new) (length crew.old.items) (length crew.new.items)
         steps.old steps.new (F.shows files.old) (F.shows files.new) }
     ensures crew { SeatsJob (job_view job.now) result (F.shows files.old) (F.shows files.new)
@@ -63,9 +63,10 @@ fn do_job<R: Threads + Sync, F: Files, O: Sinks, L: Ledger>(
 ///
 /// `words` are the words of the command line, the program's name first. The platform, the deployment and the script are
 /// taken from `files` in this order, as far as the command has them, each only once the one before it was accepted; the
-/// script is read during the run, and less than a piece of 4,096 bytes further than its fetches need. Each actor that
-/// begins takes the next context of `crew`, the context pool, and they take their turns on as many threads as the words
-/// say. Lines are written to `out`, and `steps` counts the solver's visits, which are no more than the work of the run.
+/// script is read during the run, and less than a piece of 4,096 bytes further than its fetches need, with no read once
+/// they have their answers, whatever comes next. Each actor that begins takes the next context of `crew`, the context
+/// pool, and they take their turns on as many threads as the words say. Lines are written to `out`, and `steps` counts
+/// the solver's visits, which are no more than the work of the run.
 pub fn simgrid<R: Threads + Sync, F: Files, O: Sinks, L: Ledger>(
     rt: &R,
     alloc: Global,
@@ -90,9 +91,10 @@ pub fn simgrid<R: Threads + Sync, F: Files, O: Sinks, L: Ledger>(
         (O.contents out.old) (O.contents out.new)) }
 
     // Visits are at most the work of the run. Of the script less than a piece more is taken than
-    // its fetches need, and of the context pool as many contexts as the definition takes.
+    // its fetches need, and nothing is read once what was taken answers them all. Of the context
+    // pool as many contexts are taken as the definition takes.
     ensures takes { ForJob (map string_bytes words.now) (F.shows files.old) (F.shows files.new)
-        (λ job p d s. TakesForJob (outcome job (length crew.old.items) p d s) result
+        (λ job p d s. TakesForJob (outcome job (length crew.old.items) p d) s result
         steps.old steps.new (F.shows files.old) (F.shows files.new)
         crew.old.items crew.new.items) }
 

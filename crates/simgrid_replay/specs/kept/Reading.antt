@@ -12,7 +12,7 @@ use Rattle.sg_edge.specs.declared.files.Stage.TheVariants.{Fresh, Broken}
 use Rattle.sg_edge.specs.declared.sinks.Stream.{Stream}
 use Rattle.sg_engine.specs.RunContract.{IsReadOnDemand}
 use Rattle.sg_words.specs.CommandLine.{Asked, Request}
-use Rattle.simgrid_replay.specs.PartOrder.{IsTextBroken}
+use Rattle.simgrid_replay.specs.PartOrder.{IsTextBroken, StopsOnDemand}
 use Rattle.simgrid_replay.specs.PartSources.{IsNamedBy, TextsGive}
 use Rattle.simgrid_replay.specs.Contexts.{TakesFirst, TakesFront}
 use Rattle.simgrid_replay.specs.Outcome.{Outcome, Prints, cuts_output_short, is_refusal}
@@ -36,13 +36,14 @@ IsCallCause how had faults broke = HasCause (how ≡ status.WriteFault) (how ≡
 abbrev pub LeavesContexts : ℕ → Status → ℕ → ℕ → Type 0
 LeavesContexts want how crew left = MatchBool (cuts_output_short how) (crew ≤ left + want) (crew ≡ left + want)
 
--- The result of a call: it printed its outcome, with no more visits than its work, so many contexts left in the pool,
--- and less than a piece more of the script taken than its fetches need.
-pub record ComesTo (want : Outcome) (how : Status) (old new : Stream → Option (List ℕ)) (crew left start count : ℕ) (before after : Part → PartView) : Type 0 where
-  pub prints : Prints want how old new
-  pub counts : count ≤ start + want.work
-  pub contexts : LeavesContexts want.contexts how crew left
-  pub needed : IsReadOnDemand want.need before after
+-- The result of a call: it printed its outcome for this script, with no more visits than its work, so many contexts left
+-- in the pool, and the script read on demand.
+pub record ComesTo (want : Source → Outcome) (script : Source) (how : Status) (old new : Stream → Option (List ℕ)) (crew left start count : ℕ) (before after : Part → PartView) : Type 0 where
+  pub prints : Prints (want script) how old new
+  pub counts : count ≤ start + (want script).work
+  pub contexts : LeavesContexts (want script).contexts how crew left
+  pub needed : IsReadOnDemand (want script).need before after
+  pub last : StopsOnDemand (λ other. (want other).need) (before part.Script) (after part.Script)
 
 -- this part is broken, and its count rose
 abbrev pub Broke : Part → (Part → PartView) → (Part → PartView) → Type 0

@@ -5,7 +5,7 @@ use Rattle.sg_words.specs.Views.{job_view}
 use Rattle.simgrid_replay.specs.PartSources.{request_of}
 use Rattle.simgrid_replay.specs.kept.Setups.{setting_in}
 use Rattle.simgrid_replay.proofs.PartLemmas.{named_on}
-use Rattle.simgrid_replay.proofs.TopLemmas.{begun_gives, run_cause, run_counts_on, run_leaves_on, run_needs_on, run_prints_on, seats_run}
+use Rattle.simgrid_replay.proofs.TopLemmas.{begun_gives, run_cause, run_counts_on, run_leaves_on, run_needs_on, run_prints_on, run_stops_on, seats_run}
 use Rattle.simgrid_replay.proofs.job_run.run_job.Goals as goal
 
 pub run-ended-requires-clause-crew : goal.run-ended-requires-clause-crew
@@ -24,6 +24,7 @@ returns-clause-output g c = λ s gives.
       counts = run_counts_on job crew on c.args.on.setup.script terms.budget terms.show s _ _ c.requires.setup.script asked.budget asked.show run.work;
       contexts = run_leaves_on job crew on c.args.on.setup.script terms.budget terms.show s c.run-ended.result c.status.result crew (length c.run-ended.new.crew.items) c.requires.setup.script asked.budget asked.show c.status.ensures.is run.contexts;
       needed = run_needs_on job crew on c.args.on.setup.script terms.budget terms.show s _ _ _ c.requires.setup.script asked.budget asked.show c.begin_script.ensures.left run.needed;
+      last = run_stops_on job crew on c.args.on.setup.script terms.budget terms.show _ _ _ c.requires.setup.script asked.budget asked.show c.begin_script.ensures.left c.begin_script.ensures.unread run.last;
     }
 
 pub returns-clause-crew : goal.returns-clause-crew

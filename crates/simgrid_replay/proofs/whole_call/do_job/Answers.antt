@@ -9,7 +9,7 @@ use Rattle.simgrid_replay.specs.Outcome.{or_refused}
 use Rattle.simgrid_replay.specs.kept.Setups.{IsSetupFor, setting_in}
 use Rattle.simgrid_replay.specs.Settings.{setting}
 use Rattle.simgrid_replay.specs.Requests.{has_script}
-use Rattle.simgrid_replay.proofs.TopLemmas.{none_broken, none_taken, not_refused, partless, refusal_leaves, refusal_prints, script_after, setting_counts, setting_leaves, setting_needs, setting_prints, setting_seats, telling_before, texts_before, unrefused_spares}
+use Rattle.simgrid_replay.proofs.TopLemmas.{none_broken, none_taken, not_refused, partless, refusal_leaves, refusal_prints, script_after, setting_counts, setting_leaves, setting_needs, setting_prints, setting_seats, setting_stops, none_stops, telling_before, texts_before, unrefused_spares}
 use Rattle.simgrid_replay.proofs.PartLemmas.{named_parts, nameless_by, takes_none}
 use Rattle.simgrid_replay.proofs.whole_call.do_job.Goals as goal
 
@@ -33,6 +33,7 @@ returns-in-Ok-clause-output g c = λ p d s gives.
       counts = setting_counts (job_view c.args.job.now) (length c.args.crew.now.items) s _ (setting_in c.in-Ok.setup) _ _ is run.counts;
       contexts = setting_leaves (job_view c.args.job.now) (length c.args.crew.now.items) s _ (setting_in c.in-Ok.setup) c.run_job.result (length c.args.crew.now.items) (length c.run_job.new.crew.items) is run.contexts;
       needed = setting_needs (job_view c.args.job.now) (length c.args.crew.now.items) s _ (setting_in c.in-Ok.setup) (old Script) (mid Script) (new Script) is c.prepare.ensures.read.unbegun run.needed;
+      last = setting_stops (job_view c.args.job.now) (length c.args.crew.now.items) _ (setting_in c.in-Ok.setup) (old Script) (mid Script) (new Script) is c.prepare.ensures.read.unbegun run.last;
     }
 
 pub returns-in-Err-clause-output : goal.returns-in-Err-clause-output
@@ -47,6 +48,7 @@ returns-in-Err-clause-output g c = λ p d s gives.
           c.in-Err.why c.refuse.result (length c.args.crew.now.items) (λ r. refl)
           (λ told. sym (ap (λ (n : ℕ). setting (request_of c.args.job.now) n p d) (sym contexts) ∙ c.in-Err.ensures.given p d gives.texts (λ e. told (cc)))) c.refuse.ensures.memory;
       needed = takes_none _ _ _ c.in-Err.ensures.read.unbegun;
+      last = none_stops _ _ _ (c.requires.start.fresh Script) c.in-Err.ensures.read.unbegun;
     }
 
 pub returns-in-Ok-clause-crew : goal.returns-in-Ok-clause-crew

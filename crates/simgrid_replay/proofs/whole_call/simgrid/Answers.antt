@@ -1,5 +1,6 @@
 use Rattle.std.proofs.Common.{◌≡◌, ◌∙◌, sym, ap, subst, refl, length, map, true, false, arith}
 use Rattle.std.specs.Prelude.{string_bytes}
+use Rattle.sg_edge.specs.declared.files.Part.TheVariants.{Script}
 use Rattle.sg_words.specs.CommandLine.{Asked, asked_of, refusals}
 use Rattle.sg_words.specs.Views.{job_view}
 use Rattle.simgrid_replay.specs.Contexts.{TakesFirst}
@@ -9,7 +10,7 @@ use Rattle.simgrid_replay.specs.PartSources.{PartsGive, TextsGive}
 use Rattle.simgrid_replay.specs.Settings.{setting}
 use Rattle.simgrid_replay.specs.WholeCall.{TakesForJob}
 use Rattle.simgrid_replay.proofs.PartLemmas.{nameless_by, takes_none}
-use Rattle.simgrid_replay.proofs.TopLemmas.{prints_nothing, takes_contexts}
+use Rattle.simgrid_replay.proofs.TopLemmas.{none_stops, prints_nothing, takes_contexts}
 use Rattle.simgrid_replay.proofs.WordLemmas.{fault_is, job_is}
 use Rattle.simgrid_replay.proofs.whole_call.simgrid.Goals as goal
 
@@ -30,12 +31,13 @@ returns-in-Ok-clause-takes g c = λ job asks p d s gives.
     let had = c.args.crew.now.items in
     let has = c.do_job.new.crew.items in
     subst (λ (j : Asked). PartsGive j.request old new p d s →
-    TakesForJob (outcome j (length had) p d s) c.do_job.result c.args.steps.now c.do_job.new.steps old new had has) same
+    TakesForJob (outcome j (length had) p d) s c.do_job.result c.args.steps.now c.do_job.new.steps old new had has) same
     (λ given.
     let done = c.do_job.ensures.output p d s given in
     record {
       counts = done.counts;
       needed = done.needed;
+      last = done.last;
       taken = takes_contexts (setting (job_view c.in-Ok.job).request (length had) p d) (outcome (job_view c.in-Ok.job) (length had) p d s) c.do_job.result had has
           (c.do_job.ensures.crew.first p d given.texts) done.contexts;
     }) gives
@@ -51,6 +53,7 @@ returns-in-Err-clause-takes g c = λ job asks p d s gives.
     record {
       counts = omega (arith);
       needed = takes_none _ _ _ refl;
+      last = none_stops _ _ _ (c.requires.fresh Script) refl;
       taken = record {
         taken = 0;
         most = omega (arith);
