@@ -12,7 +12,7 @@ use Rattle.sg_heap.proofs.Sifts.{by}
 pub lt_cases : (a b : ℕ) → (a < b) ⊎ (b ≤ a)
 lt_cases a b = grind arith
 
-pub key_in_yes : (heap : List Entry) (count at : ℕ) (e : Entry) → at < count → entry_at heap at ≡ e → key_in heap count at ≡ Some (key_of e)
+key_in_yes : (heap : List Entry) (count at : ℕ) (e : Entry) → at < count → entry_at heap at ≡ e → key_in heap count at ≡ Some (key_of e)
 key_in_yes heap count at e h q = rw (lt-ltb at count h, q)
 
 pub key_in_no : (heap : List Entry) (count at : ℕ) → count ≤ at → key_in heap count at ≡ None
@@ -167,72 +167,6 @@ module _ (heap : List Entry) (place : List ℕ) (at : ℕ) (entry : Entry) (p : 
             ∙ get_or-set_same place (entry_at heap count).slot at 0 (p.slots count count_in) in
             let apart : at ≢ count = λ q. elsewhere i h ne (old ∙ sym q) in
             ap (key_in added_heap (count + 1)) new ∙ key_in_no added_heap (count + 1) at (omega (arith, apart, behind)) ∙ sym (ap (key_in heap count) old ∙ key_in_no heap count count (omega arith))
-
-  -- The entry comes to the place of another that has a key, and that one comes here.
-  module _ (count hole : ℕ) (inside : hole < count) (behind : count ≤ at) where
-    abbrev pub filled_heap : List Entry
-    filled_heap = set (set heap at (entry_at heap hole)) hole entry
-
-    abbrev pub filled_place : List ℕ
-    filled_place = set (set place (entry_at heap hole).slot at) entry.slot hole
-
-    pub record IsFilled : Type 0 where
-      pub placed : ArePlaced filled_heap filled_place
-      pub keys : keys_of filled_heap filled_place count ≡ set (set (keys_of heap place count) (entry_at heap hole).slot None) entry.slot (Some (key_of entry))
-      pub same : (i : ℕ) → i < count → i ≢ hole → entry_at filled_heap i ≡ entry_at heap i
-
-    hole_in : hole < length place
-    hole_in = omega (arith, inside, behind, la)
-
-    gone_in : (entry_at heap hole).slot < length place
-    gone_in = p.slots hole hole_in
-
-    one_len : length (set place (entry_at heap hole).slot at) ≡ length place
-    one_len = length-set place (entry_at heap hole).slot at
-
-    placed_filled : ArePlaced filled_heap filled_place
-    placed_filled =
-        let virt = set heap at entry in
-        let w = set place entry.slot at in
-        let n : length w ≡ length place = length-set place entry.slot at in
-        let a : at < length w = omega (arith, n, la) in
-        let b : hole < length w = omega (arith, n, hole_in) in
-        let ne : at ≢ hole = λ e. omega (arith, e, inside, behind) in
-        subst (λ h. ArePlaced h filled_place) (sym (moved_heap heap at hole entry ne la'))
-        (subst (λ v. ArePlaced (swap_heap virt at hole) v) (sym (moved_place heap place at hole entry ne la'))
-        (placed_swapped virt (swap_heap virt at hole) w (swap_place virt w at hole) at hole placed_changed a b (swapped virt w at hole placed_changed a b ne)))
-
-    same_filled : (i : ℕ) → i < count → i ≢ hole → entry_at filled_heap i ≡ entry_at heap i
-    same_filled i h ne = get_or-set_other (set heap at (entry_at heap hole)) hole i entry no_entry ne ∙ get_or-set_other heap at i (entry_at heap hole) no_entry (λ e. omega (arith, e, h, behind))
-
-    -- without the key of the entry that was there
-    keys_one : keys_of heap (set place (entry_at heap hole).slot at) count ≡ set (keys_of heap place count) (entry_at heap hole).slot None
-    keys_one = keys_set heap heap place (set place (entry_at heap hole).slot at) count count (entry_at heap hole).slot None gone_in one_len
-        (ap (key_in heap count) (get_or-set_same place (entry_at heap hole).slot at 0 gone_in) ∙ key_in_no heap count at behind)
-        (λ i h ne. ap (key_in heap count) (get_or-set_other place (entry_at heap hole).slot i at 0 ne))
-
-    others_filled : (x : ℕ) → x ≢ hole → key_in filled_heap count x ≡ key_in heap count x
-    others_filled x ne = elim (lt_cases x count) [
-      | inl l ↦ key_in_yes filled_heap count x (entry_at heap x) l (same_filled x l ne) ∙ sym (key_in_yes heap count x (entry_at heap x) l refl)
-      | inr m ↦ key_in_no filled_heap count x m ∙ sym (key_in_no heap count x m)
-    ]
-
-    not_hole : (i : ℕ) → i < length place → get_or (set place (entry_at heap hole).slot at) i 0 ≢ hole
-    not_hole i h = elim (eq_cases i (entry_at heap hole).slot) [
-      | inl e ↦ λ q. let is : get_or (set place (entry_at heap hole).slot at) i 0 ≡ at = ap (λ k. get_or (set place (entry_at heap hole).slot at) k 0) e ∙ get_or-set_same place (entry_at heap hole).slot at 0 gone_in in omega (arith, is, q, inside, behind)
-      | inr ne ↦ λ q. ne (sym (p.back i h) ∙ ap (λ x. (entry_at heap x).slot) (sym (get_or-set_other place (entry_at heap hole).slot i at 0 ne) ∙ q))
-    ]
-
-    pub filled : IsFilled
-    filled = record {
-      placed = placed_filled;
-      keys = keys_set heap filled_heap (set place (entry_at heap hole).slot at) filled_place count count entry.slot (Some (key_of entry)) (subst (λ n. entry.slot < n) (sym one_len) slot_in) (length-set (set place (entry_at heap hole).slot at) entry.slot hole)
-          (ap (key_in filled_heap count) (get_or-set_same (set place (entry_at heap hole).slot at) entry.slot hole 0 (subst (λ n. entry.slot < n) (sym one_len) slot_in)) ∙ key_in_yes filled_heap count hole entry inside
-          (get_or-set_same (set heap at (entry_at heap hole)) hole entry no_entry (omega (arith, p.len, hole_in, length-set heap at (entry_at heap hole)))))
-          (λ i h ne. ap (key_in filled_heap count) (get_or-set_other (set place (entry_at heap hole).slot at) entry.slot i hole 0 ne) ∙ others_filled (get_or (set place (entry_at heap hole).slot at) i 0) (not_hole i (subst (λ n. i < n) one_len h)))
-          ∙ ap (λ k. set k entry.slot (Some (key_of entry))) keys_one;
-      same = same_filled;
-    }
 
 -- The entry here goes after those with a key, and the last of these comes here.
 module _ (heap : List Entry) (place : List ℕ) (at last : ℕ) (p : ArePlaced heap place) (la : at ≤ last) (ll : last < length place) where

@@ -41,10 +41,3 @@ digits-parent at some = omega (arith, digits_half at some, digits-le ((at - 1) /
 -- one step down
 pub digits-child : (at child : ℕ) → (child - 1) / 2 ≡ at → at < child → digits (at + 1) + 1 ≤ digits (child + 1)
 digits-child at child h k = digits-double (at + 1) (child + 1) (omega arith) (omega arith)
-
-pub digits-some : (n : ℕ) → 1 ≤ digits (n + 1)
-digits-some n = omega (arith, digits_half (n + 1) (omega arith))
-
--- one more has at most one digit more
-pub digits-last : (n : ℕ) → 0 < n → digits n ≤ digits (n - 1) + 1
-digits-last n some = omega (arith, digits_half n some, digits-le (n / 2) (n - 1) (omega arith))

@@ -121,16 +121,3 @@ root (suc most) heap count i h hc hm = elim (eq_cases i 0) [
 
 pub root_first : (heap : List Entry) (count i : ℕ) → IsHeap heap count → i < count → InOrder heap 0 i
 root_first heap count i h hc = root i heap count i h hc (omega arith)
-
--- what comes before the children of the root comes before all but the root
-pub below_root : (most : ℕ) (heap : List Entry) (count at i : ℕ) → IsHeap heap count → InOrder heap at 1 → (2 < count → InOrder heap at 2) → 0 < i → i < count → i ≤ most → InOrder heap at i
-unfolding IsHeap
-below_root zero heap count at i h one two some hc hm = absurd (omega (arith, some, hm))
-below_root (suc most) heap count at i h one two some hc hm = elim (eq_cases i 1) [
-  | inl e ↦ subst (λ k. InOrder heap at k) (sym e) one
-  | inr n1 ↦ elim (eq_cases i 2) [
-    | inl e ↦ subst (λ k. InOrder heap at k) (sym e) (two (omega (arith, e, hc)))
-    | inr n2 ↦ no_later-trans (key_of (entry_at heap at)) (key_of (entry_at heap ((i - 1) / 2))) (key_of (entry_at heap i))
-        (below_root most heap count at ((i - 1) / 2) h one two (omega (arith, some, n1, n2)) (omega arith) (omega arith)) (h i (omega arith) hc)
-  ]
-]

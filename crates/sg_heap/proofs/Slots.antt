@@ -35,7 +35,7 @@ key_count-with n keys = omega (arith, sum_by-append (λ (o : Option Key). cond (
     none (suc m) = none m
 
 -- lists that read alike
-pub alike : (a b : List (Option Key)) → length a ≡ length b → ((i : ℕ) → key_at a i ≡ key_at b i) → a ≡ b
+alike : (a b : List (Option Key)) → length a ≡ length b → ((i : ℕ) → key_at a i ≡ key_at b i) → a ≡ b
 alike a b len same = ext_get_or None a b len (λ i below. same i)
 
 pub with_more : (m n : ℕ) (keys : List (Option Key)) → length keys ≤ m → m ≤ n → with_slots n keys ≡ with_slots n (with_slots m keys)

@@ -135,14 +135,12 @@ pub grows_none : (heap : List Entry) (place : List ℕ) → GrowsTo (length plac
 grows_none heap place = record {
   agenda = λ count a. a;
   keys = λ count a. subst (λ n. keys_of heap place count ≡ with_slots n (keys_of heap place count)) (length-keys heap place count) (none_more (keys_of heap place count));
-  same = λ slot h. refl;
 }
 
 pub grows_same : (heap heap' : List Entry) (place place' : List ℕ) (m n : ℕ) → m - length place ≡ n - length place → GrowsTo m heap place heap' place' → GrowsTo n heap place heap' place'
 grows_same heap heap' place place' m n e g = record {
   agenda = g.agenda;
   keys = λ count a. g.keys count a ∙ same_slots (keys_of heap place count) m n (subst (λ k. m - k ≡ n - k) (sym (length-keys heap place count)) e);
-  same = g.same;
 }
 
 pub grows_more : (heap heap' : List Entry) (place place' : List ℕ) (entry : Entry) (n : ℕ) → entry.slot ≡ n → length place' ≡ n → length place ≤ n → GrowsTo n heap place heap' place' → GrowsTo (n + 1) heap place (heap' ++ entry ∷ []) (place' ++ n ∷ [])
@@ -152,5 +150,4 @@ grows_more heap heap' place place' entry n its len le g = record {
       subst (λ w. keys_of (heap' ++ entry ∷ []) (place' ++ w ∷ []) count ≡ keys_of heap' place' count ++ None ∷ []) len (keys_more heap' place' count entry (g.agenda count a) (its ∙ sym len))
       ∙ ap (λ keys. keys ++ None ∷ []) (g.keys count a)
       ∙ pushed (keys_of heap place count) n (subst (λ k. k ≤ n) (sym (length-keys heap place count)) le);
-  same = λ slot h. get_or_append_left place' (n ∷ []) 0 slot (omega (arith, h, le, len)) ∙ g.same slot h;
 }

@@ -4,7 +4,7 @@ ghost use Rattle.sg_heap.specs.Agenda.{IsLeast, digits, key, key_at, key_count, 
 ghost use Rattle.sg_heap.specs.kept.Heap.{GrowsTo};
 
 use crate::entry::Entry;
-use crate::keys::{Held, clear_key, first_key, set_key};
+use crate::keys::{clear_key, set_key};
 use sg_base::{Memory, Serial, Steps};
 use std::alloc::Global;
 use std::marker::{Brand, Model};
@@ -17,12 +17,12 @@ use std::sync::ledger::{Blank, Ledger};
 /// takes memory.
 #[derive(Drop)]
 pub struct Agenda {
-    // an entry for each slot up to the last that ever had a key: first those of the heap, then the others
+    // an entry for each slot up to the last that ever had a key: first those with a key, as a binary heap, then the others
     heap: Vec<Entry>,
     // where the entry of each of these slots stands
     place: Vec<usize>,
-    // which slots have a key
-    held: Held,
+    // how many slots have a key
+    count: usize,
     // how many slots there are; for all of them there is room
     slots: usize,
 }
@@ -35,11 +35,11 @@ impl Model for Agenda {
 
     ghost use Rattle.std.specs.Prelude.{vec_capacity};
     ghost use Rattle.sg_heap.specs.Agenda.{with_slots};
-    ghost use Rattle.sg_heap.specs.kept.Heap.{keys_left, HasSlots};
+    ghost use Rattle.sg_heap.specs.kept.Heap.{keys_of, HasSlots};
 
-    ghost view = { λ a. with_slots a.slots (keys_left a.heap.items a.place.items a.held) };
+    ghost view = { λ a. with_slots a.slots (keys_of a.heap.items a.place.items a.count) };
 
-    ghost invariant = { λ a. HasSlots a.heap.items a.place.items a.held a.slots
+    ghost invariant = { λ a. HasSlots a.heap.items a.place.items a.count a.slots
         (vec_capacity a.heap) (vec_capacity a.place) };
 }
 
@@ -51,10 +51,7 @@ impl Agenda {
         Ok(Agenda {
             heap: Vec::new(alloc),
             place: Vec::new(alloc),
-            held: Held {
-                count: 0,
-                gone: None,
-            },
+            count: 0,
             slots: 0,
         })
     }
@@ -91,7 +88,7 @@ impl Agenda {
     {
         add_slots(&mut self.heap, &mut self.place, slot + 1);
         let entry = Entry { date, serial, slot };
-        self.held = set_key(&mut self.heap, &mut self.place, self.held, entry, steps);
+        self.count = set_key(&mut self.heap, &mut self.place, self.count, entry, steps);
     }
 
     /// Takes a slot's key, if it has one. `steps` counts the comparisons of keys, which are as many at most.
@@ -101,7 +98,7 @@ impl Agenda {
         ensures comparisons { steps.new ≤ steps.old + (2 * digits (key_count self.old) + 2) }
     {
         if slot < self.place.len() {
-            self.held = clear_key(&mut self.heap, &mut self.place, self.held, slot, steps);
+            self.count = clear_key(&mut self.heap, &mut self.place, self.count, slot, steps);
         }
     }
 
@@ -148,7 +145,10 @@ impl Agenda {
         ensures first { IfSome result (λ first. IsLeast self.now first.0 (key first.1 first.2)) }
         ensures none { IfNone result ((slot : ℕ) → key_at self.now slot ≡ None) }
     {
-        let first = first_key(&self.heap, &self.place, self.held)?;
+        if self.count == 0 {
+            return None;
+        }
+        let first = self.heap[0];
         Some((first.slot, first.date, first.serial))
     }
 }

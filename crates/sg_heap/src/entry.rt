@@ -14,22 +14,14 @@ pub(crate) struct Entry {
     pub(crate) slot: usize,
 }
 
-/// Returns whether `a` comes before `b`.
-pub(crate) fn comes_before(a: Entry, b: Entry) -> bool
-    ensures before { result ≡ true → IsNoLater (key_of a) (key_of b) }
-    ensures behind { result ≡ false → IsNoLater (key_of b) (key_of a) }
-{
-    a.date < b.date || (a.date == b.date && a.serial.0 < b.serial.0)
-}
-
-/// Returns whether `a` comes before `b`, and counts the comparison. What changes a key compares in no other way.
+/// Returns whether `a` comes before `b`. It is the only comparison of keys, and it is counted.
 pub(crate) fn is_before<L: Ledger>(a: Entry, b: Entry, steps: &mut Steps<L>) -> bool
     ensures before { result ≡ true → IsNoLater (key_of a) (key_of b) }
     ensures behind { result ≡ false → IsNoLater (key_of b) (key_of a) }
     ensures counted { steps.new ≡ steps.old + 1 }
 {
     steps.tick();
-    comes_before(a, b)
+    a.date < b.date || (a.date == b.date && a.serial.0 < b.serial.0)
 }
 
 /// Writes an entry, and notes where it stands.

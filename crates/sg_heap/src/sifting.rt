@@ -70,7 +70,7 @@ pub(crate) fn sink<L: Ledger>(
     requires sinks { MaySink (slice_set heap.old from entry) count from }
     ensures sifted { IsSifted count (slice_set heap.old from entry)
         (slice_set place.old entry.slot from) heap.new place.new }
-    ensures most { steps.new + 2 * digits (from + 1) ≤ steps.old + 2 * digits count }
+    ensures most { steps.new ≤ steps.old + 2 * digits count }
 {
     let mut at = from;
     while 2 * at + 1 < count {

@@ -2,7 +2,6 @@
 use Rattle.std.specs.Prelude.{◌≡◌, ◌≢◌, ℕ, ◌+◌, ◌-◌, ◌*◌, ◌/◌, ◌<◌, ◌≤◌, nat_lt, if◌then◌else◌, Option, None, Some, List, length, map, slice_index, slice_index_or, slice_set}
 use Rattle.sg_base.specs.declared.ids.Serial.{Serial}
 use Rattle.sg_heap.specs.declared.entry.Entry.{Entry}
-use Rattle.sg_heap.specs.declared.keys.Held.{Held}
 use Rattle.sg_heap.specs.Agenda.{Key, IsNoLater, digits, key, key_count, with_slots}
 
 abbrev pub no_serial : Serial
@@ -80,11 +79,11 @@ pub record IsLooseInHand (heap : List Entry) (place : List ℕ) (count from : �
   pub hand : IsInHand heap place count from entry
   pub loose : MayMove (slice_set heap from entry) count from
 
--- It has its place, above that one, there or below, by two comparisons for each digit of what is one less than the count, and one, at most.
+-- It has its place, above that one, there or below, by two comparisons for each digit of the count and one at most.
 pub record Sifts (count from : ℕ) (entry : Entry) (heap : List Entry) (place : List ℕ)
     (heap' : List Entry) (place' : List ℕ) (before after : ℕ) : Type 0 where
   pub sifted : IsSifted count (slice_set heap from entry) (slice_set place entry.slot from) heap' place'
-  pub most : after ≤ before + (2 * digits (count - 1) + 1)
+  pub most : after ≤ before + (2 * digits count + 1)
 
 -- All slots have their places, those with a key come first, and these are a heap.
 pub record IsAgenda (heap : List Entry) (place : List ℕ) (count : ℕ) : Type 0 where
@@ -98,44 +97,16 @@ pub record HasKeyAt (heap : List Entry) (place : List ℕ) (count at : ℕ) : Ty
   pub agenda : IsAgenda heap place count
   pub below : at < count
 
--- the entry of this slot stands among the first count
-pub record HasEntry (place : List ℕ) (count slot : ℕ) : Type 0 where
-  pub known : slot < length place
-  pub below : slice_index place slot < count
-
--- an agenda, in which the entry of one slot may be left whose key was taken
-pub record IsHeld (heap : List Entry) (place : List ℕ) (held : Held) : Type 0 where
-  pub agenda : IsAgenda heap place held.count
-  pub gone : (slot : ℕ) → held.gone ≡ Some slot → HasEntry place held.count slot
-
-abbrev pub keys_but : Option ℕ → List (Option Key) → List (Option Key)
-keys_but None keys = keys
-keys_but (Some slot) keys = slice_set keys slot None
-
--- the key of each slot, without the one that was taken
-abbrev pub keys_left : List Entry → List ℕ → Held → List (Option Key)
-keys_left heap place held = keys_but held.gone (keys_of heap place held.count)
-
--- This entry is a child of the root, and comes no later than the other.
-pub record IsFirstBelow (heap : List Entry) (count : ℕ) (first : Entry) : Type 0 where
-  pub at : ℕ
-  pub is : first ≡ entry_at heap at
-  pub some : 0 < at
-  pub below : at < count
-  pub left : InOrder heap at 1
-  pub right : 2 < count → InOrder heap at 2
-
--- Whatever the count, an agenda is one still, and it has so many slots at least. No entry has moved.
+-- Whatever the count, an agenda is one still, and it has so many slots at least.
 pub record GrowsTo (slots : ℕ) (heap : List Entry) (place : List ℕ)
     (heap' : List Entry) (place' : List ℕ) : Type 0 where
   pub agenda : (count : ℕ) → IsAgenda heap place count → IsAgenda heap' place' count
   pub keys : (count : ℕ) → IsAgenda heap place count →
       keys_of heap' place' count ≡ with_slots slots (keys_of heap place count)
-  pub same : (slot : ℕ) → slot < length place → slice_index place' slot ≡ slice_index place slot
 
 -- An agenda of some of so many slots, with room for all of them.
-pub record HasSlots (heap : List Entry) (place : List ℕ) (held : Held) (slots heap_room place_room : ℕ) : Type 0 where
-  pub agenda : IsHeld heap place held
+pub record HasSlots (heap : List Entry) (place : List ℕ) (count slots heap_room place_room : ℕ) : Type 0 where
+  pub agenda : IsAgenda heap place count
   pub few : length place ≤ slots
   pub heap_fits : slots ≤ heap_room
   pub place_fits : slots ≤ place_room

@@ -51,7 +51,7 @@ pub returns-then-at-last-clause-agenda : goal.returns-then-at-last-clause-agenda
 returns-then-at-last-clause-agenda g c = left c.args.heap.now c.drop_in.new.heap c.args.place.now c.drop_in.new.place c.args.count c.args.at c.requires.key.agenda c.requires.key.below c.drop_in.ensures.sifted.placed c.drop_in.ensures.sifted.order (c.drop_in.auto.place ∙ c.put.auto.place) (returns-then-at-last-clause-keys g c)
 
 pub returns-then-at-last-clause-most : goal.returns-then-at-last-clause-most
-returns-then-at-last-clause-most g c = omega (arith, digits-le (c.args.count - 1 - 1) (c.args.count - 1) (omega arith))
+returns-then-at-last-clause-most g c = omega (arith, digits-le (c.args.count - 1) c.args.count (omega arith))
 
 pub returns-else-at-last-clause-keys : goal.returns-else-at-last-clause-keys
 returns-else-at-last-clause-keys g c =

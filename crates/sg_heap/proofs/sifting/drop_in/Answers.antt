@@ -1,5 +1,5 @@
-use Rattle.std.proofs.Common.{◌+◌, ◌-◌, ◌≤◌, length, ◌∙◌, arith}
-use Rattle.sg_heap.proofs.Digits.{digits-child, digits-last, digits-le}
+use Rattle.std.proofs.Common.{◌+◌, ◌≤◌, length, ◌∙◌, arith}
+use Rattle.sg_heap.proofs.Digits.{digits-child, digits-le}
 use Rattle.sg_heap.proofs.InHand.{loose_goes}
 use Rattle.sg_heap.proofs.Sifts.{loose_rises}
 use Rattle.sg_heap.proofs.sifting.drop_in.Goals as goal
@@ -39,5 +39,5 @@ returns g c =
     let out = c.rise.ensures.sifted in
     record {
       sifted = record { order = out.order; placed = out.placed; keys = out.keys ∙ c.loop-at.invariant.keys };
-      most = omega (arith, digits-le (c.loop-at.at + 1) c.args.count (omega arith), digits-le c.loop-at.at (c.args.count - 1) (omega arith), digits-last c.args.count (omega arith));
+      most = omega (arith, digits-le (c.loop-at.at + 1) c.args.count (omega arith), digits-le c.loop-at.at c.args.count (omega arith));
     }
