@@ -20,21 +20,13 @@ fn is_ready_in(actors: &[Actor], actor: ActorId) -> bool
     }
 }
 
-/// Removes those that aren't ready. In most scheduling rounds there is one or none.
+/// Removes those that aren't ready.
 pub(crate) fn keep_ready(queue: &mut Vec<ActorId>, actors: &[Actor])
     ensures items { queue.new.items
         ≡ filter (λ (actor : ActorId). is_ready_in_spec actors.now actor.0) queue.old.items }
     ensures capacity { vec_capacity queue.new ≡ vec_capacity queue.old }
 {
-    match queue.as_slice() {
-        [] => {}
-        [actor] => {
-            if !is_ready_in(actors, *actor) {
-                queue.clear();
-            }
-        }
-        _ => queue.retain(|actor| is_ready_in(actors, *actor)),
-    }
+    queue.retain(|actor| is_ready_in(actors, *actor));
 }
 
 /// Brings them into rising order.
