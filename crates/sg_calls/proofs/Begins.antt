@@ -11,9 +11,9 @@ use Rattle.sg_activity.specs.Links.{Capacities}
 use Rattle.sg_activity.specs.Task.{Task}
 use Rattle.sg_mailbox.specs.Posts.{Posts}
 use Rattle.sg_calls.specs.declared.simulation_state.Fields.{Fields}
-use Rattle.sg_owners.specs.declared.owners.Whose.TheVariants.{Alone}
+use Rattle.sg_mailbox.specs.declared.owners.Whose.TheVariants.{Alone}
 use Rattle.sg_calls.specs.World.{extent}
-use Rattle.sg_owners.specs.Owners.{Owned}
+use Rattle.sg_mailbox.specs.Owners.{Owned}
 use Rattle.sg_calls.specs.kept.Sound.{setup_in, AreHeld, IsOwner, IsSound}
 use Rattle.sg_calls.specs.kept.Whole.{IsWholeFor}
 use Rattle.sg_calls.proofs.PostsKept.{meeting_more}

@@ -3,9 +3,9 @@ use Rattle.std.proofs.Common.{◌≡◌, ℕ, Bool, true, false, cond, Option, N
 use Rattle.sg_mailbox.specs.declared.sides.Side.{Side}
 use Rattle.sg_base.specs.declared.awaits.Party.{Party}
 use Rattle.sg_base.specs.declared.awaits.Party.TheVariants as party
-use Rattle.sg_owners.specs.declared.owners.How.{How}
-use Rattle.sg_owners.specs.declared.owners.Whose.{Whose}
-use Rattle.sg_owners.specs.declared.owners.Whose.TheVariants.{Over, Alone, Posted, Pair}
+use Rattle.sg_mailbox.specs.declared.owners.How.{How}
+use Rattle.sg_mailbox.specs.declared.owners.Whose.{Whose}
+use Rattle.sg_mailbox.specs.declared.owners.Whose.TheVariants.{Over, Alone, Posted, Pair}
 use Rattle.sg_calls.specs.World.{Core, state_of, whose_at}
 use Rattle.sg_states.specs.declared.state.Blocking.{Blocking}
 use Rattle.sg_states.specs.Actors.{blocking_in}

@@ -31,9 +31,9 @@ use Rattle.sg_sync.specs.Queues.{without}
 use Rattle.sg_sync.proofs.Counts.{id_same}
 use Rattle.sg_sync.proofs.Leaving.{times_stays, waits_nowhere, waits_stays}
 use Rattle.sg_calls.specs.declared.simulation_state.Fields.{Fields}
-use Rattle.sg_owners.specs.declared.owners.How.TheVariants as how
-use Rattle.sg_owners.specs.declared.owners.Whose.{Whose}
-use Rattle.sg_owners.specs.declared.owners.Whose.TheVariants.{Over, Alone, Posted, Pair}
+use Rattle.sg_mailbox.specs.declared.owners.How.TheVariants as how
+use Rattle.sg_mailbox.specs.declared.owners.Whose.{Whose}
+use Rattle.sg_mailbox.specs.declared.owners.Whose.TheVariants.{Over, Alone, Posted, Pair}
 use Rattle.sg_calls.specs.Answers.{answers, finishes, with_over}
 use Rattle.sg_calls.specs.Kills.{awaited, blocked_on, gives_up, kill_done, withdrawn}
 use Rattle.sg_calls.specs.Known.{Known, after, after_call}
@@ -41,7 +41,7 @@ use Rattle.sg_calls.specs.Meetings.{post_in, posts_from}
 use Rattle.sg_calls.specs.Steps.{Step, goes_on, follows, and_then, each, all_of, at_once}
 use Rattle.sg_calls.specs.World.{Core, IsActor, extent, state_of, whose_at}
 use Rattle.sg_calls.specs.kept.Killing.{killed_by, AreSerials}
-use Rattle.sg_owners.specs.Owners.{Owned}
+use Rattle.sg_mailbox.specs.Owners.{Owned}
 use Rattle.sg_calls.specs.kept.Sound.{core_of, is_idle, is_posted, is_queued, known_of, setup_in, AwaitsMade, IsMade, IsOwner, IsSound}
 use Rattle.sg_calls.specs.kept.Whole.{CanStep, IsWhole, IsWholeFor}
 use Rattle.sg_calls.proofs.Alone.{gives_up_goes, kill_done_goes}

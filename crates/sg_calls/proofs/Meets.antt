@@ -14,10 +14,10 @@ use Rattle.sg_mailbox.specs.declared.sides.Post.{Post}
 use Rattle.sg_mailbox.specs.Posts.{Posts, box_eq, is_other, without, waiters, partner, posts_after, posts_by_partner}
 use Rattle.sg_base.specs.declared.awaits.Await.{Await}
 use Rattle.sg_requests.specs.Requested.{queue_at, oldest, rest_of, queues_with_request, queues_without_oldest}
-use Rattle.sg_owners.specs.declared.owners.How.{How}
-use Rattle.sg_owners.specs.declared.owners.How.TheVariants as how
-use Rattle.sg_owners.specs.declared.owners.Whose.{Whose}
-use Rattle.sg_owners.specs.declared.owners.Whose.TheVariants.{Over, Posted}
+use Rattle.sg_mailbox.specs.declared.owners.How.{How}
+use Rattle.sg_mailbox.specs.declared.owners.How.TheVariants as how
+use Rattle.sg_mailbox.specs.declared.owners.Whose.{Whose}
+use Rattle.sg_mailbox.specs.declared.owners.Whose.TheVariants.{Over, Posted}
 use Rattle.sg_calls.specs.Meetings.{post_in, posts_from}
 use Rattle.sg_calls.specs.kept.Sound.{is_idle, is_posted, IsMade}
 use Rattle.sg_calls.proofs.Postings.{FoundAt, box_found_same, posts-push, posts-set, posted_elsewhere, posted_here, found_post, not_posted}

@@ -16,8 +16,8 @@ use Rattle.sg_route.specs.Route.{Route, route_of}
 use Rattle.sg_route.specs.Route.{LeavesRoute}
 use Rattle.sg_calls.specs.declared.meetings.Comer.{Comer}
 use Rattle.sg_calls.specs.declared.simulation_state.Fields.{Fields}
-use Rattle.sg_owners.specs.declared.owners.How.TheVariants as how
-use Rattle.sg_owners.specs.declared.owners.Whose.TheVariants.{Over, Posted}
+use Rattle.sg_mailbox.specs.declared.owners.How.TheVariants as how
+use Rattle.sg_mailbox.specs.declared.owners.Whose.TheVariants.{Over, Posted}
 use Rattle.sg_calls.specs.Meetings.{posts_from, sender_of, receiver_of, point_of, joins_over, comes, comes_by, takes_part}
 use Rattle.sg_calls.specs.World.{Core, extent}
 use Rattle.sg_calls.specs.kept.Sound.{core_of, setup_in, is_idle, IsSide, IsOwner, IsSound, AreLimited, AreMeeting}

@@ -9,9 +9,9 @@ use Rattle.sg_mailbox.specs.declared.sides.Side.{Side}
 use Rattle.sg_mailbox.specs.declared.sides.Post.{Post}
 use Rattle.sg_mailbox.specs.Posts.{box_eq, without}
 use Rattle.sg_mailbox.proofs.Lists.{box_found, box_same}
-use Rattle.sg_owners.specs.declared.owners.How.TheVariants as how
-use Rattle.sg_owners.specs.declared.owners.Whose.{Whose}
-use Rattle.sg_owners.specs.declared.owners.Whose.TheVariants.{Over, Alone, Posted, Pair}
+use Rattle.sg_mailbox.specs.declared.owners.How.TheVariants as how
+use Rattle.sg_mailbox.specs.declared.owners.Whose.{Whose}
+use Rattle.sg_mailbox.specs.declared.owners.Whose.TheVariants.{Over, Alone, Posted, Pair}
 use Rattle.sg_calls.specs.Meetings.{post_in, posts_from}
 use Rattle.sg_calls.specs.kept.Sound.{is_posted}
 

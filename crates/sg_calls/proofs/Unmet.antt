@@ -13,15 +13,15 @@ use Rattle.sg_mailbox.specs.Posts.{Posts, posts_after, waiters}
 use Rattle.sg_route.specs.Route.{Route}
 use Rattle.sg_calls.specs.declared.simulation_state.Fields.{Fields}
 use Rattle.sg_calls.specs.declared.meetings.Comer.{Comer}
-use Rattle.sg_owners.specs.declared.owners.How.TheVariants as how
-use Rattle.sg_owners.specs.declared.owners.Whose.TheVariants.{Over}
+use Rattle.sg_mailbox.specs.declared.owners.How.TheVariants as how
+use Rattle.sg_mailbox.specs.declared.owners.Whose.TheVariants.{Over}
 use Rattle.sg_calls.specs.Answers.{answers_side, for_receiver, with_over}
 use Rattle.sg_calls.specs.Known.{Known, after, after_call}
 use Rattle.sg_calls.specs.Meetings.{both_fail, comer_fails, fails_with, joined, joins_on, joins_with, other_fails, receiver_of, sender_of, takes_part_failed, way_with}
 use Rattle.sg_calls.specs.Steps.{Step, and_then, counted}
 use Rattle.sg_setup.specs.Setup.{Setup}
 use Rattle.sg_calls.specs.World.{Core, extent}
-use Rattle.sg_owners.specs.Owners.{Owned}
+use Rattle.sg_mailbox.specs.Owners.{Owned}
 use Rattle.sg_calls.specs.kept.Sound.{core_of, setup_in, IsOwner}
 use Rattle.sg_calls.specs.kept.Whole.{IsWhole, IsWholeFor}
 use Rattle.sg_calls.proofs.Begins.{held_with, sound_with}

@@ -9,9 +9,9 @@ use Rattle.sg_states.specs.declared.state.Blocking.{Blocking}
 use Rattle.sg_states.specs.declared.state.State.TheVariants.{Ended}
 use Rattle.sg_states.specs.Actors.{blocking_in, is_alive, put_state}
 use Rattle.sg_sync.specs.Objects as sync
-use Rattle.sg_owners.specs.declared.owners.How.TheVariants as how
-use Rattle.sg_owners.specs.declared.owners.Whose.{Whose}
-use Rattle.sg_owners.specs.declared.owners.Whose.TheVariants.{Over, Alone, Posted, Pair}
+use Rattle.sg_mailbox.specs.declared.owners.How.TheVariants as how
+use Rattle.sg_mailbox.specs.declared.owners.Whose.{Whose}
+use Rattle.sg_mailbox.specs.declared.owners.Whose.TheVariants.{Over, Alone, Posted, Pair}
 use Rattle.sg_calls.specs.World.{Core, state_of, whose_at}
 use Rattle.sg_calls.specs.Steps.{Step, goes_on, each, all_of, at_once}
 use Rattle.sg_calls.specs.Answers.{finishes}

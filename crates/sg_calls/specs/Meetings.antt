@@ -23,11 +23,11 @@ use Rattle.sg_route.specs.declared.router.RouteFault.TheVariants as fault
 use Rattle.sg_route.specs.Roads.{Roads}
 use Rattle.sg_route.specs.Route.{Route, route_of}
 use Rattle.sg_calls.specs.declared.meetings.Comer.{Comer}
-use Rattle.sg_owners.specs.declared.owners.How.TheVariants as how
+use Rattle.sg_mailbox.specs.declared.owners.How.TheVariants as how
 use Rattle.sg_calls.specs.declared.stop.Stop.{Stop}
 use Rattle.sg_calls.specs.declared.stop.Stop.TheVariants as stop
-use Rattle.sg_owners.specs.declared.owners.Whose.{Whose}
-use Rattle.sg_owners.specs.declared.owners.Whose.TheVariants.{Over, Alone, Posted, Pair}
+use Rattle.sg_mailbox.specs.declared.owners.Whose.{Whose}
+use Rattle.sg_mailbox.specs.declared.owners.Whose.TheVariants.{Over, Alone, Posted, Pair}
 use Rattle.sg_calls.specs.Answers.{answers_side, bare_side, for_receiver, side_of, with_over}
 use Rattle.sg_calls.specs.Network.{route_latency, own_bound}
 use Rattle.sg_setup.specs.Setup.{Setup}

@@ -9,9 +9,9 @@ use Rattle.sg_states.specs.declared.state.State.{State}
 use Rattle.sg_states.specs.Actors.{actor_at, put_state, put_suspended, state_at}
 use Rattle.sg_states.specs.Actors as among
 use Rattle.sg_sync.specs.Objects.{Objects}
-use Rattle.sg_owners.specs.declared.owners.How.TheVariants as how
-use Rattle.sg_owners.specs.declared.owners.Whose.{Whose}
-use Rattle.sg_owners.specs.declared.owners.Whose.TheVariants.{Over}
+use Rattle.sg_mailbox.specs.declared.owners.How.TheVariants as how
+use Rattle.sg_mailbox.specs.declared.owners.Whose.{Whose}
+use Rattle.sg_mailbox.specs.declared.owners.Whose.TheVariants.{Over}
 use Rattle.sg_setup.specs.Setup.{Setup}
 
 -- what calls may name

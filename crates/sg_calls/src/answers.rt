@@ -9,8 +9,7 @@ ghost use Rattle.sg_calls.specs.kept.Whole.{KeepsWhole};
 use crate::meetings::bare_side;
 use crate::simulation_state::Fields;
 use sg_base::{Answer, Call, Msg, Party, Serial};
-use sg_mailbox::Side;
-use sg_owners::{How, Whose};
+use sg_mailbox::{How, Side, Whose};
 use sg_states::{Blocking, State};
 
 fn tells_bytes(what: Call) -> bool

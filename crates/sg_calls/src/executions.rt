@@ -11,7 +11,7 @@ use crate::at_once::answer_now;
 use crate::holding::hold_if;
 use crate::simulation_state::Fields;
 use sg_base::{ActorId, Answer, Await, Call, Party, PointId, Serial};
-use sg_owners::Whose;
+use sg_mailbox::Whose;
 
 fn alone(serial: Serial) -> Await
     ensures { result ≡ await_alone serial.0 }

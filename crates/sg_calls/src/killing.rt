@@ -2,7 +2,7 @@
 
 ghost use Rattle.std.specs.Prelude.{◌≡◌, ◌<◌, ◌^◌, IsTrue, false, length};
 ghost use Rattle.sg_base.specs.declared.call.Call.TheVariants as call;
-ghost use Rattle.sg_owners.specs.declared.owners.How.TheVariants as how;
+ghost use Rattle.sg_mailbox.specs.declared.owners.How.TheVariants as how;
 ghost use Rattle.sg_states.specs.Actors.{blocking_in, is_alive};
 ghost use Rattle.sg_states.specs.Records.{IsTellable};
 ghost use Rattle.sg_states.specs.States.{CanCall, IsAlive};
@@ -20,7 +20,7 @@ use crate::at_once::answer_now;
 use crate::joining::wake_joiners;
 use crate::simulation_state::Fields;
 use sg_base::{ActorId, Answer, Await, Call, Serial};
-use sg_owners::{How, Whose};
+use sg_mailbox::{How, Whose};
 use sg_states::{State, States};
 
 // Returns the activity on which an actor is blocked that does this.

@@ -21,8 +21,7 @@ use crate::simulation_state::Fields;
 use crate::stop::Stop;
 use arrayvec::ArrayVec;
 use sg_base::{ActorId, Answer, Await, BoxId, Call, LinkId, Msg, Party, PointId, Serial};
-use sg_mailbox::{Found, Side};
-use sg_owners::{How, Whose};
+use sg_mailbox::{Found, How, Side, Whose};
 use sg_route::{RouteFault, Router};
 
 /// An endpoint that arrives at a mailbox.

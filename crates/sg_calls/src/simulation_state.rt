@@ -1,8 +1,7 @@
 //! What is kept of a simulation.
 use sg_activity::Activities;
 use sg_base::PointId;
-use sg_mailbox::Boxes;
-use sg_owners::Owners;
+use sg_mailbox::{Boxes, Owners};
 use sg_profile::Profiles;
 use sg_requests::Requests;
 use sg_rows::Network;

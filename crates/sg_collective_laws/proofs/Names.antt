@@ -20,7 +20,7 @@ use Rattle.sg_rows.specs.declared.rows.Function.TheVariants.{Replay, Worker, Mas
 use Rattle.sg_rows.proofs.MemberIds.{members_exist}
 use Rattle.sg_script.specs.Known.{known_in}
 use Rattle.sg_tree.specs.Along.{along}
-use Rattle.sg_tree.specs.Names.{with_number}
+use Rattle.sg_tree.specs.NameSpaces.{with_number}
 use Rattle.sg_tree.specs.Spelling.{is_name, is_name_byte}
 use Rattle.sg_collective_laws.specs.Expanded.{HasNames, name_of, row_name}
 use Rattle.sg_collective_laws.proofs.Kept.{IsKnown}

@@ -22,7 +22,7 @@ use Rattle.sg_rows.specs.declared.rows.Function.TheVariants.{Replay, Worker, Mas
 use Rattle.sg_rules.proofs.Kept.{KeysKept, not_false, required_text, unbroken}
 use Rattle.sg_rules.proofs.FaultParts.{key_faults, row_faults_at}
 use Rattle.sg_rules.specs.Faults.{faults_of, row_faults, rows_before, table_faults}
-use Rattle.sg_names.specs.Names.{Known, known_by}
+use Rattle.sg_tree.specs.Names.{Known, known_by}
 use Rattle.sg_rules.specs.Rules.{id_kinds, is_taken, key_kinds}
 use Rattle.sg_tables.specs.Tables.{deployment_tables, keys_of}
 use Rattle.sg_tables.specs.declared.tables.Key.{Key}
@@ -31,7 +31,7 @@ use Rattle.sg_tables.specs.declared.tables.Table.TheVariants.{Actor}
 use Rattle.sg_tables.specs.declared.tables.Word.TheVariants as word
 use Rattle.sg_tree.proofs.Kept.{empty_at, empty_left, empty_right, none_empty}
 use Rattle.sg_tree.specs.Along.{along, first}
-use Rattle.sg_tree.specs.Names.{numbered, texts_at, with_number}
+use Rattle.sg_tree.specs.NameSpaces.{numbered, texts_at, with_number}
 use Rattle.sg_tree.specs.Spelling.{is_name}
 use Rattle.sg_tree.specs.Tree.{rows_at, text_at, tree_of}
 use Rattle.sg_tree.specs.declared.fault.Fault.{Fault}

@@ -26,8 +26,8 @@ use Rattle.sg_states.specs.declared.state.State.{State}
 use Rattle.sg_states.specs.declared.state.State.TheVariants.{Ready, Ended}
 use Rattle.sg_calls.specs.declared.stop.Stop.{Stop}
 use Rattle.sg_calls.specs.Known.{Known, after, after_call}
-use Rattle.sg_owners.specs.declared.owners.How.{How}
-use Rattle.sg_owners.specs.declared.owners.How.TheVariants as how
+use Rattle.sg_mailbox.specs.declared.owners.How.{How}
+use Rattle.sg_mailbox.specs.declared.owners.How.TheVariants as how
 use Rattle.sg_calls.specs.Answers.{answers, answers_by, answers_side, bare_side, finishes, for_receiver, awaits_side, with_over}
 use Rattle.sg_setup.specs.Setup.{Setup}
 use Rattle.sg_calls.specs.World.{Core, IsActor, extent, host_of, is_suspended, state_of, whose_at, with_suspended}
@@ -39,8 +39,8 @@ use Rattle.sg_calls.specs.Kills.{awaited, gives_up, gives_up_by, kill_done, kill
 use Rattle.sg_calls.specs.Lives.{begins, created, joins_by, with_actor_ended}
 use Rattle.sg_kernel.specs.Passes.{all_fail, changes, core_later, ends, ends_by, ends_in, ends_one, enters_one, entry_stretches, fails, fails_one, next_span, pass_at, pass_of, settled, stretches}
 use Rattle.sg_calls.specs.Suspensions.{held_by, held_if, held_on, suspended_to}
-use Rattle.sg_owners.specs.declared.owners.Whose.{Whose}
-use Rattle.sg_owners.specs.declared.owners.Whose.TheVariants.{Over, Alone, Posted, Pair}
+use Rattle.sg_mailbox.specs.declared.owners.Whose.{Whose}
+use Rattle.sg_mailbox.specs.declared.owners.Whose.TheVariants.{Over, Alone, Posted, Pair}
 use Rattle.sg_calls.specs.Meetings.{takes_part, takes_part_failed, comer_fails, other_fails, both_fail, fails_with, joins_with, joins_over, way_with, comes_by, waits_until, waits_by}
 use Rattle.sg_mailbox.specs.declared.sides.Post.{Post}
 use Rattle.sg_mailbox.specs.declared.sides.Side.{Side}

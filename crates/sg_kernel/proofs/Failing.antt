@@ -6,11 +6,11 @@ use Rattle.std.proofs.lemmas.List.Elements.{All-set}
 use Rattle.sg_activity.specs.Doing.{Doing, IsHit, gave_up}
 use Rattle.sg_activity.specs.Task.{Task, task_at}
 use Rattle.sg_calls.specs.declared.simulation_state.Fields.{Fields}
-use Rattle.sg_owners.specs.declared.owners.How.TheVariants as how
-use Rattle.sg_owners.specs.declared.owners.Whose.{Whose}
-use Rattle.sg_owners.specs.declared.owners.Whose.TheVariants.{Over}
+use Rattle.sg_mailbox.specs.declared.owners.How.TheVariants as how
+use Rattle.sg_mailbox.specs.declared.owners.Whose.{Whose}
+use Rattle.sg_mailbox.specs.declared.owners.Whose.TheVariants.{Over}
 use Rattle.sg_calls.specs.World.{extent}
-use Rattle.sg_owners.specs.Owners.{Owned}
+use Rattle.sg_mailbox.specs.Owners.{Owned}
 use Rattle.sg_calls.specs.kept.Sound.{setup_in, is_idle, AreMeeting, IsOwner}
 use Rattle.sg_calls.specs.kept.Whole.{IsPassing}
 use Rattle.sg_calls.proofs.Begins.{held_with, sound_with, sound_counted, held_counted}

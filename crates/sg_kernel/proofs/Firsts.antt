@@ -34,14 +34,14 @@ use Rattle.sg_sync.proofs.Counts.{nobody_waits}
 use Rattle.sg_calls.specs.declared.simulation_state.Fields.{Fields}
 use Rattle.sg_states.specs.declared.state.State.TheVariants.{Ended}
 use Rattle.sg_states.specs.Actors.{blocking_in, first_actor, not_suspended}
-use Rattle.sg_owners.specs.declared.owners.How.TheVariants as how
-use Rattle.sg_owners.specs.declared.owners.Whose.{Whose}
-use Rattle.sg_owners.specs.declared.owners.Whose.TheVariants.{Over}
+use Rattle.sg_mailbox.specs.declared.owners.How.TheVariants as how
+use Rattle.sg_mailbox.specs.declared.owners.Whose.{Whose}
+use Rattle.sg_mailbox.specs.declared.owners.Whose.TheVariants.{Over}
 use Rattle.sg_calls.specs.Known.{Known}
 use Rattle.sg_kernel.specs.Start.{first_known, capacities_in, first_objects}
 use Rattle.sg_calls.specs.Meetings.{posts_from}
 use Rattle.sg_kernel.specs.kept.First.{first_states, objects_of}
-use Rattle.sg_owners.specs.Owners.{Owned}
+use Rattle.sg_mailbox.specs.Owners.{Owned}
 use Rattle.sg_setup.specs.Setup.{host_cap, power_of_row, link_cap, caps_in, caps_of, link_caps, home_of, capacity_of, replays, setup_of}
 use Rattle.sg_calls.specs.World.{extent}
 use Rattle.sg_calls.specs.kept.Sound.{point_number, IsSound, HasRoom, known_of, setup_in, is_idle, AwaitsMade, IsMade, IsOwner, IsTimely, IsTimetable, AreMeeting, AreHeld, AreLimited}

@@ -32,11 +32,11 @@ use Rattle.sg_sync.specs.declared.outcome.Outcome.{Outcome}
 use Rattle.sg_sync.specs.declared.outcome.Outcome.TheVariants.{GoesOn, Waits, Refused}
 use Rattle.sg_sync.specs.Objects.{Done, locked, unlocked, acquired, released, arrived}
 use Rattle.sg_calls.specs.declared.meetings.Comer.{Comer}
-use Rattle.sg_owners.specs.declared.owners.How.TheVariants as how
+use Rattle.sg_mailbox.specs.declared.owners.How.TheVariants as how
 use Rattle.sg_calls.specs.declared.stop.Stop.{Stop}
 use Rattle.sg_calls.specs.declared.stop.Stop.TheVariants.{Budget}
-use Rattle.sg_owners.specs.declared.owners.Whose.{Whose}
-use Rattle.sg_owners.specs.declared.owners.Whose.TheVariants.{Over, Alone, Posted, Pair}
+use Rattle.sg_mailbox.specs.declared.owners.Whose.{Whose}
+use Rattle.sg_mailbox.specs.declared.owners.Whose.TheVariants.{Over, Alone, Posted, Pair}
 use Rattle.sg_calls.specs.Answers.{answers_side, finishes, for_receiver, side_of, with_over}
 use Rattle.sg_calls.specs.Calls.{answer_of_ask, answered, answered_call, computes, executes, told, with_execution}
 use Rattle.sg_calls.specs.Lives.{created, exits, joins_by, joins_one, with_actor_ended}

@@ -13,12 +13,12 @@ use Rattle.sg_states.specs.declared.state.Actor.{Actor}
 use Rattle.sg_states.specs.Actors.{state_at}
 use Rattle.sg_states.specs.States.{ActorStates}
 use Rattle.sg_calls.specs.declared.simulation_state.Fields.{Fields}
-use Rattle.sg_owners.specs.declared.owners.How.TheVariants as how
-use Rattle.sg_owners.specs.declared.owners.Whose.{Whose}
-use Rattle.sg_owners.specs.declared.owners.Whose.TheVariants.{Over}
+use Rattle.sg_mailbox.specs.declared.owners.How.TheVariants as how
+use Rattle.sg_mailbox.specs.declared.owners.Whose.{Whose}
+use Rattle.sg_mailbox.specs.declared.owners.Whose.TheVariants.{Over}
 use Rattle.sg_calls.specs.World.{extent}
 use Rattle.sg_calls.specs.Meetings.{posts_from}
-use Rattle.sg_owners.specs.Owners.{Owned}
+use Rattle.sg_mailbox.specs.Owners.{Owned}
 use Rattle.sg_calls.specs.kept.Sound.{setup_in, is_idle, is_queued, IsMade, IsOwner}
 use Rattle.sg_calls.specs.kept.Whole.{IsWhole}
 use Rattle.sg_calls.proofs.Stated.{AreAwaiting}

@@ -11,7 +11,7 @@ use Rattle.sg_profile.specs.declared.entry.Entry.TheVariants as entry
 use Rattle.sg_profile.specs.Profiles.{entry_at, next_date, rows_due, turns_after_row}
 use Rattle.sg_rows.specs.declared.network.Network.{Network}
 use Rattle.sg_rows.specs.Network.{bandwidth_over}
-use Rattle.sg_owners.specs.declared.owners.How.TheVariants as how
+use Rattle.sg_mailbox.specs.declared.owners.How.TheVariants as how
 use Rattle.sg_calls.specs.declared.stop.Stop.TheVariants.{Deadlock, Starved}
 use Rattle.sg_setup.specs.Setup.{Setup}
 use Rattle.sg_calls.specs.World.{Core}

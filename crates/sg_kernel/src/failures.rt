@@ -10,7 +10,7 @@ ghost use Rattle.sg_calls.specs.kept.Whole.{IsPassing};
 
 use sg_base::Serial;
 use sg_calls::{Fields, Stop, answer_owners};
-use sg_owners::How;
+use sg_mailbox::How;
 
 // Fails the first activity of those that use something that is off, and answers its waiters.
 fn fail(fields: &mut Fields, serial: Serial)

@@ -14,7 +14,7 @@ ghost use Rattle.sg_calls.specs.kept.Whole.{IsPassing, IsWhole};
 use crate::entries::change_due;
 use sg_activity::{Activities, Phase, PhaseKind};
 use sg_calls::{Fields, Stop, answer_owners};
-use sg_owners::How;
+use sg_mailbox::How;
 
 // Returns why there is no next date.
 fn none_next(doing: &Activities) -> Stop

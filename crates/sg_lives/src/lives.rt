@@ -11,7 +11,7 @@ ghost use Rattle.sg_lives.specs.Kinds.{flows_ahead as flows_ahead_spec};
 use crate::cells::{Cell, cell_of, live_of};
 use crate::kinds::PhaseKind;
 use sg_base::{Memory, Serial};
-use sg_serials::BySerial;
+use sg_queues::BySerial;
 use slab::Slab;
 use std::alloc::Global;
 use std::marker::Model;
@@ -143,7 +143,7 @@ impl Model for Lives {
 
     ghost Value = { Pool };
 
-    ghost use Rattle.sg_serials.specs.Serials as serials;
+    ghost use Rattle.sg_queues.specs.Serials as serials;
     ghost use Rattle.sg_lives.specs.Cells.{lives_in};
     ghost use Rattle.sg_lives.specs.Pool.{IsLives};
 

@@ -2,3 +2,4 @@ pub mod Lists
 pub mod Numbers
 pub mod Places
 pub mod Steps
+pub mod Tables

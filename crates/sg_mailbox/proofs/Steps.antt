@@ -9,7 +9,7 @@ use Rattle.std.proofs.lemmas.List.{get_or-map, get_or-set_same, get_or-set_other
 use Rattle.std.proofs.lemmas.List.Elements.{All-nil, All-map}
 use Rattle.sg_base.specs.declared.ids.BoxId.{BoxId}
 use Rattle.sg_base.specs.declared.ids.Serial.{Serial}
-use Rattle.sg_serials.specs.Serials as serials
+use Rattle.sg_queues.specs.Serials as serials
 use Rattle.sg_mailbox.specs.declared.sides.Side.{Side}
 use Rattle.sg_queues.specs.Rings.{queue_at, front, behind}
 use Rattle.sg_queues.specs.Queues.{value, values_of, queued, let_go, without_slot}

@@ -2,7 +2,7 @@
 ghost use Rattle.std.specs.Prelude.{◌≡◌, ◌+◌, ◌-◌, ◌<◌, ◌≤◌, [], ◌∷◌, ◌++◌, None, Some, IfOk, IsTrue, OnOk, All, length, min, vec_len, vec_capacity};
 ghost use Rattle.std.specs.HashMap.{get, hash_map_len, spare};
 ghost use Rattle.sg_base.specs.declared.ids.BoxId.{BoxId};
-ghost use Rattle.sg_serials.specs.Serials as serials;
+ghost use Rattle.sg_queues.specs.Serials as serials;
 ghost use Rattle.sg_mailbox.specs.declared.sides.Post.{Post as PostSpec};
 ghost use Rattle.sg_mailbox.specs.Posts.{box_eq, partner, posts_after, meeting, waiters, posts_without, AllStay, AreBelow, AreRising, IsFound, OthersStay};
 ghost use Rattle.sg_mailbox.specs.kept.Queues.{number, posts_of, IsKept, IsKeptBut};
@@ -10,8 +10,7 @@ ghost use Rattle.sg_mailbox.specs.kept.Acts.{CanGrow, CanTake, Keeps, Opens, Sta
 
 use crate::sides::{Found, Meeting, Place, Post, Side};
 use sg_base::{ActorId, BoxId, Memory, Msg, Serial};
-use sg_queues::Queues;
-use sg_serials::BySerial;
+use sg_queues::{BySerial, Queues};
 use std::alloc::Global;
 use std::collections::HashMap;
 

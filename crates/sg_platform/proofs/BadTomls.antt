@@ -8,7 +8,7 @@ use Rattle.sg_platform.specs.Laws.{BadTomlExactly}
 use Rattle.sg_rows.specs.Platform.{Platform}
 use Rattle.sg_platform.specs.PlatformOf.{greatest_text, platform_of, platform_rows, rows_unless, text_by, tree_platform}
 use Rattle.sg_rules.specs.Faults.{faults_of}
-use Rattle.sg_names.specs.Names.{platform_known}
+use Rattle.sg_tree.specs.Names.{platform_known}
 use Rattle.sg_tables.specs.Tables.{deployment_tables, platform_tables}
 use Rattle.sg_tree.specs.Along.{first}
 use Rattle.sg_tree.specs.Tree.{tree_of}

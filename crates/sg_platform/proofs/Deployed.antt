@@ -11,12 +11,12 @@ use Rattle.sg_platform.specs.DeploymentOf.{deployment_rows}
 use Rattle.sg_rows.specs.Platform.{Platform}
 use Rattle.sg_rules.proofs.Kept.{rows_few, rows_kept}
 use Rattle.sg_rules.specs.Faults.{faults_of, table_faults}
-use Rattle.sg_names.specs.Names.{Known, known_by}
+use Rattle.sg_tree.specs.Names.{Known, known_by}
 use Rattle.sg_tables.specs.Tables.{deployment_tables}
 use Rattle.sg_tables.specs.declared.tables.Table.TheVariants.{Actor, Mutex, Semaphore}
 use Rattle.sg_tree.proofs.Kept.{empty_left, empty_right, none_empty}
 use Rattle.sg_tree.specs.Along.{first}
-use Rattle.sg_tree.specs.Names.{Finds}
+use Rattle.sg_tree.specs.NameSpaces.{Finds}
 use Rattle.sg_tree.specs.Tree.{rows_at}
 use Rattle.toml.specs.Data.{Members}
 

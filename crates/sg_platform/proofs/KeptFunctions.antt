@@ -14,9 +14,9 @@ use Rattle.sg_tables.proofs.Greatest.{quantity_within}
 use Rattle.sg_rules.specs.Profiles.{items_at}
 use Rattle.sg_rules.proofs.Kept.{KeysKept}
 use Rattle.sg_rules.proofs.KeptArguments.{HasWorkers, IsNumbered, arguments_fit, master_fits, tasks_within, workers_fit, workers_numbered}
-use Rattle.sg_names.specs.Workers.{has_function, worker_names}
+use Rattle.sg_tree.specs.Workers.{has_function, worker_names}
 use Rattle.sg_rules.specs.Arguments.{are_for_master, are_workers, text_of}
-use Rattle.sg_names.specs.Names.{Known}
+use Rattle.sg_tree.specs.Names.{Known}
 use Rattle.sg_rules.specs.Rules.{key_kinds}
 use Rattle.sg_tables.specs.Tables.{key, keys_of}
 use Rattle.sg_tables.specs.Units.{quantity_value}
@@ -26,7 +26,7 @@ use Rattle.sg_tables.specs.declared.tables.Rule.TheVariants.{Texts}
 use Rattle.sg_tables.specs.declared.tables.TextsRule.TheVariants.{ArgumentList}
 use Rattle.sg_tables.specs.declared.tables.Word.TheVariants.{Argument}
 use Rattle.sg_tables.specs.declared.tables.Table.TheVariants.{Actor}
-use Rattle.sg_tree.specs.Names.{Finds, found_in, numbered}
+use Rattle.sg_tree.specs.NameSpaces.{Finds, found_in, numbered}
 use Rattle.toml.specs.Data.{Data}
 
 -- workers are found by their identifiers

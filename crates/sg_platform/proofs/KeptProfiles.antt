@@ -17,7 +17,7 @@ use Rattle.sg_rows.specs.declared.rows.Profiled.{Profiled}
 use Rattle.sg_rows.specs.declared.rows.Profiled.TheVariants.{Host as OfHost, Link as OfLink}
 use Rattle.sg_tables.proofs.Greatest.{greatest, quantity_within}
 use Rattle.sg_rules.proofs.Kept.{KeysKept, host_there, not_false, optional_text, positive_there, required_at, required_items, some_there, unbroken}
-use Rattle.sg_names.specs.Names.{Known}
+use Rattle.sg_tree.specs.Names.{Known}
 use Rattle.sg_rules.specs.Profiles.{amount_in, are_rising, dates_kinds, each_date_kinds, items_at, quantity_of, state_in}
 use Rattle.sg_rules.specs.Rules.{host_kinds, is_taken, key_kinds, kinds_at, profiled_link_kinds, text_kinds}
 use Rattle.sg_tables.specs.Tables.{key, keys_of}
@@ -33,7 +33,7 @@ use Rattle.sg_tables.specs.declared.units.Quantity.{Quantity}
 use Rattle.sg_tables.specs.declared.units.Quantity.TheVariants.{Time, Speed, Bandwidth}
 use Rattle.sg_tree.proofs.Kept.{empty_left, empty_right}
 use Rattle.sg_tree.specs.Faults.{kind_if}
-use Rattle.sg_tree.specs.Names.{Finds}
+use Rattle.sg_tree.specs.NameSpaces.{Finds}
 use Rattle.sg_tree.specs.Tree.{text_at, text_or_empty}
 use Rattle.sg_tree.specs.declared.fault.Kind.TheVariants.{Duplicate}
 use Rattle.toml.specs.Data.{Data, as_str, get}

@@ -18,8 +18,8 @@ use Rattle.sg_rows.specs.declared.rows.ActorRow.{ActorRow}
 use Rattle.sg_rows.specs.declared.rows.LinkRow.{LinkRow}
 use Rattle.sg_tables.proofs.Greatest.{quantity_within}
 use Rattle.sg_rules.proofs.Kept.{KeysKept, end_there, host_there, taken_there, link_name_short, name_short, optional_text, point_there, positive_there, required_text, unbroken, zone_there}
-use Rattle.sg_names.specs.LinkNames.{is_split}
-use Rattle.sg_names.specs.Names.{Known}
+use Rattle.sg_tree.specs.LinkNames.{is_split}
+use Rattle.sg_tree.specs.Names.{Known}
 use Rattle.sg_rules.specs.Rules.{end_kinds, is_zone, key_kinds, kinds_at, point_kinds, value_kinds, zone_kinds}
 use Rattle.sg_tables.specs.Tables.{key, keys_of, word_text}
 use Rattle.sg_tables.specs.Units.{quantity_value, whole_value}

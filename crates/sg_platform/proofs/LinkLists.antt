@@ -10,7 +10,7 @@ use Rattle.sg_platform.specs.Build.{link_id, links_at}
 use Rattle.sg_rows.specs.Platform.{Counts, IsLinkList}
 use Rattle.sg_rules.proofs.Kept.{typed_list, unbroken}
 use Rattle.sg_rules.specs.Arguments.{text_of}
-use Rattle.sg_names.specs.Names.{Known}
+use Rattle.sg_tree.specs.Names.{Known}
 use Rattle.sg_rules.specs.Rules.{key_kinds, kinds_at, link_list_kinds, list_kinds, texts_kinds, value_kinds}
 use Rattle.sg_tables.specs.Tables.{key, word_text}
 use Rattle.sg_tables.specs.declared.tables.Need.TheVariants.{Required}

@@ -3,7 +3,7 @@ use Rattle.std.proofs.Common.{◌≡◌, List, [], ◌∷◌, Some, subst}
 use Rattle.std.specs.List.{AllByRecursion}
 use Rattle.sg_rules.proofs.PlatformKinds.{platform_kinds}
 use Rattle.sg_rules.specs.Faults.{faults_of}
-use Rattle.sg_names.specs.Names.{Known}
+use Rattle.sg_tree.specs.Names.{Known}
 use Rattle.sg_rules.specs.PlatformKinds.{IsPlatformFault}
 use Rattle.sg_tables.specs.Tables.{platform_tables}
 use Rattle.sg_tree.specs.Along.{first}

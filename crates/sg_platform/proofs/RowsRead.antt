@@ -4,7 +4,7 @@ use Rattle.sg_platform.specs.Build.{host_row, network_of, profile_row, route_row
 use Rattle.sg_platform.specs.PlatformOf.{links_of, platform_rows}
 use Rattle.sg_rows.specs.Ends.{link_ends}
 use Rattle.sg_rows.specs.Platform.{Platform}
-use Rattle.sg_names.specs.Names.{Known}
+use Rattle.sg_tree.specs.Names.{Known}
 use Rattle.sg_tree.specs.Tree.{rows_at}
 use Rattle.toml.specs.Data.{Members}
 

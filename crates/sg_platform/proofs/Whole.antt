@@ -14,10 +14,10 @@ use Rattle.sg_rows.specs.Platform.{Counts, IsHostRow, IsLinkRow, IsPlatform, IsP
 use Rattle.sg_platform.specs.PlatformOf.{links_of, platform_rows}
 use Rattle.sg_rows.specs.declared.rows.Policy.TheVariants.{Shared, Fatpipe, SplitDuplex}
 use Rattle.sg_rules.proofs.Kept.{rows_few, rows_kept}
-use Rattle.sg_names.proofs.NumbersBelow.{links_below, points_below}
+use Rattle.sg_tree.proofs.NumbersBelow.{links_below, points_below}
 use Rattle.sg_rules.specs.Faults.{faults_of, table_faults}
-use Rattle.sg_names.specs.LinkNames.{is_split, link_names}
-use Rattle.sg_names.specs.Names.{Known, known_by, platform_known}
+use Rattle.sg_tree.specs.LinkNames.{is_split, link_names}
+use Rattle.sg_tree.specs.Names.{Known, known_by, platform_known}
 use Rattle.sg_tables.specs.Tables.{platform_tables}
 use Rattle.sg_tables.specs.declared.tables.Table.TheVariants.{Zone, Host, Router, Link, Route, ZoneRoute, Spoke, Network, Profile, StateProfile}
 use Rattle.sg_tree.proofs.Bounds.{below_all}

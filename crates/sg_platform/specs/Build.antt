@@ -32,8 +32,8 @@ use Rattle.sg_rows.specs.declared.rows.StateProfileRow.{StateProfileRow}
 use Rattle.sg_rows.specs.declared.rows.ZoneRouteRow.{ZoneRouteRow}
 use Rattle.sg_rows.specs.declared.rows.ZoneRow.{ZoneRow}
 use Rattle.sg_rules.specs.Arguments.{text_of}
-use Rattle.sg_names.specs.Pairs.{truth_at}
-use Rattle.sg_names.specs.Names.{Known}
+use Rattle.sg_tree.specs.Pairs.{truth_at}
+use Rattle.sg_tree.specs.Names.{Known}
 use Rattle.sg_rules.specs.Power.{powers_in}
 use Rattle.sg_rules.specs.Profiles.{items_at, quantity_of, state_in}
 use Rattle.sg_rules.specs.declared.power.Powers.{Powers}

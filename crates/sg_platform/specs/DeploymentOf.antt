@@ -7,7 +7,7 @@ use Rattle.sg_rows.specs.Index.{host_number}
 use Rattle.sg_rows.specs.Platform.{Platform}
 use Rattle.sg_platform.specs.PlatformOf.{rows_unless, text_by}
 use Rattle.sg_rules.specs.Faults.{faults_of}
-use Rattle.sg_names.specs.Names.{Known, known_by}
+use Rattle.sg_tree.specs.Names.{Known, known_by}
 use Rattle.sg_tables.specs.Tables.{deployment_tables}
 use Rattle.sg_tree.specs.Along.{first}
 use Rattle.sg_tree.specs.Tree.{rows_at}

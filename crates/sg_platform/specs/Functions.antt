@@ -3,9 +3,9 @@ use Rattle.std.specs.Prelude.{ℕ, List, [], ◌∷◌, map, if◌then◌else◌
 use Rattle.sg_base.specs.declared.ids.ActorId.{ActorId}
 use Rattle.sg_rows.specs.declared.rows.Function.{Function}
 use Rattle.sg_rows.specs.declared.rows.Function.TheVariants.{Replay, Worker, Master}
-use Rattle.sg_names.specs.Workers.{has_function}
+use Rattle.sg_tree.specs.Workers.{has_function}
 use Rattle.sg_rules.specs.Arguments.{text_of}
-use Rattle.sg_names.specs.Names.{Known}
+use Rattle.sg_tree.specs.Names.{Known}
 use Rattle.sg_rules.specs.Profiles.{amount_in, items_at}
 use Rattle.sg_tables.specs.declared.units.Quantity.{Quantity}
 use Rattle.sg_tables.specs.declared.units.Quantity.TheVariants.{Amount}

@@ -6,7 +6,7 @@ use Rattle.sg_rows.specs.Ends.{link_ends}
 use Rattle.sg_rows.specs.Platform.{Platform}
 use Rattle.sg_rows.specs.declared.rows.LinkRow.{LinkRow}
 use Rattle.sg_rules.specs.Faults.{faults_of}
-use Rattle.sg_names.specs.Names.{Known, platform_known}
+use Rattle.sg_tree.specs.Names.{Known, platform_known}
 use Rattle.sg_tables.specs.Tables.{platform_tables}
 use Rattle.sg_tree.specs.Along.{first}
 use Rattle.sg_tree.specs.Tree.{tree_of, rows_at}

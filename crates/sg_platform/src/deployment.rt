@@ -5,16 +5,15 @@ ghost use Rattle.sg_rows.specs.Deployment.{IsDeployedOn, IsDeployment};
 ghost use Rattle.sg_platform.specs.BrokenRules.{deployment_rule};
 ghost use Rattle.sg_platform.specs.DeploymentOf.{deployment_of, names_on, deployment_rows, tree_deployment};
 ghost use Rattle.sg_platform.specs.declared.deployment.DeploymentFault.TheVariants.{Memory};
-ghost use Rattle.sg_names.specs.kept.NamesView.{names_view};
+ghost use Rattle.sg_tree.specs.kept.NamesView.{names_view};
 ghost use Rattle.toml.specs.View.{table_view};
 
 use crate::build::read_table;
 use crate::platform::GREATEST_TEXT;
-use sg_names::{Names, deployment_names};
 use sg_rows::{ActorRow, Deployment, MutexRow, PlatformText, SemaphoreRow, hosts_by_name};
 use sg_rules::first_fault;
 use sg_tables::DEPLOYMENT;
-use sg_tree::{Fault, Kind, NoTree, Place, read_tree};
+use sg_tree::{Fault, Kind, Names, NoTree, Place, deployment_names, read_tree};
 use std::alloc::Global;
 use thiserror::Error;
 

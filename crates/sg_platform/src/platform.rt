@@ -7,22 +7,21 @@ ghost use Rattle.sg_platform.specs.Build.{host_row, profile_row, route_row, rout
 ghost use Rattle.sg_platform.specs.BrokenRules.{platform_rule};
 ghost use Rattle.sg_platform.specs.PlatformOf.{links_of, platform_of, platform_rows, tree_platform};
 ghost use Rattle.sg_platform.specs.declared.platform.PlatformFault.TheVariants.{Memory};
-ghost use Rattle.sg_names.specs.Names.{platform_known};
+ghost use Rattle.sg_tree.specs.Names.{platform_known};
 ghost use Rattle.sg_rules.specs.PlatformKinds.{IsPlatformFault};
-ghost use Rattle.sg_names.specs.kept.NamesView.{names_view};
+ghost use Rattle.sg_tree.specs.kept.NamesView.{names_view};
 ghost use Rattle.sg_tree.specs.Tree.{rows_at};
 ghost use Rattle.sg_tree.specs.kept.Rows.{KeepsBut};
 ghost use Rattle.toml.specs.View.{table_view};
 
 use crate::build::{network_of, read_table};
-use sg_names::{Names, platform_names};
 use sg_rows::{
     HostRow, LinkEnd, LinkRow, PlatformRows, PlatformText, ProfileRow, RouteRow, RouterRow,
     SpokeRow, StateProfileRow, ZoneRouteRow, ZoneRow, link_ends,
 };
 use sg_rules::first_fault;
 use sg_tables::PLATFORM;
-use sg_tree::{Fault, Kind, NoTree, Place, read_tree, rows_at};
+use sg_tree::{Fault, Kind, Names, NoTree, Place, platform_names, read_tree, rows_at};
 use std::alloc::Global;
 use std::mem;
 use thiserror::Error;

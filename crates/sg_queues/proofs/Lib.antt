@@ -6,3 +6,4 @@ pub mod Moves
 pub mod Homes
 pub mod Entries
 pub mod Values
+pub mod Places

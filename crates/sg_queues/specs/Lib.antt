@@ -1,3 +1,4 @@
 pub mod Rings
 pub mod Queues
 pub mod kept
+pub mod Serials

@@ -6,7 +6,7 @@ use Rattle.sg_rows.specs.declared.rows.Function.{Function}
 use Rattle.sg_rows.specs.declared.rows.Function.TheVariants.{Replay}
 use Rattle.sg_rows.specs.declared.rows.HostRow.{HostRow}
 use Rattle.sg_tree.specs.Along.{along}
-use Rattle.sg_tree.specs.Names.{Finds, with_number}
+use Rattle.sg_tree.specs.NameSpaces.{Finds, with_number}
 
 -- the number of the first row that has a name, by the names of each; rows are numbered from 0 on
 abbrev pub number_by : {X : Type 0} → (X → List (List ℕ)) → List X → Finds

@@ -6,7 +6,7 @@ ghost use Rattle.std.specs.Str.{bytes_eq};
 ghost use Rattle.sg_rows.specs.Index.{host_number, number_by};
 ghost use Rattle.sg_rows.specs.kept.Finds.{FindsAs, finds, numbered_names, replay_names};
 ghost use Rattle.sg_tree.specs.Along.{along};
-ghost use Rattle.sg_tree.specs.Names.{Adds, or_else, with_number};
+ghost use Rattle.sg_tree.specs.NameSpaces.{Adds, or_else, with_number};
 
 use crate::rows::{ActorRow, Function, HostRow, MutexRow, SemaphoreRow};
 use indexmap::IndexMap;
@@ -15,7 +15,7 @@ use sg_tree::{add_name, small_number};
 use std::alloc::Global;
 
 /// Gives the names of hosts the numbers of their rows.
-#[tactic(auto, using(sg_tree::proofs::NameLemmas::along_turn))]
+#[tactic(auto, using(sg_tree::proofs::NameSpaceLemmas::along_turn))]
 fn add_hosts(
     alloc: Global,
     space: &mut IndexMap<String, u32>,

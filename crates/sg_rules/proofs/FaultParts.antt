@@ -1,6 +1,6 @@
 -- The parts of a list of faults.
 use Rattle.std.proofs.Common.{ℕ, ◌+◌, not, List, map}
-use Rattle.sg_names.specs.Names.{Known}
+use Rattle.sg_tree.specs.Names.{Known}
 use Rattle.sg_rules.specs.Faults.{row_faults}
 use Rattle.sg_rules.specs.Rules.{key_kinds, key_text}
 use Rattle.sg_tables.specs.Tables.{table_text}

@@ -7,7 +7,7 @@ use Rattle.std.specs.Option.{option_map_or}
 use Rattle.sg_rules.proofs.TableLemmas.{few_rows}
 use Rattle.sg_rules.proofs.FaultParts.{key_faults, row_faults_at}
 use Rattle.sg_rules.specs.Faults.{row_faults, rows_before, table_faults, table_kinds}
-use Rattle.sg_names.specs.Names.{Known}
+use Rattle.sg_tree.specs.Names.{Known}
 use Rattle.sg_rules.specs.Profiles.{items_at}
 use Rattle.sg_rules.specs.Rules.{end_kinds, host_kinds, id_kinds, is_zone, key_kinds, kinds_at, link_id_kinds, list_kinds, point_kinds, text_kinds, texts_kinds, value_kinds, zone_kinds}
 use Rattle.sg_tables.specs.Tables.{key, keys_of, row_limit, table_text, word_text}
@@ -21,7 +21,7 @@ use Rattle.sg_tables.specs.declared.tables.Word.{Word}
 use Rattle.sg_tree.proofs.Kept.{all_kept, empty_at, empty_left, empty_right}
 use Rattle.sg_tree.specs.Along.{along}
 use Rattle.sg_tree.specs.Faults.{kind_if, of_type}
-use Rattle.sg_tree.specs.Names.{Finds}
+use Rattle.sg_tree.specs.NameSpaces.{Finds}
 use Rattle.sg_tree.specs.Spelling.{is_name, is_name_byte}
 use Rattle.sg_tree.specs.Tree.{items_or_none, list_of, rows_at, text_at}
 use Rattle.sg_tree.specs.declared.fault.Kind.{Kind}

@@ -12,18 +12,18 @@ use Rattle.std.specs.Option.{option_map_or}
 use Rattle.std.specs.Str.{bytes_eq}
 use Rattle.sg_rules.proofs.Kept.{typed_list, unbroken}
 use Rattle.sg_rules.proofs.Repeats.{distinct}
-use Rattle.sg_names.specs.Workers.{has_function, worker_names}
+use Rattle.sg_tree.specs.Workers.{has_function, worker_names}
 use Rattle.sg_rules.specs.Arguments.{are_workers, argument_kinds, has_repeat, are_for_master, text_of}
-use Rattle.sg_names.specs.Names.{Known, known_by}
+use Rattle.sg_tree.specs.Names.{Known, known_by}
 use Rattle.sg_rules.specs.Rules.{key_kinds, kinds_at, list_kinds, texts_kinds, value_kinds}
 use Rattle.sg_tables.specs.Tables.{key}
 use Rattle.sg_tables.specs.declared.tables.Need.TheVariants.{Optional}
 use Rattle.sg_tables.specs.declared.tables.Rule.TheVariants.{Texts}
 use Rattle.sg_tables.specs.declared.tables.TextsRule.TheVariants.{ArgumentList}
 use Rattle.sg_tables.specs.declared.tables.Word.TheVariants.{Argument}
-use Rattle.sg_tree.proofs.NameLemmas.{lookup_append}
+use Rattle.sg_tree.proofs.NameSpaceLemmas.{lookup_append}
 use Rattle.sg_tree.specs.Faults.{of_type}
-use Rattle.sg_tree.specs.Names.{Finds, found_in, numbered, or_else, with_number}
+use Rattle.sg_tree.specs.NameSpaces.{Finds, found_in, numbered, or_else, with_number}
 use Rattle.sg_tree.specs.Tree.{items_or_none, list_of, rows_at, text_at}
 use Rattle.toml.specs.Data.{Data, Items, Members, as_array, as_str, get}
 

@@ -2,8 +2,8 @@
 use Rattle.std.proofs.Common.{◌≡◌, ℕ, ◌≤◌, Bool, true, false, nat_le, List, [], ◌++◌, Option, Some, None, option_and_then, codes, refl, ◌∙◌}
 use Rattle.std.specs.List.{list_any}
 use Rattle.std.proofs.lemmas.Bool.{le-leb}
-use Rattle.sg_names.specs.Names.{Known}
-use Rattle.sg_names.specs.Pairs.{pairs_between, pairs_of, truth_at}
+use Rattle.sg_tree.specs.Names.{Known}
+use Rattle.sg_tree.specs.Pairs.{pairs_between, pairs_of, truth_at}
 use Rattle.sg_rules.proofs.FaultParts.{key_faults}
 use Rattle.sg_rules.specs.Plain.{IsPointAt, KeepsRules, Links, Serves}
 use Rattle.sg_rules.specs.Rules.{is_pair_taken, is_taken, key_kinds, kinds_at, point_kinds, value_kinds}

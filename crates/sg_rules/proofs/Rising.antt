@@ -4,7 +4,7 @@ use Rattle.std.specs.List.{AllByRecursion, list_all}
 use Rattle.sg_rules.specs.Arguments.{argument_kinds}
 use Rattle.sg_rules.proofs.FaultParts.{key_faults, row_faults_at, row_kinds, top_kinds}
 use Rattle.sg_rules.specs.Faults.{faults_of, row_faults, rows_before, table_faults, table_kinds}
-use Rattle.sg_names.specs.Names.{Known}
+use Rattle.sg_tree.specs.Names.{Known}
 use Rattle.sg_rules.specs.Rising.{FaultsRise, IsBefore, IsRising}
 use Rattle.sg_rules.specs.Power.{powers_in}
 use Rattle.sg_rules.specs.Profiles.{dates_kinds, each_date_kinds}

@@ -5,7 +5,7 @@ use Rattle.toml.specs.Data.{Members, get_member, Data, Items, as_array}
 use Rattle.toml.specs.View.{view}
 use Rattle.toml.specs.declared.value.Value.{Value}
 use Rattle.sg_tree.specs.Tree.{rows_at, items_or_none, list_of}
-use Rattle.sg_names.specs.Names.{Known}
+use Rattle.sg_tree.specs.Names.{Known}
 use Rattle.sg_tree.specs.Along.{first, along}
 use Rattle.sg_rules.proofs.FaultParts.{row_faults_at}
 use Rattle.sg_rules.specs.Faults.{table_kinds, table_faults, rows_before}

@@ -3,11 +3,11 @@ use Rattle.std.specs.Prelude.{is_some, ℕ, ◌==◌, Bool, false, not, ◌&&◌
 use Rattle.std.specs.List.{list_all, list_any}
 use Rattle.std.specs.Option.{option_map_or}
 use Rattle.std.specs.Str.{bytes_eq}
-use Rattle.sg_names.specs.Workers.{has_function}
+use Rattle.sg_tree.specs.Workers.{has_function}
 use Rattle.sg_tables.specs.Units.{quantity_value}
 use Rattle.sg_tables.specs.declared.units.Quantity.TheVariants.{Amount}
 use Rattle.sg_tree.specs.Faults.{kind_if}
-use Rattle.sg_tree.specs.Names.{Finds}
+use Rattle.sg_tree.specs.NameSpaces.{Finds}
 use Rattle.sg_tree.specs.declared.fault.Kind.{Kind}
 use Rattle.sg_tree.specs.declared.fault.Kind.TheVariants.{Arguments}
 use Rattle.toml.specs.Data.{Data, as_str}

@@ -1,7 +1,7 @@
 -- The list of all faults of a tree, in rising places, and at one place in rising kinds.
 use Rattle.std.specs.Prelude.{ℕ, ◌+◌, not, nat_lt, List, [], ◌++◌, Option, length, map}
 use Rattle.std.specs.Option.{option_map_or}
-use Rattle.sg_names.specs.Names.{Known}
+use Rattle.sg_tree.specs.Names.{Known}
 use Rattle.sg_rules.specs.Rules.{key_kinds, key_text}
 use Rattle.sg_tables.specs.Tables.{keys_of, row_limit, table_text}
 use Rattle.sg_tables.specs.declared.tables.Key.{Key}

@@ -1,7 +1,7 @@
 -- Rows whose keys break no rule.
 use Rattle.std.specs.Prelude.{◌≡◌, ◌≤◌, ◌+◌, ℕ, Bool, List, Some, None, is_some, option_and_then, codes}
-use Rattle.sg_names.specs.Names.{Known}
-use Rattle.sg_names.specs.Pairs.{truth_at}
+use Rattle.sg_tree.specs.Names.{Known}
+use Rattle.sg_tree.specs.Pairs.{truth_at}
 use Rattle.sg_rules.specs.Rules.{key_kinds, link_list_kinds, list_kinds}
 use Rattle.sg_tables.specs.declared.tables.Key.{Key}
 use Rattle.sg_tree.specs.Along.{along, first}

@@ -2,7 +2,7 @@
 use Rattle.std.specs.Prelude.{◌≤◌}
 use Rattle.std.specs.List.{AllByRecursion}
 use Rattle.sg_rules.specs.Faults.{faults_of}
-use Rattle.sg_names.specs.Names.{Known}
+use Rattle.sg_tree.specs.Names.{Known}
 use Rattle.sg_tables.specs.Tables.{platform_tables}
 use Rattle.sg_tree.specs.Faults.{kind_number}
 use Rattle.sg_tree.specs.declared.fault.Fault.{Fault}

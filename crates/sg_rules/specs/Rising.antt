@@ -3,7 +3,7 @@
 use Rattle.std.specs.Prelude.{◌≡◌, ℕ, ◌<◌, ◌⊎◌, List, [], ◌∷◌, ⊤}
 use Rattle.std.specs.List.{AllByRecursion}
 use Rattle.sg_rules.specs.Faults.{faults_of}
-use Rattle.sg_names.specs.Names.{Known}
+use Rattle.sg_tree.specs.Names.{Known}
 use Rattle.sg_tables.specs.Tables.{deployment_tables, platform_tables}
 use Rattle.sg_tree.specs.Faults.{kind_number}
 use Rattle.sg_tree.specs.declared.fault.Fault.{Fault}

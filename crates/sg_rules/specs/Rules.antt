@@ -4,9 +4,9 @@ use Rattle.std.specs.List.{list_all, list_any}
 use Rattle.std.specs.Option.{option_map_or}
 use Rattle.std.specs.Str.{bytes_eq}
 use Rattle.sg_rules.specs.Arguments.{argument_kinds, text_of}
-use Rattle.sg_names.specs.LinkNames.{is_split}
-use Rattle.sg_names.specs.Names.{Known}
-use Rattle.sg_names.specs.Pairs.{pairs_of}
+use Rattle.sg_tree.specs.LinkNames.{is_split}
+use Rattle.sg_tree.specs.Names.{Known}
+use Rattle.sg_tree.specs.Pairs.{pairs_of}
 use Rattle.sg_rules.specs.Power.{powers_in}
 use Rattle.sg_rules.specs.Profiles.{amount_in, dates_kinds, each_date_kinds, quantity_of, state_in}
 use Rattle.sg_tables.specs.Tables.{word_text}
@@ -21,7 +21,7 @@ use Rattle.sg_tables.specs.declared.tables.TextRule.TheVariants.{NewPoint, NewLi
 use Rattle.sg_tables.specs.declared.tables.TextsRule.{TextsRule}
 use Rattle.sg_tables.specs.declared.tables.TextsRule.TheVariants.{LinkList, DateList, ValueList, StateList, ArgumentList}
 use Rattle.sg_tree.specs.Faults.{kind_if, of_type}
-use Rattle.sg_tree.specs.Names.{Finds, Pair}
+use Rattle.sg_tree.specs.NameSpaces.{Finds, Pair}
 use Rattle.sg_tree.specs.Spelling.{is_name, taken_by}
 use Rattle.sg_tree.specs.Tree.{list_of, text_at}
 use Rattle.sg_tree.specs.declared.fault.Kind.{Kind}

@@ -11,9 +11,8 @@ ghost use Rattle.toml.specs.View.{view};
 
 use indexmap::IndexMap;
 use sg_base::Memory;
-use sg_names::has_function;
 use sg_tables::Quantity;
-use sg_tree::{Kind, add_name};
+use sg_tree::{Kind, add_name, has_function};
 use std::alloc::Global;
 use toml::Value;
 

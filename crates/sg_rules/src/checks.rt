@@ -6,11 +6,11 @@ ghost use Rattle.std.specs.Option.{option_map_or};
 ghost use Rattle.sg_tree.specs.Along.{first};
 ghost use Rattle.sg_tree.specs.Faults.{kind_if};
 ghost use Rattle.sg_tree.specs.declared.fault.Kind.TheVariants as kind;
-ghost use Rattle.sg_names.specs.kept.NamesView.{names_view};
-ghost use Rattle.sg_names.specs.Pairs.{pairs_of};
+ghost use Rattle.sg_tree.specs.kept.NamesView.{names_view};
+ghost use Rattle.sg_tree.specs.Pairs.{pairs_of};
 ghost use Rattle.sg_tables.specs.Units.{whole_value};
 ghost use Rattle.sg_tables.specs.declared.tables.TextRule.TheVariants as rule;
-ghost use Rattle.sg_tree.specs.Names.{pair_eq};
+ghost use Rattle.sg_tree.specs.NameSpaces.{pair_eq};
 ghost use Rattle.sg_tree.specs.Spelling.{is_name, is_name_byte, split_names};
 ghost use Rattle.sg_tree.specs.Tree.{text_at};
 ghost use Rattle.toml.specs.Data.{as_integer, as_str};
@@ -25,9 +25,8 @@ use crate::profiles::{dates_fault, is_of_host, states_fault, values_fault};
 use arrayvec::ArrayString;
 use indexmap::IndexMap;
 use sg_base::Memory;
-use sg_names::{Names, is_split, is_symmetrical, point_at};
 use sg_tables::{Key, Need, Rule, TextRule, TextsRule, whole_value};
-use sg_tree::Kind;
+use sg_tree::{Kind, Names, is_split, is_symmetrical, point_at};
 use std::alloc::Global;
 use toml::Value;
 
@@ -166,7 +165,7 @@ pub fn is_given_pair(pairs: &IndexMap<(u32, u32), u32>, number: usize, pair: (u3
 }
 
 /// Returns whether an earlier row than this gave a pair that the row gives.
-#[tactic(auto, unfolding(sg_names::specs::Pairs::pairs_of, crate::specs::Rules::is_pair_taken))]
+#[tactic(auto, unfolding(sg_tree::specs::Pairs::pairs_of, crate::specs::Rules::is_pair_taken))]
 fn is_pair_taken(
     pairs: &IndexMap<(u32, u32), u32>,
     points: &IndexMap<String, u32>,

@@ -5,7 +5,7 @@ ghost use Rattle.toml.specs.Data.{as_table, get_member};
 ghost use Rattle.std.specs.List.{list_any, list_all};
 ghost use Rattle.std.specs.Str.{bytes_eq};
 ghost use Rattle.toml.specs.View.{view, table_view};
-ghost use Rattle.sg_names.specs.kept.NamesView.{names_view};
+ghost use Rattle.sg_tree.specs.kept.NamesView.{names_view};
 ghost use Rattle.sg_tree.specs.Along.{first, along};
 ghost use Rattle.sg_tree.specs.Faults.{at_place, kind_if, of_type};
 ghost use Rattle.sg_tree.specs.Tree.{has_only};
@@ -17,9 +17,8 @@ ghost use Rattle.sg_rules.specs.Faults.{row_faults, table_kinds, table_faults, r
 use crate::checks::key_fault;
 use crate::routes::is_plain;
 use sg_base::Memory;
-use sg_names::Names;
 use sg_tables::{Key, Table};
-use sg_tree::{Fault, Kind, Place, rows_at, small_number, value_at};
+use sg_tree::{Fault, Kind, Names, Place, rows_at, small_number, value_at};
 use std::alloc::Global;
 use toml::Value;
 

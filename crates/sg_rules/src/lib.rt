@@ -1,6 +1,6 @@
 //! The rules that a platform text and a deployment text keep, and the first fault of a tree.
 //! One enters by `first_fault`, with the tables of the text and the names of its tree.
-//! It stands on `sg_tables` for the keys of each table, on `sg_names` for names, and on what is below these.
+//! It stands on `sg_tables` for the keys of each table, on `sg_tree` for names, and on what is below these.
 #![tactic(auto)]
 
 mod arguments;

@@ -2,21 +2,21 @@
 ghost use Rattle.std.specs.Prelude.{◌≡◌, ◌≤◌, [], IfSome, IsTrue, None, Some, codes, is_some, map};
 ghost use Rattle.std.specs.HashMap.{get_by, get_by_text};
 ghost use Rattle.std.specs.List.{list_any};
-ghost use Rattle.sg_names.specs.Pairs.{pairs_between};
-ghost use Rattle.sg_names.specs.kept.NamesView.{names_view};
+ghost use Rattle.sg_tree.specs.Pairs.{pairs_between};
+ghost use Rattle.sg_tree.specs.kept.NamesView.{names_view};
 ghost use Rattle.sg_rules.specs.Plain.{IsPointAt, KeepsRules, Links, Serves};
 ghost use Rattle.sg_rules.specs.Rules.{is_taken, key_kinds, link_list_kinds, list_kinds};
 ghost use Rattle.sg_tables.specs.Tables.{keys_of};
 ghost use Rattle.sg_tables.specs.declared.tables.Table.TheVariants as table;
 ghost use Rattle.sg_tree.specs.Along.{first};
-ghost use Rattle.sg_tree.specs.Names.{pair_eq};
+ghost use Rattle.sg_tree.specs.NameSpaces.{pair_eq};
 ghost use Rattle.toml.specs.Data.{as_str};
 ghost use Rattle.toml.specs.View.{view};
 
 use crate::checks::{are_texts, is_given_pair, link_list_fault};
 use indexmap::IndexMap;
-use sg_names::{Names, point_at};
 use sg_tables::Table;
+use sg_tree::{Names, point_at};
 use toml::Value;
 
 /// Returns the number of the point that a key names, if it names one.

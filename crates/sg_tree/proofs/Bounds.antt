@@ -2,9 +2,9 @@
 use Rattle.std.proofs.Common.{ℕ, ◌+◌, ◌<◌, ◌≤◌, Bool, List, [], ◌∷◌, length, Option, Some, None, IfSome, inl, inr, arith}
 use Rattle.std.proofs.lemmas.Bool.{cases_Bool}
 use Rattle.std.specs.Map.{lookup}
-use Rattle.sg_tree.proofs.NameLemmas.{lookup_append}
+use Rattle.sg_tree.proofs.NameSpaceLemmas.{lookup_append}
 use Rattle.sg_tree.specs.Along.{along}
-use Rattle.sg_tree.specs.Names.{with_number, or_else}
+use Rattle.sg_tree.specs.NameSpaces.{with_number, or_else}
 
 pub below_all : (o : Option ℕ) (n m : ℕ) → n ≤ m → IfSome o (λ i. i < n) → IfSome o (λ i. i < m)
 below_all None n m within below = tt

@@ -1,6 +1,10 @@
 pub mod Along
 pub mod Tree
-pub mod Names
+pub mod NameSpaces
 pub mod Faults
 pub mod Spelling
 pub mod kept
+pub mod LinkNames
+pub mod Names
+pub mod Pairs
+pub mod Workers

@@ -1,61 +1,63 @@
--- The number under which a name stands first.
-use Rattle.std.specs.Prelude.{◌≡◌, ◌≤◌, ℕ, ◌==◌, ◌&&◌, Bool, List, length, take, Option, Some, None, map, option_to_list}
+-- What is known of the names of a whole tree: under which number each stands first.
+use Rattle.std.specs.Prelude.{ℕ, List, [], ◌∷◌, ◌++◌, Option, length, codes}
+use Rattle.std.specs.List.{flat_map}
 use Rattle.std.specs.Map.{lookup}
-use Rattle.std.specs.Str.{bytes_eq}
-use Rattle.sg_tree.specs.Along.{along}
-use Rattle.sg_tree.specs.Tree.{text_at}
-use Rattle.toml.specs.Data.{Data}
+use Rattle.sg_tree.specs.Workers.{worker_names}
+use Rattle.sg_tree.specs.LinkNames.{link_names, taken_names}
+use Rattle.sg_tree.specs.Pairs.{pairs_of}
+use Rattle.sg_tree.specs.NameSpaces.{Finds, Pair, found_in, numbered, pair_eq, texts_at}
+use Rattle.sg_tree.specs.Tree.{rows_at}
+use Rattle.toml.specs.Data.{Data, Members}
 
--- the number that a name has, if any
-abbrev pub Finds : Type 0
-Finds = List ℕ → Option ℕ
+-- Zones, hosts and routers are numbered one after the other, links in declared order, workers as actors from 1 on; all
+-- else by rows from 0 on.
+pub record Known : Type 0 where
+  pub zones : ℕ
+  pub hosts : ℕ
+  pub points : Finds
+  pub taken : Finds
+  pub links : Finds
+  pub pairs : Pair → Option ℕ
+  pub zone_pairs : Pair → Option ℕ
+  pub children : Finds
+  pub profiled_hosts : Finds
+  pub profiled_links : Finds
+  pub switched_hosts : Finds
+  pub switched_links : Finds
+  pub actors : Finds
+  pub workers : Finds
+  pub mutexes : Finds
+  pub semaphores : Finds
 
--- an ordered pair of numbers: the two ends of a route
-abbrev pub Pair : Type 0
-Pair = ℕ × ℕ
+-- the rows that have a text at a key first
+abbrev pub rows_by : List ℕ → List Data → Finds
+rows_by key rows = found_in (numbered (texts_at key) 0 rows)
 
--- whether two pairs have the same first and the same second number
-abbrev pub pair_eq : Pair → Pair → Bool
-pair_eq p q = p.0 == q.0 && p.1 == q.1
+-- the names of a text, if these are the zones, the hosts and the points that it may name
+unfoldable pub known_by : ℕ → ℕ → Finds → Members → Known
+known_by zones hosts points tree = record {
+  zones = zones;
+  hosts = hosts;
+  points = points;
+  taken = found_in (numbered taken_names 0 (rows_at (codes "link") tree));
+  links = found_in (numbered (λ name. name ∷ []) 0 (flat_map link_names (rows_at (codes "link") tree)));
+  pairs = λ q. lookup (pair_eq q) (numbered (pairs_of points) 0 (rows_at (codes "route") tree));
+  zone_pairs = λ q. lookup (pair_eq q) (numbered (pairs_of points) 0 (rows_at (codes "zone_route") tree));
+  children = rows_by (codes "child") (rows_at (codes "spoke") tree);
+  profiled_hosts = rows_by (codes "host") (rows_at (codes "profile") tree);
+  profiled_links = rows_by (codes "link") (rows_at (codes "profile") tree);
+  switched_hosts = rows_by (codes "host") (rows_at (codes "state_profile") tree);
+  switched_links = rows_by (codes "link") (rows_at (codes "state_profile") tree);
+  actors = rows_by (codes "name") (rows_at (codes "actor") tree);
+  workers = found_in (numbered worker_names 1 (rows_at (codes "actor") tree));
+  mutexes = rows_by (codes "id") (rows_at (codes "mutex") tree);
+  semaphores = rows_by (codes "id") (rows_at (codes "semaphore") tree);
+}
 
--- the first of two
-abbrev pub or_else : Option ℕ → Option ℕ → Option ℕ
-or_else None other = other
-or_else (Some n) other = Some n
+-- zones, hosts and routers, in one space of names
+abbrev pub point_rows : Members → List Data
+point_rows tree = rows_at (codes "zone") tree ++ rows_at (codes "host") tree ++ rows_at (codes "router") tree
 
--- keys under one number
-abbrev pub with_number : {K : Type 0} → ℕ → List K → List (K × ℕ)
-with_number n keys = map (λ k. (k, n)) keys
-
--- the text at a key of a row, if any
-abbrev pub texts_at : List ℕ → Data → List (List ℕ)
-texts_at key row = option_to_list (text_at key row)
-
--- the keys that rows give, under the numbers of the rows, of which the first has this one
-abbrev pub numbered : {R K : Type 0} → (R → List K) → ℕ → List R → List (K × ℕ)
-numbered keys number rows = along (λ i row. with_number i (keys row)) number rows
-
--- the number that is first under a name
-abbrev pub found_in : List (List ℕ × ℕ) → Finds
-found_in given name = lookup (bytes_eq name) given
-
--- these names were given these numbers, except for those that had one
-abbrev pub Adds : List (List ℕ × ℕ) → Finds → Finds → Type 0
-Adds given old new = (q : List ℕ) → new q ≡ or_else (old q) (found_in given q)
-
--- so were these pairs
-abbrev pub AddsPairs : List (Pair × ℕ) → (Pair → Option ℕ) → (Pair → Option ℕ) → Type 0
-AddsPairs given old new = (q : Pair) → new q ≡ or_else (old q) (lookup (pair_eq q) given)
-
--- both find the same
-abbrev pub SameNames : Finds → Finds → Type 0
-SameNames a b = (q : List ℕ) → a q ≡ b q
-
-abbrev pub SamePairs : (Pair → Option ℕ) → (Pair → Option ℕ) → Type 0
-SamePairs a b = (q : Pair) → a q ≡ b q
-
--- so were the names of so many first rows
-pub record AddsFront (key : List ℕ) (before : ℕ) (rows : List Data) (old new : Finds) : Type 0 where
-  pub done : ℕ
-  pub within : done ≤ length rows
-  pub adds : Adds (numbered (texts_at key) before (take done rows)) old new
+-- the names of a platform text
+abbrev pub platform_known : Members → Known
+platform_known tree = known_by (length (rows_at (codes "zone") tree)) (length (rows_at (codes "host") tree)) (rows_by (codes "id") (point_rows tree)) tree

@@ -17,9 +17,9 @@ use Rattle.sg_states.specs.declared.state.Blocking.{Blocking}
 use Rattle.sg_states.specs.declared.state.State.{State}
 use Rattle.sg_states.specs.declared.state.State.TheVariants.{Unstarted, Ready, Blocked, Ended}
 use Rattle.sg_states.specs.Actors.{actor_at, blocking_in, is_alive, is_id, joined_by, joiners, joins, not_suspended, put_state, state_at}
-use Rattle.sg_owners.specs.declared.owners.How.TheVariants as how
-use Rattle.sg_owners.specs.declared.owners.Whose.{Whose}
-use Rattle.sg_owners.specs.declared.owners.Whose.TheVariants.{Over, Alone, Posted, Pair}
+use Rattle.sg_mailbox.specs.declared.owners.How.TheVariants as how
+use Rattle.sg_mailbox.specs.declared.owners.Whose.{Whose}
+use Rattle.sg_mailbox.specs.declared.owners.Whose.TheVariants.{Over, Alone, Posted, Pair}
 use Rattle.sg_calls.specs.declared.stop.Stop.{Stop}
 use Rattle.sg_calls.specs.Answers.{answer_to, answers, answers_by, answers_side, bare_side, finishes, for_receiver, awaits_side, tells_bytes, with_over}
 use Rattle.sg_calls.specs.Kills.{awaited, gives_up, gives_up_by, kill_done, kill_stretches, kills, withdrawn}

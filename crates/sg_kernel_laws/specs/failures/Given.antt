@@ -4,8 +4,8 @@ use Rattle.sg_base.specs.declared.call.Call.TheVariants as call
 use Rattle.sg_base.specs.declared.ids.ActorId.{ActorId}
 use Rattle.sg_route.specs.Roads.{Roads}
 use Rattle.sg_states.specs.Actors.{is_alive}
-use Rattle.sg_owners.specs.declared.owners.How.TheVariants as how
-use Rattle.sg_owners.specs.declared.owners.Whose.TheVariants.{Over}
+use Rattle.sg_mailbox.specs.declared.owners.How.TheVariants as how
+use Rattle.sg_mailbox.specs.declared.owners.Whose.TheVariants.{Over}
 use Rattle.sg_calls.specs.Calls.{answered}
 use Rattle.sg_calls.specs.Kills.{awaited}
 use Rattle.sg_calls.specs.Steps.{Step}

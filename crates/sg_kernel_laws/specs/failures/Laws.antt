@@ -21,10 +21,10 @@ use Rattle.sg_route.specs.Route.{Route}
 use Rattle.sg_states.specs.declared.state.State.TheVariants.{Blocked}
 use Rattle.sg_states.specs.Actors.{is_alive}
 use Rattle.sg_calls.specs.declared.meetings.Comer.{Comer}
-use Rattle.sg_owners.specs.declared.owners.How.{How}
-use Rattle.sg_owners.specs.declared.owners.How.TheVariants as how
-use Rattle.sg_owners.specs.declared.owners.Whose.{Whose}
-use Rattle.sg_owners.specs.declared.owners.Whose.TheVariants.{Over, Alone, Posted, Pair}
+use Rattle.sg_mailbox.specs.declared.owners.How.{How}
+use Rattle.sg_mailbox.specs.declared.owners.How.TheVariants as how
+use Rattle.sg_mailbox.specs.declared.owners.Whose.{Whose}
+use Rattle.sg_mailbox.specs.declared.owners.Whose.TheVariants.{Over, Alone, Posted, Pair}
 use Rattle.sg_calls.specs.Calls.{answered}
 use Rattle.sg_calls.specs.Kills.{awaited}
 use Rattle.sg_calls.specs.Meetings.{comer_of, posts_at, receiver_of, route_between, sender_of, way_with}

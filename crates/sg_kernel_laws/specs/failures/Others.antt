@@ -14,9 +14,9 @@ use Rattle.sg_route.specs.Roads.{Roads}
 use Rattle.sg_states.specs.declared.state.Actor.{Actor}
 use Rattle.sg_states.specs.declared.state.State.TheVariants.{Blocked}
 use Rattle.sg_states.specs.Actors.{state_at}
-use Rattle.sg_owners.specs.declared.owners.How.TheVariants as how
-use Rattle.sg_owners.specs.declared.owners.Whose.{Whose}
-use Rattle.sg_owners.specs.declared.owners.Whose.TheVariants.{Over, Alone}
+use Rattle.sg_mailbox.specs.declared.owners.How.TheVariants as how
+use Rattle.sg_mailbox.specs.declared.owners.Whose.{Whose}
+use Rattle.sg_mailbox.specs.declared.owners.Whose.TheVariants.{Over, Alone}
 use Rattle.sg_calls.specs.Calls.{answered, told}
 use Rattle.sg_calls.specs.Lives.{created}
 use Rattle.sg_kernel.specs.Passes.{pass_of}

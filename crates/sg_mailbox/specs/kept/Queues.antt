@@ -2,7 +2,7 @@
 use Rattle.std.specs.Prelude.{◌≡◌, ◌≢◌, ℕ, ◌+◌, ◌<◌, ◌≤◌, ◌==◌, Bool, true, false, Option, None, Some, IfSome, List, [], length, map, All, AllPairs, vec_capacity}
 use Rattle.std.specs.HashMap.{get, spare, hash_map_len}
 use Rattle.sg_base.specs.declared.ids.BoxId.{BoxId}
-use Rattle.sg_serials.specs.Serials as serials
+use Rattle.sg_queues.specs.Serials as serials
 use Rattle.sg_queues.specs.Rings.{queue_at}
 use Rattle.sg_queues.specs.Queues.{holds, value, values_of, AreSlots}
 use Rattle.sg_mailbox.specs.declared.sides.Post.{Post}

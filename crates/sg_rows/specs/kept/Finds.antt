@@ -7,7 +7,7 @@ use Rattle.sg_base.specs.declared.ids.ActorId.{ActorId}
 use Rattle.sg_rows.specs.Deployment.{Deployed, IsDeployment, members_of}
 use Rattle.sg_rows.specs.Index.{names_if_replay, number_by}
 use Rattle.sg_rows.specs.declared.rows.ActorRow.{ActorRow}
-use Rattle.sg_tree.specs.Names.{Finds, with_number}
+use Rattle.sg_tree.specs.NameSpaces.{Finds, with_number}
 
 -- the key is these bytes
 abbrev pub by_bytes : List ℕ → Vec ℕ → Bool

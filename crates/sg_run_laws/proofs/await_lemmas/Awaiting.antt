@@ -15,9 +15,9 @@ use Rattle.sg_states.specs.declared.state.State.TheVariants.{Unstarted, Ready, B
 use Rattle.sg_states.specs.Actors.{actor_at, blocking_in, is_answered, joined_by, joined_in, not_suspended, put_state, state_at}
 use Rattle.sg_sync.specs.Objects.{Objects, waiting}
 use Rattle.sg_sync.specs.Queues.{times}
-use Rattle.sg_owners.specs.declared.owners.How.TheVariants as how
-use Rattle.sg_owners.specs.declared.owners.Whose.{Whose}
-use Rattle.sg_owners.specs.declared.owners.Whose.TheVariants.{Over}
+use Rattle.sg_mailbox.specs.declared.owners.How.TheVariants as how
+use Rattle.sg_mailbox.specs.declared.owners.Whose.{Whose}
+use Rattle.sg_mailbox.specs.declared.owners.Whose.TheVariants.{Over}
 use Rattle.sg_calls.specs.Kills.{blocked_on}
 use Rattle.sg_calls.specs.Steps.{blocked_by}
 use Rattle.sg_calls.specs.World.{Core, MayCall, state_of, with_state}

@@ -23,9 +23,9 @@ use Rattle.sg_sync.specs.Objects.{Objects, acquired, locked, released, unlocked,
 use Rattle.sg_sync.specs.Queues.{times}
 use Rattle.sg_sync.proofs.Counts.{id_same}
 use Rattle.sg_sync.proofs.Leaving.{times_stays, waits_nowhere, waits_stays}
-use Rattle.sg_owners.specs.declared.owners.How.TheVariants as how
-use Rattle.sg_owners.specs.declared.owners.Whose.{Whose}
-use Rattle.sg_owners.specs.declared.owners.Whose.TheVariants.{Over, Alone, Posted, Pair}
+use Rattle.sg_mailbox.specs.declared.owners.How.TheVariants as how
+use Rattle.sg_mailbox.specs.declared.owners.Whose.{Whose}
+use Rattle.sg_mailbox.specs.declared.owners.Whose.TheVariants.{Over, Alone, Posted, Pair}
 use Rattle.sg_calls.specs.declared.stop.Stop.TheVariants.{Budget}
 use Rattle.sg_calls.specs.Answers.{finishes, side_of}
 use Rattle.sg_calls.specs.Calls.{await_alone, answer_of_ask, answered, answered_call, blocks_on, computes, executes, told, with_execution}

@@ -9,10 +9,10 @@ use Rattle.sg_activity.specs.Underway.{Underway}
 use Rattle.sg_mailbox.specs.declared.sides.Side.{Side}
 use Rattle.sg_requests.specs.Requested.{oldest, queue_at, rest_of, serial_of, queues_without_oldest}
 use Rattle.sg_states.specs.Actors.{blocking_in}
-use Rattle.sg_owners.specs.declared.owners.How.{How}
-use Rattle.sg_owners.specs.declared.owners.How.TheVariants as how
-use Rattle.sg_owners.specs.declared.owners.Whose.{Whose}
-use Rattle.sg_owners.specs.declared.owners.Whose.TheVariants.{Over, Posted, Pair}
+use Rattle.sg_mailbox.specs.declared.owners.How.{How}
+use Rattle.sg_mailbox.specs.declared.owners.How.TheVariants as how
+use Rattle.sg_mailbox.specs.declared.owners.Whose.{Whose}
+use Rattle.sg_mailbox.specs.declared.owners.Whose.TheVariants.{Over, Posted, Pair}
 use Rattle.sg_calls.specs.Answers.{with_over}
 use Rattle.sg_calls.specs.Kills.{blocked_on}
 use Rattle.sg_calls.specs.Meetings.{asks_for}

@@ -33,7 +33,7 @@ use Rattle.sg_sync.specs.Objects.{Done, Objects, locked, unlocked, acquired, rel
 use Rattle.sg_sync.proofs.Losses.{arrived_keeps}
 use Rattle.sg_base.specs.declared.trace_record.Record.{Record}
 use Rattle.sg_calls.specs.declared.meetings.Comer.{Comer}
-use Rattle.sg_owners.specs.declared.owners.How.TheVariants as how
+use Rattle.sg_mailbox.specs.declared.owners.How.TheVariants as how
 use Rattle.sg_calls.specs.declared.stop.Stop.{Stop}
 use Rattle.sg_calls.specs.declared.stop.Stop.TheVariants.{Budget}
 use Rattle.sg_calls.specs.Answers.{answers_side, for_receiver, side_of, with_over}

@@ -34,10 +34,10 @@ use Rattle.sg_sync.specs.declared.outcome.Outcome.{Outcome}
 use Rattle.sg_sync.specs.declared.outcome.Outcome.TheVariants.{GoesOn, Waits, Refused}
 use Rattle.sg_sync.specs.Objects.{Done, locked, unlocked, acquired, released, arrived}
 use Rattle.sg_calls.specs.declared.meetings.Comer.{Comer}
-use Rattle.sg_owners.specs.declared.owners.How.{How}
-use Rattle.sg_owners.specs.declared.owners.How.TheVariants as how
-use Rattle.sg_owners.specs.declared.owners.Whose.{Whose}
-use Rattle.sg_owners.specs.declared.owners.Whose.TheVariants.{Over, Alone, Posted, Pair}
+use Rattle.sg_mailbox.specs.declared.owners.How.{How}
+use Rattle.sg_mailbox.specs.declared.owners.How.TheVariants as how
+use Rattle.sg_mailbox.specs.declared.owners.Whose.{Whose}
+use Rattle.sg_mailbox.specs.declared.owners.Whose.TheVariants.{Over, Alone, Posted, Pair}
 use Rattle.sg_calls.specs.declared.stop.Stop.TheVariants.{Budget}
 use Rattle.sg_calls.specs.kept.Sound.{is_posted}
 use Rattle.sg_calls.specs.Answers.{answers_side, finishes, for_receiver, side_of, with_over}

@@ -14,9 +14,9 @@ use Rattle.sg_route.specs.Roads.{Roads, roads_of}
 use Rattle.sg_states.specs.declared.state.State.TheVariants as state
 use Rattle.sg_states.specs.Actors.{is_answered, not_suspended}
 use Rattle.sg_calls.specs.declared.meetings.Comer.{Comer}
-use Rattle.sg_owners.specs.declared.owners.How.TheVariants as how
-use Rattle.sg_owners.specs.declared.owners.Whose.{Whose}
-use Rattle.sg_owners.specs.declared.owners.Whose.TheVariants.{Over, Posted}
+use Rattle.sg_mailbox.specs.declared.owners.How.TheVariants as how
+use Rattle.sg_mailbox.specs.declared.owners.Whose.{Whose}
+use Rattle.sg_mailbox.specs.declared.owners.Whose.TheVariants.{Over, Posted}
 use Rattle.sg_calls.specs.Answers.{answers_side, for_receiver, side_of, with_over}
 use Rattle.sg_calls.specs.Calls.{answered, answered_call}
 use Rattle.sg_calls.specs.Meetings.{both_fail, comer_fails, comer_of, comes, fails_with, other_fails, party_of, receives_by, sends_by, takes_part_failed}

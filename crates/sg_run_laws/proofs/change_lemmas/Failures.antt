@@ -4,7 +4,7 @@ use Rattle.sg_activity.specs.Underway.{due_in, hits, work_of}
 use Rattle.sg_activity.specs.Task.{Task, phase_after, task_at}
 use Rattle.sg_profile.specs.Profiles.{rows_due}
 use Rattle.sg_route.specs.Roads.{Roads, roads_of}
-use Rattle.sg_owners.specs.declared.owners.How.TheVariants as how
+use Rattle.sg_mailbox.specs.declared.owners.How.TheVariants as how
 use Rattle.sg_calls.specs.declared.stop.Stop.{Stop}
 use Rattle.sg_calls.specs.declared.stop.Stop.TheVariants.{Budget}
 use Rattle.sg_calls.specs.Answers.{finishes}

@@ -21,8 +21,8 @@ use Rattle.sg_states.specs.declared.state.Actor.{Actor}
 use Rattle.sg_states.specs.declared.state.State.TheVariants.{Ready, Blocked}
 use Rattle.sg_states.specs.Actors.{blocking_in, put_state, state_at}
 use Rattle.sg_calls.specs.declared.meetings.Comer.{Comer}
-use Rattle.sg_owners.specs.declared.owners.How.TheVariants as how
-use Rattle.sg_owners.specs.declared.owners.Whose.TheVariants.{Over}
+use Rattle.sg_mailbox.specs.declared.owners.How.TheVariants as how
+use Rattle.sg_mailbox.specs.declared.owners.Whose.TheVariants.{Over}
 use Rattle.sg_calls.specs.declared.stop.Stop.TheVariants.{Budget}
 use Rattle.sg_calls.specs.Answers.{answers_by, answers_side, for_receiver, side_of, tells_bytes, with_over}
 use Rattle.sg_calls.specs.Calls.{answered, answered_call}

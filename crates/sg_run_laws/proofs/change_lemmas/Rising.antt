@@ -7,8 +7,8 @@ use Rattle.sg_lives.specs.Slots.{is_over_after, passes, serials}
 use Rattle.sg_activity.specs.Task.{Task, is_hit, phase_after, task_at}
 use Rattle.sg_activity.specs.Underway.{due_in, hits, wait_in}
 use Rattle.sg_profile.specs.Profiles.{rows_due}
-use Rattle.sg_owners.specs.declared.owners.How.{How}
-use Rattle.sg_owners.specs.declared.owners.How.TheVariants as how
+use Rattle.sg_mailbox.specs.declared.owners.How.{How}
+use Rattle.sg_mailbox.specs.declared.owners.How.TheVariants as how
 use Rattle.sg_calls.specs.declared.stop.Stop.{Stop}
 use Rattle.sg_calls.specs.declared.stop.Stop.TheVariants.{Budget}
 use Rattle.sg_calls.specs.Answers.{finishes}

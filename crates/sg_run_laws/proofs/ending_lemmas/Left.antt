@@ -12,7 +12,7 @@ use Rattle.sg_profile.specs.Profiles.{AreProfiles, rows_due, turns_after_row}
 use Rattle.sg_profile.proofs.Ahead.{rows_are_left}
 use Rattle.sg_rows.specs.Platform.{IsPlatform, counts_of}
 use Rattle.sg_states.specs.Actors.{is_ended, is_unstarted}
-use Rattle.sg_owners.specs.declared.owners.How.TheVariants as how
+use Rattle.sg_mailbox.specs.declared.owners.How.TheVariants as how
 use Rattle.sg_calls.specs.declared.stop.Stop.{Stop}
 use Rattle.sg_calls.specs.declared.stop.Stop.TheVariants as stop
 use Rattle.sg_calls.specs.Calls.{answer_of_ask, answered, answered_call}

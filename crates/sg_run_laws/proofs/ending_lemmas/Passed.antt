@@ -17,8 +17,8 @@ use Rattle.sg_profile.proofs.Cases.{earlier_of}
 use Rattle.sg_profile.proofs.Ahead.{ahead_moves, ahead_steps, next_is_near, rows_are_left}
 use Rattle.sg_rows.specs.declared.network.Network.{Network}
 use Rattle.sg_states.specs.declared.state.Actor.{Actor}
-use Rattle.sg_owners.specs.declared.owners.How.{How}
-use Rattle.sg_owners.specs.declared.owners.How.TheVariants as how
+use Rattle.sg_mailbox.specs.declared.owners.How.{How}
+use Rattle.sg_mailbox.specs.declared.owners.How.TheVariants as how
 use Rattle.sg_calls.specs.declared.stop.Stop.{Stop}
 use Rattle.sg_calls.specs.declared.stop.Stop.TheVariants as stop
 use Rattle.sg_calls.specs.Answers.{finishes}

@@ -10,9 +10,9 @@ use Rattle.sg_route.specs.Roads.{roads_of}
 use Rattle.sg_states.specs.declared.state.State.TheVariants.{Ready, Blocked}
 use Rattle.sg_states.specs.Actors.{is_ended}
 use Rattle.sg_calls.specs.declared.meetings.Comer.{Comer}
-use Rattle.sg_owners.specs.declared.owners.How.{How}
-use Rattle.sg_owners.specs.declared.owners.How.TheVariants as how
-use Rattle.sg_owners.specs.declared.owners.Whose.TheVariants.{Over}
+use Rattle.sg_mailbox.specs.declared.owners.How.{How}
+use Rattle.sg_mailbox.specs.declared.owners.How.TheVariants as how
+use Rattle.sg_mailbox.specs.declared.owners.Whose.TheVariants.{Over}
 use Rattle.sg_calls.specs.Kills.{awaited}
 use Rattle.sg_calls.specs.Meetings.{comer_of, posts_at}
 use Rattle.sg_kernel.specs.Passes.{next_span, settled}

@@ -10,8 +10,8 @@ use Rattle.sg_states.specs.declared.state.State.TheVariants.{Ready, Blocked}
 use Rattle.sg_states.specs.Actors.{is_alive}
 use Rattle.sg_states.specs.Records.{end_by, record_of}
 use Rattle.sg_route.specs.Roads.{roads_of}
-use Rattle.sg_owners.specs.declared.owners.How.{How}
-use Rattle.sg_owners.specs.declared.owners.Whose.TheVariants.{Over}
+use Rattle.sg_mailbox.specs.declared.owners.How.{How}
+use Rattle.sg_mailbox.specs.declared.owners.Whose.TheVariants.{Over}
 use Rattle.sg_calls.specs.Calls.{answered}
 use Rattle.sg_calls.specs.Kills.{awaited}
 use Rattle.sg_kernel.specs.Passes.{pass_of}

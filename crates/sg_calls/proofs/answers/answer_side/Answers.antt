@@ -6,8 +6,8 @@ use Rattle.sg_base.specs.Limits.{Extent, IsAmount, IsAnswer, IsMsg}
 use Rattle.sg_states.specs.declared.state.State.TheVariants.{Ready, Blocked}
 use Rattle.sg_states.specs.Actors.{is_blocked, state_at, IsActor}
 use Rattle.sg_states.specs.States.{ActorStates, KeepsLimits}
-use Rattle.sg_owners.specs.declared.owners.How.{How}
-use Rattle.sg_owners.specs.declared.owners.How.TheVariants as how
+use Rattle.sg_mailbox.specs.declared.owners.How.{How}
+use Rattle.sg_mailbox.specs.declared.owners.How.TheVariants as how
 use Rattle.sg_calls.specs.Answers.{answer_of_done, answer_to}
 use Rattle.sg_calls.specs.kept.Sound.{is_queued}
 use Rattle.sg_calls.proofs.Limits.{homes_counted}

@@ -9,8 +9,8 @@ use Rattle.sg_base.specs.declared.awaits.Await.{Await}
 use Rattle.sg_base.specs.declared.call.Call.TheVariants as call
 use Rattle.sg_states.specs.declared.state.State.TheVariants.{Blocked}
 use Rattle.sg_states.specs.States.{ActorStates}
-use Rattle.sg_owners.specs.declared.owners.Whose.TheVariants.{Alone}
-use Rattle.sg_owners.specs.Owners.{Owned}
+use Rattle.sg_mailbox.specs.declared.owners.Whose.TheVariants.{Alone}
+use Rattle.sg_mailbox.specs.Owners.{Owned}
 use Rattle.sg_calls.specs.kept.Sound.{IsMade}
 use Rattle.sg_calls.proofs.Begins.{whole_begun}
 use Rattle.sg_calls.proofs.Limits.{homes_counted}

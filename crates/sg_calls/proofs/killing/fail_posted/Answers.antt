@@ -1,8 +1,8 @@
 use Rattle.std.proofs.Common.{◌-◌, length, ap, ◌∙◌, rules}
 use Rattle.std.proofs.lemmas.List.{length-set}
-use Rattle.sg_owners.specs.declared.owners.How.TheVariants as how
-use Rattle.sg_owners.specs.declared.owners.Whose.TheVariants.{Over}
-use Rattle.sg_owners.specs.Owners.{Owned}
+use Rattle.sg_mailbox.specs.declared.owners.How.TheVariants as how
+use Rattle.sg_mailbox.specs.declared.owners.Whose.TheVariants.{Over}
+use Rattle.sg_mailbox.specs.Owners.{Owned}
 use Rattle.sg_calls.proofs.Killed.{posted_isnt_over, posted_known, posted_none, whole_posted}
 use Rattle.sg_calls.proofs.killing.fail_posted.Goals as goal
 

@@ -2,12 +2,12 @@ use Rattle.std.proofs.Common.{◌-◌, length, set, get_or, sym, ap, subst, ◌�
 use Rattle.std.proofs.lemmas.List.{length-set}
 use Rattle.sg_activity.specs.Doing.{Doing}
 use Rattle.sg_calls.specs.declared.simulation_state.Fields.{Fields}
-use Rattle.sg_owners.specs.declared.owners.How.TheVariants as how
-use Rattle.sg_owners.specs.declared.owners.Whose.TheVariants.{Over}
+use Rattle.sg_mailbox.specs.declared.owners.How.TheVariants as how
+use Rattle.sg_mailbox.specs.declared.owners.Whose.TheVariants.{Over}
 use Rattle.sg_calls.specs.Answers.{answers}
 use Rattle.sg_calls.specs.Known.{after}
 use Rattle.sg_calls.specs.World.{extent}
-use Rattle.sg_owners.specs.Owners.{Owned}
+use Rattle.sg_mailbox.specs.Owners.{Owned}
 use Rattle.sg_calls.specs.kept.Sound.{core_of, known_of, setup_in, IsOwner}
 use Rattle.sg_calls.specs.kept.Whole.{IsWholeFor}
 use Rattle.sg_calls.proofs.Killed.{busy_isnt_over, whole_failed}

@@ -7,9 +7,9 @@ use Rattle.sg_activity.specs.Task.{Task, comm_of}
 use Rattle.sg_base.specs.declared.ids.LinkId.{LinkId}
 use Rattle.sg_base.specs.declared.ids.PointId.{PointId}
 use Rattle.sg_base.specs.declared.ids.Serial.{Serial}
-use Rattle.sg_owners.specs.declared.owners.Whose.{Whose}
-use Rattle.sg_owners.specs.declared.owners.Whose.TheVariants.{Pair}
-use Rattle.sg_owners.specs.Owners.{Owned}
+use Rattle.sg_mailbox.specs.declared.owners.Whose.{Whose}
+use Rattle.sg_mailbox.specs.declared.owners.Whose.TheVariants.{Pair}
+use Rattle.sg_mailbox.specs.Owners.{Owned}
 use Rattle.sg_mailbox.specs.declared.sides.Side.{Side}
 use Rattle.sg_calls.specs.World.{extent, host_of}
 use Rattle.sg_calls.specs.kept.Sound.{setup_in, IsSide, IsOwner}

@@ -6,13 +6,13 @@ use Rattle.sg_mailbox.specs.declared.sides.Side.{Side}
 use Rattle.sg_mailbox.specs.Posts.{IsFound}
 use Rattle.sg_calls.specs.declared.simulation_state.Fields.{Fields}
 use Rattle.sg_calls.specs.declared.meetings.Comer.{Comer}
-use Rattle.sg_owners.specs.declared.owners.How.TheVariants as how
-use Rattle.sg_owners.specs.declared.owners.Whose.TheVariants.{Over}
+use Rattle.sg_mailbox.specs.declared.owners.How.TheVariants as how
+use Rattle.sg_mailbox.specs.declared.owners.Whose.TheVariants.{Over}
 use Rattle.sg_calls.specs.Known.{Known, after_call}
 use Rattle.sg_calls.specs.Meetings.{both_fail}
 use Rattle.sg_calls.specs.World.{Core, extent}
 use Rattle.sg_setup.specs.Setup.{Setup}
-use Rattle.sg_owners.specs.Owners.{Owned}
+use Rattle.sg_mailbox.specs.Owners.{Owned}
 use Rattle.sg_calls.specs.kept.Sound.{known_of, IsSide}
 use Rattle.sg_calls.specs.kept.Whole.{CanStep, IsWholeFor}
 use Rattle.sg_calls.proofs.Mets.{is_met, waiting_below, IsMet}

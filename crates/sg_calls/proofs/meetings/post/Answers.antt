@@ -4,10 +4,10 @@ use Rattle.std.proofs.lemmas.List.{length-append}
 use Rattle.std.proofs.lemmas.List.Elements.{All-push}
 use Rattle.sg_activity.specs.Doing.{Doing}
 use Rattle.sg_activity.specs.Task.{Task}
-use Rattle.sg_owners.specs.declared.owners.Whose.{Whose}
-use Rattle.sg_owners.specs.declared.owners.Whose.TheVariants.{Posted}
+use Rattle.sg_mailbox.specs.declared.owners.Whose.{Whose}
+use Rattle.sg_mailbox.specs.declared.owners.Whose.TheVariants.{Posted}
 use Rattle.sg_calls.specs.World.{extent}
-use Rattle.sg_owners.specs.Owners.{Owned}
+use Rattle.sg_mailbox.specs.Owners.{Owned}
 use Rattle.sg_calls.specs.kept.Sound.{setup_in, IsOwner}
 use Rattle.sg_calls.proofs.Begins.{held_with, sound_with}
 use Rattle.sg_calls.proofs.Timely.{IsTimelyAt}

@@ -3,11 +3,11 @@ use Rattle.std.proofs.Common.{◌+◌, ◌-◌, drop, get_or, set, sym, ap, ◌�
 use Rattle.sg_activity.specs.Doing.{Doing}
 use Rattle.sg_activity.specs.Underway.{hits}
 use Rattle.sg_calls.specs.declared.simulation_state.Fields.{Fields}
-use Rattle.sg_owners.specs.declared.owners.How.TheVariants as how
-use Rattle.sg_owners.specs.declared.owners.Whose.TheVariants.{Over}
+use Rattle.sg_mailbox.specs.declared.owners.How.TheVariants as how
+use Rattle.sg_mailbox.specs.declared.owners.Whose.TheVariants.{Over}
 use Rattle.sg_calls.specs.Answers.{answers}
 use Rattle.sg_calls.specs.Known.{after}
-use Rattle.sg_owners.specs.Owners.{Owned}
+use Rattle.sg_mailbox.specs.Owners.{Owned}
 use Rattle.sg_calls.specs.kept.Sound.{core_of, known_of}
 use Rattle.sg_kernel.proofs.Failing.{failed_owner, failed_passing, not_over}
 use Rattle.sg_kernel.proofs.Hits.{rest_is_hit}

@@ -2,8 +2,8 @@ use Rattle.std.proofs.lemmas.Grind.{common_steps}
 use Rattle.std.proofs.Common.{arith, rules, ◌+◌, ◌-◌, ◌∙◌, set, sym, ap}
 use Rattle.sg_activity.specs.Doing.{Doing, ended_first}
 use Rattle.sg_activity.specs.Task.{phase_after}
-use Rattle.sg_owners.specs.Owners.{Owned}
-use Rattle.sg_owners.specs.declared.owners.How.TheVariants as how
+use Rattle.sg_mailbox.specs.Owners.{Owned}
+use Rattle.sg_mailbox.specs.declared.owners.How.TheVariants as how
 use Rattle.sg_calls.proofs.PostsKept.{meeting_gone, last_phase}
 use Rattle.sg_kernel.proofs.passes.end_activity.Goals as goal
 

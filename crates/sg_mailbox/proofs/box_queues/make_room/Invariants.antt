@@ -1,6 +1,6 @@
 use Rattle.std.proofs.Common.{◌≡◌, ◌-◌, ◌≤◌, ℕ, length}
 use Rattle.std.specs.HashMap.{spare}
-use Rattle.sg_serials.specs.Serials as serials
+use Rattle.sg_queues.specs.Serials as serials
 use Rattle.sg_base.specs.declared.ids.BoxId.{BoxId}
 use Rattle.sg_mailbox.specs.declared.box_queues.Kept.{Kept}
 use Rattle.sg_mailbox.specs.Posts.{waiters}

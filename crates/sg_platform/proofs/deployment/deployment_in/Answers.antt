@@ -3,8 +3,8 @@ use Rattle.sg_platform.proofs.Deployed.{deployed_without_faults, deployment_with
 use Rattle.sg_rows.specs.Deployment.{IsDeployedOn}
 use Rattle.sg_rows.specs.Index.{host_number}
 use Rattle.sg_rules.proofs.KeptArguments.{known_workers}
-use Rattle.sg_names.specs.Names.{Known}
-use Rattle.sg_names.specs.kept.NamesView.{names_view}
+use Rattle.sg_tree.specs.Names.{Known}
+use Rattle.sg_tree.specs.kept.NamesView.{names_view}
 use Rattle.toml.specs.View.{table_view}
 use Rattle.sg_platform.proofs.deployment.deployment_in.Goals as goal
 

@@ -5,8 +5,8 @@ use Rattle.sg_rows.specs.Deployment.{Deployed, IsDeployment, deployment_of_rows}
 use Rattle.sg_rows.specs.declared.rows.ActorRow.{ActorRow}
 use Rattle.sg_rows.specs.declared.rows.MutexRow.{MutexRow}
 use Rattle.sg_rows.specs.declared.rows.SemaphoreRow.{SemaphoreRow}
-use Rattle.sg_names.specs.Names.{Known}
-use Rattle.sg_names.specs.kept.NamesView.{names_view}
+use Rattle.sg_tree.specs.Names.{Known}
+use Rattle.sg_tree.specs.kept.NamesView.{names_view}
 use Rattle.sg_tree.specs.Tree.{rows_at}
 use Rattle.toml.specs.View.{table_view}
 use Rattle.toml.specs.Data.{Members}

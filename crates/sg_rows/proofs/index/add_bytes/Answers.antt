@@ -4,8 +4,8 @@ use Rattle.std.specs.Map.{lookup}
 use Rattle.std.specs.Str.{bytes_eq}
 use Rattle.indexmap.proofs.CallerLemmas.{insert_entry-new}
 use Rattle.sg_rows.specs.kept.Finds.{by_bytes, finds}
-use Rattle.sg_tree.proofs.NameLemmas.{absent_from, lookup_append}
-use Rattle.sg_tree.specs.Names.{or_else}
+use Rattle.sg_tree.proofs.NameSpaceLemmas.{absent_from, lookup_append}
+use Rattle.sg_tree.specs.NameSpaces.{or_else}
 use Rattle.sg_rows.proofs.index.add_bytes.Goals as goal
 
 pub returns-in_ok-insert : goal.returns-in_ok-insert

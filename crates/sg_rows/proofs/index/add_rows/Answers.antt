@@ -2,8 +2,8 @@ use Rattle.std.proofs.Common.{◌∙◌, ap}
 use Rattle.std.specs.Map.{lookup}
 use Rattle.std.specs.Str.{bytes_eq}
 use Rattle.sg_rows.specs.kept.Finds.{finds, numbered_names}
-use Rattle.sg_tree.proofs.NameLemmas.{along_turn}
-use Rattle.sg_tree.specs.Names.{or_else}
+use Rattle.sg_tree.proofs.NameSpaceLemmas.{along_turn}
+use Rattle.sg_tree.specs.NameSpaces.{or_else}
 use Rattle.sg_rows.proofs.index.add_rows.Goals as goal
 
 pub loop-i-preserved : goal.loop-i-preserved

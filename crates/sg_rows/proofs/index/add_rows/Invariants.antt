@@ -3,7 +3,7 @@ use Rattle.std.specs.Map.{lookup}
 use Rattle.std.specs.Str.{bytes_eq}
 use Rattle.sg_rows.specs.kept.Finds.{finds, numbered_names}
 use Rattle.sg_tree.specs.Along.{along}
-use Rattle.sg_tree.specs.Names.{or_else}
+use Rattle.sg_tree.specs.NameSpaces.{or_else}
 use Rattle.sg_rows.proofs.index.add_rows.Given as goal
 
 abbrev pub invariant-loop-i : goal.invariant-loop-i

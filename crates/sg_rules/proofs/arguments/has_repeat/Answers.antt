@@ -2,7 +2,7 @@ use Rattle.std.proofs.Common.{◌≡◌, ◌∙◌, None, map, sym}
 use Rattle.std.specs.HashMap.{get_by_text}
 use Rattle.sg_rules.proofs.Repeats.{nothing_seen, seen_turn, seen_twice}
 use Rattle.sg_rules.specs.Arguments.{text_of}
-use Rattle.sg_tree.specs.Names.{Finds}
+use Rattle.sg_tree.specs.NameSpaces.{Finds}
 use Rattle.toml.specs.View.{view}
 use Rattle.sg_rules.proofs.arguments.has_repeat.Goals as goal
 

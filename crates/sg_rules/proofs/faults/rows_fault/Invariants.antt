@@ -1,6 +1,6 @@
 use Rattle.std.proofs.Common.{◌≡◌, drop}
 use Rattle.toml.specs.View.{view}
-use Rattle.sg_names.specs.kept.NamesView.{names_view}
+use Rattle.sg_tree.specs.kept.NamesView.{names_view}
 use Rattle.sg_tables.specs.Tables.{keys_of}
 use Rattle.sg_tree.specs.Along.{first, along}
 use Rattle.sg_rules.proofs.FaultParts.{row_faults_at}

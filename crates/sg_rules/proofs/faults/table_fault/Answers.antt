@@ -1,6 +1,6 @@
 use Rattle.std.proofs.Common.{◌≡◌, IfOk, sym, subst}
 use Rattle.toml.specs.View.{table_view}
-use Rattle.sg_names.specs.kept.NamesView.{names_view}
+use Rattle.sg_tree.specs.kept.NamesView.{names_view}
 use Rattle.sg_rules.proofs.TableLemmas.{table_rest}
 use Rattle.sg_rules.proofs.faults.table_fault.Goals as goal
 

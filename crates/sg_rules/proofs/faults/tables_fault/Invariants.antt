@@ -1,6 +1,6 @@
 use Rattle.std.proofs.Common.{◌≡◌, ◌+◌, drop}
 use Rattle.toml.specs.View.{table_view}
-use Rattle.sg_names.specs.kept.NamesView.{names_view}
+use Rattle.sg_tree.specs.kept.NamesView.{names_view}
 use Rattle.sg_tree.specs.Along.{first, along}
 use Rattle.sg_rules.specs.Faults.{table_faults}
 use Rattle.sg_rules.proofs.faults.tables_fault.Given as goal

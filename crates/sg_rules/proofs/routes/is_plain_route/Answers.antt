@@ -2,11 +2,11 @@ use Rattle.std.proofs.Common.{◌≡◌, false, Some}
 use Rattle.std.specs.HashMap.{get_by}
 use Rattle.std.specs.List.{list_any}
 use Rattle.toml.specs.View.{view}
-use Rattle.sg_names.specs.Pairs.{pairs_between}
-use Rattle.sg_names.specs.kept.NamesView.{names_view}
+use Rattle.sg_tree.specs.Pairs.{pairs_between}
+use Rattle.sg_tree.specs.kept.NamesView.{names_view}
 use Rattle.sg_rules.proofs.PlainRoutes.{plain_route}
 use Rattle.sg_rules.specs.Rules.{is_taken}
-use Rattle.sg_tree.specs.Names.{pair_eq}
+use Rattle.sg_tree.specs.NameSpaces.{pair_eq}
 use Rattle.sg_rules.proofs.routes.is_plain_route.Goals as goal
 
 pub returns-then-not-is_given_way : goal.returns-then-not-is_given_way

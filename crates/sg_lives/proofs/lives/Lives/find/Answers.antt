@@ -1,6 +1,6 @@
 use Rattle.std.proofs.Common.{◌≡◌, ◌<◌, Some, option_map, sym, ap, subst, ◌∙◌, arith}
 use Rattle.std.specs.Option.{option_copied}
-use Rattle.sg_serials.specs.Serials as serials
+use Rattle.sg_queues.specs.Serials as serials
 use Rattle.sg_lives.specs.declared.lives.Live.{Live}
 use Rattle.sg_lives.specs.Cells.{live_of, live_at, lives_in}
 use Rattle.sg_lives.specs.Pool.{Pool, IsFound, slot_at}

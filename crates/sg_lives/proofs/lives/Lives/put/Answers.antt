@@ -1,7 +1,7 @@
 use Rattle.std.proofs.Common.{◌≡◌, ◌<◌, ◌≤◌, ℕ, cond, count_by, is_some, Option, None, Some, length, length-set, option_map, set, subst, sym, ap, ◌∙◌, arith}
 use Rattle.std.proofs.lemmas.List.Sums.{count_by-le-length}
 use Rattle.slab.specs.Slab.{slab_len}
-use Rattle.sg_serials.specs.Serials as serials
+use Rattle.sg_queues.specs.Serials as serials
 use Rattle.sg_lives.specs.Slots.{passes}
 use Rattle.sg_lives.specs.Cells.{live_of, live_at, lives_in}
 use Rattle.sg_lives.specs.Pool.{Pool, FindsEach, IsMissing, goes_on, slot_at}

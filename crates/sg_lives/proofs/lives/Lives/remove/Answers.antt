@@ -1,5 +1,5 @@
 use Rattle.std.proofs.Common.{◌≡◌, ◌<◌, ℕ, cond, count_by, IsSome, Option, None, Some, length, option_map, set, subst, sym, ap, ◌∙◌, arith}
-use Rattle.sg_serials.specs.Serials as serials
+use Rattle.sg_queues.specs.Serials as serials
 use Rattle.sg_lives.specs.Slots.{passes}
 use Rattle.sg_lives.specs.Cells.{live_of, live_at, lives_in}
 use Rattle.sg_lives.specs.Pool.{Pool, FindsEach, goes_on, slot_at}

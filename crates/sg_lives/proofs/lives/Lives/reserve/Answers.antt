@@ -1,6 +1,6 @@
 use Rattle.std.proofs.Common.{◌≡◌, is_some, count_by, length, refl, ap, ◌∙◌, arith}
 use Rattle.slab.specs.Slab.{Slab, slab_len}
-use Rattle.sg_serials.specs.Serials as serials
+use Rattle.sg_queues.specs.Serials as serials
 use Rattle.sg_lives.specs.declared.cells.Cell.{Cell}
 use Rattle.sg_lives.specs.Cells.{live_at, lives_in}
 use Rattle.sg_lives.specs.Pool.{Pool, slot_at}

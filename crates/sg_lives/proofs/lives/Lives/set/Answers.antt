@@ -3,7 +3,7 @@ use Rattle.std.specs.Option.{IfSome, option_copied_mut}
 use Rattle.std.proofs.lemmas.List.Sums.{count_by-le-length}
 use Rattle.slab.specs.Slab.{Slab, with_value}
 use Rattle.slab.proofs.SlabLemmas.{Updates-with_value}
-use Rattle.sg_serials.specs.Serials as serials
+use Rattle.sg_queues.specs.Serials as serials
 use Rattle.sg_lives.specs.declared.cells.Cell.{Cell}
 use Rattle.sg_lives.specs.declared.lives.Live.{Live}
 use Rattle.sg_lives.specs.Cells.{live_of, live_at, lives_in}

@@ -1,3 +1,0 @@
--- How the code keeps the names of a tree.
-pub mod NamesView
-pub mod Parts

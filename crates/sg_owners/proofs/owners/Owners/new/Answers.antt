@@ -1,7 +1,0 @@
-use Rattle.std.proofs.Common.{ap}
-use Rattle.sg_serials.specs.Serials as serials
-use Rattle.sg_owners.proofs.Tables.{table_none}
-use Rattle.sg_owners.proofs.owners.Owners.new.Goals as goal
-
-pub returns : goal.returns
-returns c = ap (λ l. record { whose = l; room = 0 }) (table_none (serials.at c.new.result) 1)
