@@ -7,8 +7,9 @@ use Rattle.sg_chains.specs.Chained.{users_on}
 use Rattle.sg_maxmin.specs.Sharing.{Sharing, IsSound, uses_at}
 use Rattle.sg_maxmin.proofs.Members.{In-append_left, In-append_right, In-append_cases}
 use Rattle.sg_filling.specs.Component.{Grows, IsClosure}
-use Rattle.sg_filling.proofs.Growing.{at_in, in_at}
-use Rattle.sg_filling.proofs.Rows.{in_is, into, is_in_In, same_in}
+use Rattle.sg_filling.proofs.Rows.{into}
+use Rattle.sg_maxmin.proofs.Listed.{at_in, in_at, same_in}
+use Rattle.sg_maxmin.proofs.Users.{in_is, is_in_In}
 
 -- ---- a list that has grown
 pub first_of : (old new : List ℕ) → Grows old new → take (length old) new ≡ old

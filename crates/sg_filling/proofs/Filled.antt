@@ -7,22 +7,23 @@ use Rattle.sg_base.specs.MarkSet.{MarkSet, is_in, with_mark}
 use Rattle.sg_chains.specs.Chained.{users_on}
 use Rattle.sg_maxmin.specs.Fill.{Flow, level_of}
 use Rattle.sg_maxmin.specs.Sharing.{Sharing, IsSound, flow_at, held, uses_at}
-use Rattle.sg_levels.specs.Held.{IsHold}
-use Rattle.sg_levels.proofs.Changing.{hold_is_local_lem}
+use Rattle.sg_maxmin.specs.Held.{IsHold}
+use Rattle.sg_maxmin.proofs.OneHold.{hold_is_local_lem}
 use Rattle.sg_filling.specs.declared.component.Component.{Component}
 use Rattle.sg_filling.specs.declared.filling.Filling.{Filling}
 use Rattle.sg_filling.specs.Component.{AllPass, AreIn, AreVisited, Grows, IsClosure, IsClosedBy, IsOpen, PassAlong, StaysWithin, lengths}
 use Rattle.sg_filling.specs.Dates.{IsIdle}
-use Rattle.sg_levels.specs.Numbered.{flow_in, row_waiting}
+use Rattle.sg_maxmin.specs.Numbered.{flow_in, row_waiting}
 use Rattle.sg_filling.specs.Filling.{AreJoined, HasPlaces, fixed_at}
 use Rattle.sg_filling.specs.Holds.{IsEnded}
 use Rattle.sg_filling.specs.Parts.{FillsOn, IsFilled, part_looks}
 use Rattle.sg_filling.proofs.Apart.{came, came_closed, in_cases, in_one, in_right}
-use Rattle.sg_filling.proofs.Growing.{all_stay, at_in, grows_mark, grows_on, grows_same, in_at, mark_cases}
+use Rattle.sg_filling.proofs.Growing.{all_stay, grows_mark, grows_on, grows_same, mark_cases}
 use Rattle.sg_filling.proofs.Holding.{joined_hold, joined_level}
-use Rattle.sg_filling.proofs.Listing.{bool_cases, eq_cases}
-use Rattle.sg_filling.proofs.Rows.{into, on_held, same_in}
+use Rattle.sg_filling.proofs.Rows.{into}
 use Rattle.sg_filling.proofs.Twice.{counts_twice_lem}
+use Rattle.sg_maxmin.proofs.Listed.{at_in, bool_cases, eq_cases, in_at, same_in}
+use Rattle.sg_maxmin.proofs.Users.{on_held}
 
 pub fills_none : (s : Sharing) (a : Component) (f : Filling) (x : ℕ) → IsFilled s a f → FillsOn s a a f x x
 fills_none s a f x filled = record { filled = filled; touched = grows_same a.touched.members; reached = grows_same a.reached.members; looks = omega arith }

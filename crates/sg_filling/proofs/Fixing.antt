@@ -3,17 +3,18 @@ use Rattle.std.proofs.Common.{◌≡◌, ◌≢◌, ℕ, zero, suc, ◌+◌, ◌
 use Rattle.std.proofs.lemmas.List.Sums.{sum_by-cons}
 use Rattle.sg_base.specs.MarkSet.{is_in}
 use Rattle.sg_chains.specs.Chained.{times, users_on}
-use Rattle.sg_maxmin.specs.Fill.{share_at}
+use Rattle.sg_maxmin.specs.Fill.{share_at, share_of_fixed}
 use Rattle.sg_maxmin.specs.Sharing.{Sharing, uses_at}
 use Rattle.sg_maxmin.proofs.Members.{In, In-from_contains, contains_from_In, In-append_left, In-append_right, In-append_cases, In-map, In-map_back}
 use Rattle.sg_maxmin.proofs.Sums.{sum_by_same}
 use Rattle.sg_filling.specs.declared.filling.Filling.{Filling}
 use Rattle.sg_filling.specs.Component.{AreIn}
-use Rattle.sg_levels.specs.Numbered.{flow_in}
-use Rattle.sg_filling.specs.Filling.{AreAbove, AreCounted, AreFixed, AreJoined, FixesFlow, HasPlaces, IsLeast, IsLessBy, IsStepped, KeepsCount, MayStep, StepsPartly, bound_limit, fixed_at, given, limits_at, taken_on, unfixed_uses, waiting_on, waits_with, weight_on}
-use Rattle.sg_filling.proofs.Growing.{at_in, in_at}
-use Rattle.sg_filling.proofs.Listing.{bool_cases, eq_cases}
-use Rattle.sg_filling.proofs.Rows.{in_is, into, is_in_In, same_in, times_out}
+use Rattle.sg_maxmin.specs.Numbered.{flow_in}
+use Rattle.sg_maxmin.specs.Step.{IsLeast, IsStepped}
+use Rattle.sg_filling.specs.Filling.{AreAbove, AreCounted, AreFixed, AreJoined, FixesFlow, HasPlaces, IsLessBy, KeepsCount, MayStep, StepsPartly, bound_limit, fixed_at, limits_at, taken_on, unfixed_uses, waiting_on, waits_with, weight_on}
+use Rattle.sg_filling.proofs.Rows.{into}
+use Rattle.sg_maxmin.proofs.Listed.{at_in, bool_cases, eq_cases, in_at, same_in, times_out}
+use Rattle.sg_maxmin.proofs.Users.{in_is, is_in_In}
 
 -- ---- a sum in which one part differs
 apart : (x : ℕ) (xs : List ℕ) → AllPairs (λ a b. a ≢ b) (x ∷ xs) → (y : ℕ) → In y xs → x ≢ y
@@ -132,7 +133,7 @@ module _ (s : Sharing) (fixed : List (Option ℕ)) (f low : ℕ) (below : f < le
         AreCounted s fixed touched left waiting reached → AreCounted s now touched left' waiting' reached
     counted_one left left' waiting waiting' reached l w counted = record {
       left_is = λ c r. less (get_or left' c 0) (get_or left c 0) (get_or s.capacities c 0) (taken_on s.slots fixed touched c) (times c (uses_at s.slots f) * share_at (flow_in s.slots f) low) (taken_on s.slots now touched c) (times c (uses_at s.slots f))
-          (l c) (counted.left_is c r) (part_one (λ o x. times c (uses_at s.slots x) * given (flow_in s.slots x) o));
+          (l c) (counted.left_is c r) (part_one (λ o x. times c (uses_at s.slots x) * share_of_fixed (flow_in s.slots x) o));
       waiting_is = λ c r. fewer (get_or waiting' c 0) (get_or waiting c 0) (waiting_on s.slots fixed touched c) (weight_on s.slots f c) (waiting_on s.slots now touched c) (times c (uses_at s.slots f))
           (w c) (counted.waiting_is c r) (part_one (λ o x. times c (uses_at s.slots x) * waits_with (flow_in s.slots x) o));
     }

@@ -1,10 +1,11 @@
 -- Members stay as more come.
-use Rattle.std.proofs.Common.{◌≡◌, ℕ, zero, suc, ◌+◌, ◌<◌, ◌≤◌, ◌⊎◌, inl, inr, Bool, true, false, cond, ◌||◌, eqb, eq-eqb, eqb-true, true≢false, List, [], ◌∷◌, ◌++◌, length, get_or, take, sum_by, length-append, length-take, refl, sym, ap, ◌∙◌, arith}
+use Rattle.std.proofs.Common.{◌≡◌, ℕ, zero, suc, ◌+◌, ◌<◌, ◌≤◌, ◌⊎◌, inl, inr, Bool, true, false, cond, ◌||◌, eqb, List, [], ◌∷◌, ◌++◌, length, get_or, take, sum_by, length-append, length-take, refl, sym, ap, ◌∙◌, arith}
 use Rattle.std.proofs.lemmas.List.{get_or_append_left, ext_get_or, take_more}
 use Rattle.std.proofs.Math.Seq.{get_or-take}
 use Rattle.std.proofs.lemmas.List.Sums.{sum_by-append, sum_by-cons}
 use Rattle.sg_base.specs.MarkSet.{is_in, with_mark}
 use Rattle.sg_filling.specs.Component.{Grows, AreIn, lengths, AllPass}
+use Rattle.sg_maxmin.proofs.Listed.{at_in, in_at}
 
 pub grows_same : (xs : List ℕ) → Grows xs xs
 grows_same xs = record { longer = omega arith; same = λ i h. refl }
@@ -18,37 +19,11 @@ grows_end xs ys = record { longer = omega (arith, length-append xs ys); same = �
 pub grows_mark : (number : ℕ) (xs : List ℕ) → Grows xs (with_mark number xs)
 grows_mark number xs = elim (is_in number xs) as (λ b. Grows xs (cond b xs (xs ++ number ∷ []))) [ true ↦ grows_same xs | false ↦ grows_end xs (number ∷ []) ]
 
-pub in_at : (number : ℕ) (xs : List ℕ) (i : ℕ) → i < length xs → get_or xs i 0 ≡ number → is_in number xs ≡ true
-in_at number [] i h e = absurd (omega arith)
-in_at number (x ∷ xs) zero h e = ap (λ b. b || is_in number xs) (eq-eqb x number e)
-in_at number (x ∷ xs) (suc i) h e = ap (λ b. eqb x number || b) (in_at number xs i (omega arith) e) ∙ or_true (eqb x number)
-  where
-    or_true : (b : Bool) → (b || true) ≡ true
-    or_true true = refl
-    or_true false = refl
-
-pub at_in : (number : ℕ) (xs : List ℕ) → is_in number xs ≡ true → (i : ℕ) × (i < length xs) × (get_or xs i 0 ≡ number)
-at_in number [] h = absurd (true≢false (sym h))
-at_in number (x ∷ xs) h = (elim (eqb x number) as (λ b. eqb x number ≡ b → (b || is_in number xs) ≡ true → (i : ℕ) × (i < length (x ∷ xs)) × (get_or (x ∷ xs) i 0 ≡ number)) [
-  | true ↦ λ e k. (zero, omega arith, eqb-true x number e)
-  | false ↦ λ e k. let r = at_in number xs k in let s : suc r.0 < length (x ∷ xs) = omega (arith, r.1) in (suc r.0, s, r.2)
-]) refl h
-
 pub stays : (number : ℕ) (xs ys : List ℕ) → Grows xs ys → is_in number xs ≡ true → is_in number ys ≡ true
 stays number xs ys g h = let r = at_in number xs h in in_at number ys r.0 (omega (arith, r.1, g.longer)) (g.same r.0 r.1 ∙ r.2)
 
 pub all_stay : (row xs ys : List ℕ) → Grows xs ys → AreIn row xs → AreIn row ys
 all_stay row xs ys g h = λ i k. stays (get_or row i 0) xs ys g (h i k)
-
-in_end : (number : ℕ) (xs : List ℕ) → is_in number (xs ++ number ∷ []) ≡ true
-in_end number xs = in_at number (xs ++ number ∷ []) (length xs) (omega (arith, length-append xs (number ∷ []))) (at_end xs)
-  where
-    at_end : (xs : List ℕ) → get_or (xs ++ number ∷ []) (length xs) 0 ≡ number
-    at_end [] = refl
-    at_end (x ∷ xs) = at_end xs
-
-pub mark_there : (number : ℕ) (xs : List ℕ) → is_in number (with_mark number xs) ≡ true
-mark_there number xs = (elim (is_in number xs) as (λ b. is_in number xs ≡ b → is_in number (cond b xs (xs ++ number ∷ [])) ≡ true) [ true ↦ λ e. e | false ↦ λ e. in_end number xs ]) refl
 
 pub few_mark : (number : ℕ) (xs : List ℕ) → length (with_mark number xs) ≤ length xs + 1
 few_mark number xs = elim (is_in number xs) as (λ b. length (cond b xs (xs ++ number ∷ [])) ≤ length xs + 1) [ true ↦ omega arith | false ↦ omega (arith, length-append xs (number ∷ [])) ]

@@ -4,17 +4,17 @@ use Rattle.sg_base.specs.MarkSet.{is_in}
 use Rattle.sg_chains.specs.Chained.{users_on}
 use Rattle.sg_maxmin.specs.Fill.{Flow, level_of}
 use Rattle.sg_maxmin.specs.Sharing.{Sharing, IsSound, held}
-use Rattle.sg_levels.specs.Numbered.{below_at, flow_in, level_at, row_level, when_below}
-use Rattle.sg_levels.specs.Held.{AreFilled, IsHold}
-use Rattle.sg_levels.proofs.Changing.{hold_is_local_lem}
-use Rattle.sg_levels.proofs.Converse.{full_holds_lem, others_hold_none_lem}
-use Rattle.sg_levels.proofs.HeldLevels.{row_same}
+use Rattle.sg_maxmin.specs.Numbered.{below_at, flow_in, level_at, row_level, when_below}
+use Rattle.sg_maxmin.specs.Held.{AreFilled, IsHold}
+use Rattle.sg_maxmin.proofs.OneHold.{hold_is_local_lem}
+use Rattle.sg_maxmin.proofs.Converse.{full_holds_lem, others_hold_none_lem}
+use Rattle.sg_maxmin.proofs.HeldLevels.{row_same}
 use Rattle.sg_filling.specs.declared.filling.Filling.{Filling}
 use Rattle.sg_filling.specs.Filling.{AreJoined, AreLeveled, fixed_at, flows_at}
 use Rattle.sg_filling.specs.Holds.{AreNoted, IsNoted}
-use Rattle.sg_filling.proofs.Growing.{at_in}
 use Rattle.sg_filling.proofs.Joined.{level_whole, user_there}
-use Rattle.sg_filling.proofs.Rows.{flow_in_is, in_is, on_held}
+use Rattle.sg_maxmin.proofs.Listed.{at_in}
+use Rattle.sg_maxmin.proofs.Users.{flow_in_is, in_is, on_held}
 
 -- the levels of all flows
 whole_levels : Sharing → List (Option ℕ)

@@ -13,15 +13,15 @@ use Rattle.sg_maxmin.proofs.OneStep.{limit_bound, limit_cases, limit_level}
 use Rattle.sg_maxmin.proofs.Proved.{limited_from}
 use Rattle.sg_maxmin.proofs.Same.{IsPart, leveled_same}
 use Rattle.sg_maxmin.proofs.Sums.{sum_by_same}
-use Rattle.sg_levels.specs.Numbered.{flow_in, row_level}
-use Rattle.sg_levels.proofs.HeldLevels.{held_limits}
-use Rattle.sg_levels.proofs.OnRow.{by_row, row_tells_lem, sum_weighed}
+use Rattle.sg_maxmin.specs.Numbered.{flow_in, row_level}
+use Rattle.sg_maxmin.proofs.HeldLevels.{held_limits}
+use Rattle.sg_maxmin.proofs.OnRow.{by_row, row_tells_lem, sum_weighed}
 use Rattle.sg_filling.specs.Filling.{AreJoined, flows_at}
-use Rattle.sg_filling.proofs.Growing.{at_in}
-use Rattle.sg_filling.proofs.Listing.{bool_cases, some_of}
-use Rattle.sg_filling.proofs.Rows.{flow_in_is, held_below, in_is, into, is_in_In, on_below, on_held, rows_once, same_in, uses_in_row}
+use Rattle.sg_filling.proofs.Rows.{into, uses_in_row}
 use Rattle.sg_filling.proofs.Starts.{part_limits}
-use Rattle.sg_filling.proofs.Stepped.{sum_by-map, times-once}
+use Rattle.sg_filling.proofs.Stepped.{sum_by-map}
+use Rattle.sg_maxmin.proofs.Listed.{at_in, bool_cases, same_in, some_of, times-once}
+use Rattle.sg_maxmin.proofs.Users.{flow_in_is, held_below, in_is, is_in_In, on_below, on_held, rows_once}
 
 -- ---- in a part a flow has the level that it has in the whole
 and_cond : (a b : Bool) (n : ℕ) → cond (a && b) n 0 ≡ cond a (cond b n 0) 0

@@ -8,13 +8,15 @@ use Rattle.sg_maxmin.specs.Sharing.{Sharing, uses_at}
 use Rattle.sg_maxmin.proofs.Members.{In, In-from_contains, contains_from_In, In-flat_map, In-flat_map_back}
 use Rattle.sg_filling.specs.declared.filling.Filling.{Filling}
 use Rattle.sg_filling.specs.Dates.{AreDated, AreRenewed, AreRight, HaveKeys, HaveNone, IsIdle, StayDated, key_where}
-use Rattle.sg_levels.specs.Numbered.{flow_in, weight_at}
-use Rattle.sg_filling.specs.Filling.{AreCounted, AreFixed, AreJoined, HasPlaces, IsLeast, MayStep, StepsPartly, fixed_at, limits_at, waited_levels, waits_with}
-use Rattle.sg_filling.proofs.Growing.{grows_mark, in_at, mark_there, stays}
-use Rattle.sg_filling.proofs.Listing.{bool_cases, eq_cases}
-use Rattle.sg_filling.proofs.Rows.{into, is_in_In, none_some, same_in, some_same}
+use Rattle.sg_maxmin.specs.Numbered.{flow_in, weight_at}
+use Rattle.sg_maxmin.specs.Step.{IsLeast}
+use Rattle.sg_filling.specs.Filling.{AreCounted, AreFixed, AreJoined, HasPlaces, MayStep, StepsPartly, fixed_at, limits_at, waited_levels, waits_with}
+use Rattle.sg_filling.proofs.Growing.{grows_mark, stays}
+use Rattle.sg_filling.proofs.Rows.{into}
 use Rattle.sg_filling.proofs.Fixing.{may_stay}
 use Rattle.sg_filling.proofs.Waited.{there_waits}
+use Rattle.sg_maxmin.proofs.Listed.{bool_cases, eq_cases, in_at, mark_there, none_some, same_in, some_same}
+use Rattle.sg_maxmin.proofs.Users.{is_in_In}
 
 -- ---- keys
 pub key_within : (keys : List (Option Key)) (c : ℕ) → IsSome (key_at keys c) → c < length keys

@@ -6,16 +6,16 @@ use Rattle.sg_base.specs.MarkSet.{is_in}
 use Rattle.sg_chains.specs.Chained.{times}
 use Rattle.sg_maxmin.specs.Sharing.{Sharing, uses_at}
 use Rattle.sg_maxmin.proofs.Members.{In}
-use Rattle.sg_levels.specs.Numbered.{flow_in, weight_at}
+use Rattle.sg_maxmin.specs.Numbered.{flow_in, weight_at}
 use Rattle.sg_filling.specs.declared.filling.Filling.{Filling}
 use Rattle.sg_filling.specs.declared.filling.Low.{Low}
 use Rattle.sg_filling.specs.Dates.{HaveNone}
-use Rattle.sg_filling.specs.Filling.{AreCounted, ArePart, IsLeast, IsStepped, fixed_at, limits_at, waits_with}
+use Rattle.sg_maxmin.specs.Step.{IsLeast, IsStepped}
+use Rattle.sg_filling.specs.Filling.{AreCounted, ArePart, fixed_at, limits_at, waits_with}
 use Rattle.sg_filling.specs.Holds.{FixesRest, IsAtLevel, IsLast}
 use Rattle.sg_filling.proofs.Fixing.{level_in}
-use Rattle.sg_filling.proofs.Growing.{in_at}
-use Rattle.sg_filling.proofs.Rows.{is_in_In, rows_once, weighs}
-use Rattle.sg_filling.proofs.Stepped.{times-once}
+use Rattle.sg_maxmin.proofs.Listed.{in_at, times-once}
+use Rattle.sg_maxmin.proofs.Users.{is_in_In, rows_once, weighs}
 
 sum_most : (f h : ℕ → ℕ) (xs : List ℕ) → ((x : ℕ) → f x ≤ h x) → sum_by f xs ≤ sum_by h xs
 sum_most f h [] most = omega arith

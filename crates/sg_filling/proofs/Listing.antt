@@ -1,19 +1,9 @@
 -- Cases, members of lists, and sets of numbers that grow.
-use Rattle.std.proofs.Common.{◌+◌, ◌≡◌, ◌≢◌, ℕ, zero, suc, ◌⊎◌, inl, inr, Bool, true, false, true≢false, Option, None, Some, IsSome, List, [], ◌∷◌, ◌++◌, map, length, get_or, refl, sym, ap, ◌∙◌, arith}
+use Rattle.std.proofs.Common.{◌+◌, ◌≡◌, ◌≢◌, ℕ, zero, suc, inl, inr, false, true≢false, List, [], ◌∷◌, ◌++◌, map, length, get_or, refl, sym, ap, ◌∙◌, arith}
 use Rattle.sg_maxmin.proofs.Members.{In}
 use Rattle.sg_base.specs.MarkSet.{is_in, with_mark}
 use Rattle.sg_filling.proofs.Growing.{stays, mark_cases, grows_mark}
-
-pub eq_cases : (a b : ℕ) → (a ≡ b) ⊎ (a ≢ b)
-eq_cases a b = grind arith
-
-pub bool_cases : (b : Bool) → (b ≡ true) ⊎ (b ≡ false)
-bool_cases true = inl refl
-bool_cases false = inr refl
-
-pub some_of : {X : Type 0} (o : Option X) → IsSome o → (x : X) × (o ≡ Some x)
-some_of None h = absurd (true≢false (sym h))
-some_of (Some x) h = (x, refl)
+use Rattle.sg_maxmin.proofs.Listed.{bool_cases}
 
 pub is_in_other : (other number : ℕ) (xs : List ℕ) → other ≢ number → is_in other (with_mark number xs) ≡ is_in other xs
 is_in_other other number xs ne = elim (bool_cases (is_in other xs)) [

@@ -7,18 +7,19 @@ use Rattle.sg_maxmin.specs.Fill.{Fixed, Flow, step}
 use Rattle.sg_maxmin.specs.Sharing.{Sharing, uses_at}
 use Rattle.sg_maxmin.proofs.Members.{In, In-flat_map, In-flat_map_back, In-from_contains, In-map, contains_from_In}
 use Rattle.sg_maxmin.proofs.Rises.{limits_rise}
-use Rattle.sg_levels.specs.Numbered.{below_at, flow_in, row_level, row_taken, row_waiting, when_below}
-use Rattle.sg_levels.proofs.HeldLevels.{at_no, at_yes, row_same, waits_one}
+use Rattle.sg_maxmin.specs.Numbered.{below_at, flow_in, row_level, row_taken, row_waiting, when_below}
+use Rattle.sg_maxmin.proofs.HeldLevels.{at_no, at_yes, row_same, waits_one}
 use Rattle.sg_filling.specs.declared.filling.Filling.{Filling}
-use Rattle.sg_filling.specs.Filling.{AreCounted, AreJoined, AreLevels, IsLeast, IsStepped, fixed_at, flows_at, limits_at, unfixed_limits}
+use Rattle.sg_maxmin.specs.Step.{IsLeast, IsStepped}
+use Rattle.sg_filling.specs.Filling.{AreCounted, AreJoined, AreLevels, fixed_at, flows_at, limits_at, unfixed_limits}
 use Rattle.sg_filling.specs.Holds.{AreFresh, AreNoted, AreUnder, NotesHolds}
 use Rattle.sg_filling.proofs.Fixing.{level_in}
-use Rattle.sg_filling.proofs.Growing.{at_in, in_at}
 use Rattle.sg_filling.proofs.Joined.{row_is, user_there}
 use Rattle.sg_filling.proofs.Keyed.{nobody_waits}
-use Rattle.sg_filling.proofs.Listing.{eq_cases}
-use Rattle.sg_filling.proofs.Rows.{in_is, into, is_in_In, none_some, rows_once, same_in, some_same, weighs}
+use Rattle.sg_filling.proofs.Rows.{into}
 use Rattle.sg_filling.proofs.Stepped.{level_is, limits_are, lowest_is}
+use Rattle.sg_maxmin.proofs.Listed.{at_in, eq_cases, in_at, none_some, same_in, some_same}
+use Rattle.sg_maxmin.proofs.Users.{in_is, is_in_In, rows_once, weighs}
 
 none_below : (x : ℕ) → when_below None x ≡ None
 unfolding when_below

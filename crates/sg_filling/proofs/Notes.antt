@@ -9,8 +9,8 @@ use Rattle.sg_filling.specs.Filling.{fixed_at}
 use Rattle.sg_filling.specs.Component.{lengths}
 use Rattle.sg_filling.specs.Holds.{MayHold, NotesHolds, noted_at, untaken, users_at}
 use Rattle.sg_filling.proofs.Fixing.{sum_one}
-use Rattle.sg_filling.proofs.Listing.{eq_cases}
-use Rattle.sg_filling.proofs.Rows.{is_in_In}
+use Rattle.sg_maxmin.proofs.Listed.{eq_cases}
+use Rattle.sg_maxmin.proofs.Users.{is_in_In}
 
 pub may_on : (low level : ℕ) (a b c : Option ℕ) → MayHold low level a b → MayHold low level b c → MayHold low level a c
 may_on low level a b c p (inr q) = inr q

@@ -11,19 +11,21 @@ use Rattle.sg_maxmin.specs.Sharing.{Sharing, uses_at}
 use Rattle.sg_maxmin.proofs.Members.{In, In-append_cases, In-append_left, In-append_right, In-from_contains, In-map, In-map_back, contains_from_In}
 use Rattle.sg_maxmin.proofs.OneStep.{limit_bound, limit_cases, limit_level, lowest_in, lowest_le, step_at}
 use Rattle.sg_maxmin.proofs.Proved.{level_fixed}
-use Rattle.sg_levels.proofs.HeldLevels.{at_no}
-use Rattle.sg_levels.proofs.Walked.{IsWalk, looked, over}
-use Rattle.sg_levels.specs.Numbered.{below_at, bound_at, flow_in, row_level, row_taken, row_waiting, weight_at}
+use Rattle.sg_maxmin.proofs.HeldLevels.{at_no}
+use Rattle.sg_maxmin.proofs.Walked.{IsWalk, looked, over}
+use Rattle.sg_maxmin.specs.Numbered.{below_at, bound_at, flow_in, row_level, row_taken, row_waiting, weight_at}
 use Rattle.sg_filling.specs.declared.component.Component.{Component}
 use Rattle.sg_filling.specs.Alone.{IsAlone, alone_limits, whole_level}
 use Rattle.sg_filling.specs.Component.{IsClosedBy, MarksRow, Spreads}
-use Rattle.sg_filling.specs.Filling.{AreJoined, IsLeast, bound_limit, fixed_at, flows_at}
+use Rattle.sg_maxmin.specs.Step.{IsLeast}
+use Rattle.sg_filling.specs.Filling.{AreJoined, bound_limit, fixed_at, flows_at}
 use Rattle.sg_filling.specs.Holds.{IsNoted}
 use Rattle.sg_filling.proofs.Filled.{or_cases, or_left, or_right}
-use Rattle.sg_filling.proofs.Growing.{all_stay, at_in, in_at}
+use Rattle.sg_filling.proofs.Growing.{all_stay}
 use Rattle.sg_filling.proofs.Joined.{row_is}
-use Rattle.sg_filling.proofs.Listing.{bool_cases}
-use Rattle.sg_filling.proofs.Rows.{any_default, in_is, into, none_some, same_in, some_same}
+use Rattle.sg_filling.proofs.Rows.{any_default, into}
+use Rattle.sg_maxmin.proofs.Listed.{at_in, bool_cases, in_at, none_some, same_in, some_same}
+use Rattle.sg_maxmin.proofs.Users.{in_is}
 
 -- ---- a row of one
 single : (row : List ℕ) (x : ℕ) → 0 < length row → length row ≤ 1 → x ≡ get_or row 0 0 → row ≡ x ∷ []

@@ -1,5 +1,5 @@
 -- A pass over distinct flows changes what follows it no more.
-use Rattle.std.proofs.Common.{◌≡◌, ◌≢◌, ℕ, zero, suc, ◌+◌, ◌<◌, ◌≤◌, List, Option, [], ◌∷◌, length, get_or, take, sum_by, AllPairs, length-take, refl, sym, ap, ◌∙◌, arith}
+use Rattle.std.proofs.Common.{◌≡◌, ◌≢◌, ℕ, suc, ◌+◌, ◌<◌, List, Option, [], ◌∷◌, length, get_or, take, sum_by, AllPairs, length-take, refl, sym, ap, ◌∙◌, arith}
 use Rattle.std.proofs.lemmas.List.{take_more}
 use Rattle.std.proofs.Math.Seq.{get_or-take}
 use Rattle.std.proofs.lemmas.List.Sums.{sum_by-append, sum_by-cons}
@@ -20,15 +20,3 @@ sum_next part before after flows k h once others =
     let at = get_or-take k flows i 0 m in
     ap (λ o. part o (get_or (take k flows) i 0)) (others (get_or (take k flows) i 0) (λ e. once i k 0 m h (sym at ∙ e)))) in
     ap (sum_by new) (take_more flows k 0 h) ∙ omega (arith, sum_by-append new (take k flows) (get_or flows k 0 ∷ []), sum_by-cons new (get_or flows k 0) [], same)
-
--- a sum over the first ones, and the next one's part, are no more than the whole
-pub part_le : (f : ℕ → ℕ) (xs : List ℕ) (k : ℕ) → k < length xs → sum_by f (take k xs) + f (get_or xs k 0) ≤ sum_by f xs
-part_le f [] k h = absurd (omega arith)
-part_le f (x ∷ xs) zero h = omega (arith, sum_by-cons f x xs, nothing)
-  where
-    nothing : sum_by f [] ≡ 0
-    nothing = refl
-part_le f (x ∷ xs) (suc k) h = omega (arith, sum_by-cons f x (take k xs), sum_by-cons f x xs, part_le f xs k (omega arith))
-
-pub part_next : (f : ℕ → ℕ) (xs : List ℕ) (k : ℕ) → k < length xs → sum_by f (take (k + 1) xs) ≡ sum_by f (take k xs) + f (get_or xs k 0)
-part_next f xs k h = ap (sum_by f) (take_more xs k 0 h) ∙ omega (arith, sum_by-append f (take k xs) (get_or xs k 0 ∷ []), sum_by-cons f (get_or xs k 0) [])

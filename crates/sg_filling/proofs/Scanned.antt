@@ -6,9 +6,10 @@ use Rattle.sg_filling.specs.declared.filling.Filling.{Filling}
 use Rattle.sg_filling.specs.declared.filling.Least.{Least}
 use Rattle.sg_filling.specs.declared.filling.Low.{Low}
 use Rattle.sg_filling.specs.declared.filling.Span.{Span}
-use Rattle.sg_filling.specs.Filling.{AreAmong, AreTaken, IsLeast, IsNext, IsNextOf, IsUpTo, least_with, level_where, waited_levels}
-use Rattle.sg_filling.proofs.Rows.{none_some, some_same}
+use Rattle.sg_maxmin.specs.Step.{IsLeast, least_with}
+use Rattle.sg_filling.specs.Filling.{AreAmong, AreTaken, IsNext, IsNextOf, IsUpTo, level_where, waited_levels}
 use Rattle.sg_filling.proofs.Waited.{level_more}
+use Rattle.sg_maxmin.proofs.Listed.{none_some, some_same}
 
 -- what is known after the first k places
 pub record IsScanned (reached waiting levels : List ℕ) (k : ℕ) (least : Least) : Type 0 where

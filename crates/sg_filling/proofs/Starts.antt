@@ -4,7 +4,7 @@ use Rattle.std.specs.List.{list_any}
 use Rattle.std.proofs.lemmas.List.Sums.{sum_by-cons}
 use Rattle.std.proofs.lemmas.List.Elements.{All-get_or}
 use Rattle.sg_base.specs.MarkSet.{is_in}
-use Rattle.sg_maxmin.specs.Fill.{Flow, is_on, share_of}
+use Rattle.sg_maxmin.specs.Fill.{Flow, is_on, share_of, share_of_fixed}
 use Rattle.sg_maxmin.specs.Laws.{HaveLimits}
 use Rattle.sg_chains.specs.Chained.{times}
 use Rattle.sg_maxmin.specs.Sharing.{Sharing, HasLimit, uses_at, flow_at}
@@ -13,12 +13,11 @@ use Rattle.sg_maxmin.proofs.Sums.{le-sum_by}
 use Rattle.sg_maxmin.proofs.Rises.{is_on_uses}
 use Rattle.sg_maxmin.proofs.Proved.{is_fair_lem}
 use Rattle.sg_filling.specs.Component.{Covers}
-use Rattle.sg_levels.specs.Numbered.{flow_in, weight_at}
-use Rattle.sg_filling.specs.Filling.{AreCounted, ArePart, IsMoreBy, fixed_at, flows_at, given, taken_on, waiting_on, waits_with, weight_of, weight_on}
-use Rattle.sg_filling.proofs.Growing.{at_in, in_at}
-use Rattle.sg_filling.proofs.Listing.{bool_cases, some_of}
-use Rattle.sg_filling.proofs.Rows.{few_held, flow_in_is, into, in_is, rows_once, weighs}
-use Rattle.sg_filling.proofs.Stepped.{times-once}
+use Rattle.sg_maxmin.specs.Numbered.{flow_in, weight_at}
+use Rattle.sg_filling.specs.Filling.{AreCounted, ArePart, IsMoreBy, fixed_at, flows_at, taken_on, waiting_on, waits_with, weight_of, weight_on}
+use Rattle.sg_filling.proofs.Rows.{few_held, into}
+use Rattle.sg_maxmin.proofs.Listed.{at_in, bool_cases, in_at, some_of, times-once}
+use Rattle.sg_maxmin.proofs.Users.{flow_in_is, in_is, rows_once, weighs}
 
 sum-at : (f h : ℕ → ℕ) (xs : List ℕ) → ((i : ℕ) → i < length xs → f (get_or xs i 0) ≤ h (get_or xs i 0)) → sum_by f xs ≤ sum_by h xs
 sum-at f h [] e = omega arith
@@ -99,8 +98,8 @@ module _ (s : Sharing) (touched reached : List ℕ) (part : ArePart s touched) (
       nil n k = omega arith
 
       none_taken : (c : ℕ) → taken_on s.slots fixed touched c ≡ 0
-      none_taken c = le_both (subst (λ n. taken_on s.slots fixed touched c ≤ n) (sum-each 0 touched ∙ nil (length touched) 0) (sum-at (λ id. times c (uses_at s.slots id) * given (flow_in s.slots id) (fixed_at fixed id)) (λ id. 0) touched
-          (λ i h. let id = get_or touched i 0 in subst (λ (o : Option ℕ). times c (uses_at s.slots id) * given (flow_in s.slots id) o ≤ 0) (sym (none i h)) (omega arith)))) (omega arith)
+      none_taken c = le_both (subst (λ n. taken_on s.slots fixed touched c ≤ n) (sum-each 0 touched ∙ nil (length touched) 0) (sum-at (λ id. times c (uses_at s.slots id) * share_of_fixed (flow_in s.slots id) (fixed_at fixed id)) (λ id. 0) touched
+          (λ i h. let id = get_or touched i 0 in subst (λ (o : Option ℕ). times c (uses_at s.slots id) * share_of_fixed (flow_in s.slots id) o ≤ 0) (sym (none i h)) (omega arith)))) (omega arith)
 
       all_wait : (c : ℕ) → waiting_on s.slots fixed touched c ≡ weight_of s.slots touched c
       all_wait c = le_both

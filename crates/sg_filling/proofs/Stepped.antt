@@ -1,6 +1,5 @@
 -- The passes of one step over the touched flows are a step of the max-min solve.
-use Rattle.std.proofs.Common.{◌≡◌, ◌≢◌, ℕ, suc, ◌+◌, ◌-◌, ◌*◌, ◌/◌, ◌<◌, ◌≤◌, inl, inr, Bool, true, false, cond, ◌&&◌, eqb, eq-eqb, ne_eqb, is_none, Option, None, Some, option_map, option_to_list, List, [], ◌∷◌, ◌++◌, map, filter, flat_map, length, get_or, sum_by, AllPairs, refl, sym, ap, ap₂, subst, ◌∙◌, arith}
-use Rattle.std.specs.List.{list_any}
+use Rattle.std.proofs.Common.{◌≡◌, ◌≢◌, ℕ, ◌+◌, ◌-◌, ◌*◌, ◌/◌, ◌≤◌, inl, inr, Bool, true, false, cond, ◌&&◌, is_none, Option, None, Some, option_map, option_to_list, List, [], ◌∷◌, ◌++◌, map, filter, flat_map, get_or, sum_by, AllPairs, refl, sym, ap, ap₂, subst, ◌∙◌, arith}
 use Rattle.std.proofs.lemmas.List.Sums.{sum_by-cons}
 use Rattle.sg_maxmin.specs.Fill.{Flow, Fixed, share_of_fixed, bound_level, is_on, taken, waiting, level, limits, least, lowest, step}
 use Rattle.sg_chains.specs.Chained.{times}
@@ -8,35 +7,14 @@ use Rattle.sg_maxmin.specs.Sharing.{Sharing, uses_at}
 use Rattle.sg_maxmin.proofs.Members.{In, In-map, In-from_contains, contains_from_In}
 use Rattle.sg_maxmin.proofs.Sums.{sum_by_same}
 use Rattle.sg_maxmin.proofs.OneStep.{least_le, least_in, lowest_le, step_fixed, step_at, was, gets, waits, step_cases}
-use Rattle.sg_levels.specs.Numbered.{bound_at, flow_in, weight_at}
-use Rattle.sg_filling.specs.Filling.{AreCounted, IsLeast, IsStepped, fixed_at, flows_at, given, limits_at, taken_on, unfixed_limits, waiting_on, waits_with}
-use Rattle.sg_filling.proofs.Listing.{eq_cases}
+use Rattle.sg_maxmin.specs.Numbered.{bound_at, flow_in, weight_at}
+use Rattle.sg_maxmin.specs.Step.{IsLeast, IsStepped}
+use Rattle.sg_filling.specs.Filling.{AreCounted, fixed_at, flows_at, limits_at, taken_on, unfixed_limits, waiting_on, waits_with}
+use Rattle.sg_maxmin.proofs.Listed.{times-once}
 
 pub sum_by-map : {X Y : Type 0} (h : Y → ℕ) (f : X → Y) (xs : List X) → sum_by h (map f xs) ≡ sum_by (λ x. h (f x)) xs
 sum_by-map h f [] = refl
 sum_by-map h f (x ∷ xs) = sum_by-cons h (f x) (map f xs) ∙ ap (λ s. h (f x) + s) (sum_by-map h f xs) ∙ sym (sum_by-cons (λ y. h (f y)) x xs)
-
-times-cons : (c x : ℕ) (xs : List ℕ) → times c (x ∷ xs) ≡ cond (eqb x c) 1 0 + times c xs
-times-cons c x xs = sum_by-cons (λ d. cond (eqb d c) 1 0) x xs
-
--- if each resource stands once, it is counted once
-pub times-once : (xs : List ℕ) (c : ℕ) → AllPairs (λ a b. a ≢ b) xs → times c xs ≡ cond (list_any (λ d. eqb d c) xs) 1 0
-times-once [] c h = refl
-times-once (x ∷ xs) c h =
-    let rest = times-once xs c (λ i j d a b. h (suc i) (suc j) d (omega (arith, a)) (omega (arith, b))) in
-    elim (eq_cases x c) [
-      | inl e ↦
-          let none : times c xs ≡ 0 = count_none xs (λ k in' z. h 0 (suc k) 0 (omega arith) (omega (arith, in')) (e ∙ sym z)) in
-          rw (times-cons c x xs, none, eq-eqb x c e) refl
-      | inr ne ↦ rw (times-cons c x xs, ne_eqb x c ne) (plus rest)
-    ]
-  where
-    plus : {b : ℕ} → times c xs ≡ b → 0 + times c xs ≡ b
-    plus e = omega (arith, e)
-
-    count_none : (ys : List ℕ) → ((k : ℕ) → k < length ys → get_or ys k 0 ≡ c → ⊥) → times c ys ≡ 0
-    count_none [] none = refl
-    count_none (y ∷ ys) none = omega (arith, times-cons c y ys, ap {B = ℕ} (λ b. cond b 1 0) (ne_eqb y c (λ e. none 0 (omega arith) e)), count_none ys (λ k in' e. none (suc k) (omega (arith, in')) e))
 
 both_cond : (b d : Bool) (w : ℕ) → cond (b && d) w 0 ≡ cond b 1 0 * cond d w 0
 both_cond true true w = omega arith
@@ -48,7 +26,7 @@ times_cond : (b : Bool) (x : ℕ) → cond b x 0 ≡ cond b 1 0 * x
 times_cond true x = omega arith
 times_cond false x = omega arith
 
-given_is : (flow : Flow) (o : Option ℕ) → share_of_fixed flow o ≡ given flow o
+given_is : (flow : Flow) (o : Option ℕ) → share_of_fixed flow o ≡ share_of_fixed flow o
 given_is flow None = refl
 given_is flow (Some level) = refl
 
@@ -77,9 +55,9 @@ module _ (s : Sharing) (fixed : List (Option ℕ)) (touched : List ℕ) (state :
   unfolding taken
   taken_is c =
       sum_by-map (λ flow. cond (is_on c flow) (share_of_fixed flow (state flow)) 0) (flow_in s.slots) touched
-      ∙ sum_by_same (λ f. cond (is_on c (flow_in s.slots f)) (share_of_fixed (flow_in s.slots f) (state (flow_in s.slots f))) 0) (λ f. times c (uses_at s.slots f) * given (flow_in s.slots f) (fixed_at fixed f)) touched
+      ∙ sum_by_same (λ f. cond (is_on c (flow_in s.slots f)) (share_of_fixed (flow_in s.slots f) (state (flow_in s.slots f))) 0) (λ f. times c (uses_at s.slots f) * share_of_fixed (flow_in s.slots f) (fixed_at fixed f)) touched
       (λ f i. times_cond (is_on c (flow_in s.slots f)) (share_of_fixed (flow_in s.slots f) (state (flow_in s.slots f)))
-      ∙ ap₂ (λ n x. n * x) (sym (times-once (uses_at s.slots f) c (once f i))) (given_is (flow_in s.slots f) (state (flow_in s.slots f)) ∙ ap (given (flow_in s.slots f)) (are f i)))
+      ∙ ap₂ (λ n x. n * x) (sym (times-once (uses_at s.slots f) c (once f i))) (given_is (flow_in s.slots f) (state (flow_in s.slots f)) ∙ ap (share_of_fixed (flow_in s.slots f)) (are f i)))
 
   waiting_is : (c : ℕ) → waiting flows state c ≡ waiting_on s.slots fixed touched c
   unfolding waiting

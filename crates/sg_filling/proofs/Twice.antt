@@ -5,7 +5,7 @@ use Rattle.sg_base.specs.MarkSet.{is_in}
 use Rattle.sg_filling.specs.Component.{AreIn}
 use Rattle.sg_chains.specs.Chained.{times}
 use Rattle.sg_filling.specs.Counts.{CountsTwice}
-use Rattle.sg_filling.proofs.Growing.{in_at}
+use Rattle.sg_maxmin.proofs.Listed.{in_at}
 
 -- one more element
 times-cons : (number x : ℕ) (xs : List ℕ) → times number (x ∷ xs) ≡ cond (eqb x number) 1 0 + times number xs

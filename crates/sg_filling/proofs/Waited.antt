@@ -6,11 +6,13 @@ use Rattle.sg_chains.specs.Chained.{times}
 use Rattle.sg_maxmin.specs.Sharing.{Sharing, uses_at}
 use Rattle.sg_maxmin.proofs.Members.{In, In-from_contains, contains_from_In, In-append_left, In-append_right, In-append_cases, In-map, In-map_back, In-flat_map, In-flat_map_back}
 use Rattle.sg_maxmin.proofs.Sums.{le-sum_by}
-use Rattle.sg_levels.specs.Numbered.{flow_in, weight_at}
-use Rattle.sg_filling.specs.Filling.{AreCounted, AreJoined, IsLeast, bound_limit, fixed_at, least_with, level_where, limits_at, unfixed_bounds, unfixed_limits, waited_levels, waiting_on, waits_with}
-use Rattle.sg_filling.proofs.Listing.{bool_cases, eq_cases}
-use Rattle.sg_filling.proofs.Rows.{in_is, into, is_in_In, times_in, times_out, weighs}
-use Rattle.sg_filling.proofs.Walked.{least_push}
+use Rattle.sg_maxmin.specs.Numbered.{flow_in, weight_at}
+use Rattle.sg_maxmin.specs.Step.{IsLeast, least_with}
+use Rattle.sg_filling.specs.Filling.{AreCounted, AreJoined, bound_limit, fixed_at, level_where, limits_at, unfixed_bounds, unfixed_limits, waited_levels, waiting_on, waits_with}
+use Rattle.sg_filling.proofs.Rows.{into}
+use Rattle.sg_maxmin.proofs.Listed.{bool_cases, eq_cases, times_in, times_out}
+use Rattle.sg_maxmin.proofs.Users.{in_is, is_in_In, weighs}
+use Rattle.sg_maxmin.proofs.Least.{least_push}
 
 -- lists with the same members have the same least one
 least_same : (o : Option ℕ) (xs ys : List ℕ) → ((x : ℕ) → In x xs → In x ys) → ((x : ℕ) → In x ys → In x xs) → IsLeast o xs → IsLeast o ys

@@ -3,8 +3,9 @@ use Rattle.std.specs.Prelude.{◌≡◌, ℕ, ◌/◌, true, Some, option_to_lis
 use Rattle.sg_base.specs.MarkSet.{is_in}
 use Rattle.sg_chains.specs.Chained.{users_on}
 use Rattle.sg_maxmin.specs.Sharing.{Sharing, uses_at}
-use Rattle.sg_levels.specs.Numbered.{weight_at}
-use Rattle.sg_filling.specs.Filling.{IsLeast, bound_limit}
+use Rattle.sg_maxmin.specs.Numbered.{weight_at}
+use Rattle.sg_maxmin.specs.Step.{IsLeast}
+use Rattle.sg_filling.specs.Filling.{bound_limit}
 
 -- the level of a resource that no other flow uses
 abbrev pub whole_level : Sharing → ℕ → ℕ → ℕ

@@ -1,12 +1,13 @@
 -- A max-min solve of the touched flows, by their numbers.
-use Rattle.std.specs.Prelude.{◌≡◌, ◌≢◌, ℕ, ◌+◌, ◌-◌, ◌*◌, ◌/◌, ◌<◌, ◌≤◌, ◌==◌, ◌⊎◌, Bool, true, false, AllPairs, Option, None, Some, IsSome, is_none, option_map, option_to_list, if◌then◌else◌, List, [], ◌∷◌, ◌++◌, map, flat_map, length, sum_by, min, All, Contains, slice_index, slice_index_or, slice_set}
-use Rattle.sg_maxmin.specs.Fill.{Flow, share_at, bound_level, level_of}
+use Rattle.std.specs.Prelude.{◌≡◌, ◌≢◌, ℕ, ◌+◌, ◌-◌, ◌*◌, ◌/◌, ◌<◌, ◌≤◌, ◌==◌, ◌⊎◌, Bool, true, false, AllPairs, Option, None, Some, IsSome, is_none, option_to_list, if◌then◌else◌, List, [], ◌∷◌, ◌++◌, map, flat_map, length, sum_by, All, Contains, slice_index, slice_index_or, slice_set}
+use Rattle.sg_maxmin.specs.Fill.{Flow, share_at, share_of_fixed, level_of}
 use Rattle.sg_chains.specs.Chained.{times}
 use Rattle.sg_maxmin.specs.Sharing.{Sharing, IsSound, flow_at, uses_at}
 use Rattle.sg_base.specs.MarkSet.{is_in}
 use Rattle.sg_heap.specs.Agenda.{key_at}
 use Rattle.sg_chains.specs.Chained.{users_on}
-use Rattle.sg_levels.specs.Numbered.{bound_at, flow_in, weight_at}
+use Rattle.sg_maxmin.specs.Numbered.{bound_of, flow_in, weight_at}
+use Rattle.sg_maxmin.specs.Step.{IsLeast, IsStepped}
 use Rattle.sg_filling.specs.declared.filling.Filling.{Filling}
 use Rattle.sg_filling.specs.declared.filling.Least.{Least}
 use Rattle.sg_filling.specs.declared.filling.Low.{Low}
@@ -22,41 +23,23 @@ flows_at slots touched = map (flow_in slots) touched
 abbrev pub fixed_at : List (Option ℕ) → ℕ → Option ℕ
 fixed_at fixed id = slice_index_or fixed id None
 
--- what a flow gets that is fixed, or isn't yet
-abbrev pub given : Flow → Option ℕ → ℕ
-given flow None = 0
-given flow (Some level) = share_at flow level
-
-abbrev pub given_at : List (Option Flow) → List (Option ℕ) → ℕ → ℕ
-given_at slots fixed id = given (flow_in slots id) (fixed_at fixed id)
-
 -- the weight with which a flow waits
 abbrev pub waits_with : Flow → Option ℕ → ℕ
 waits_with flow fixed = if is_none fixed then flow.weight else 0
 
+-- the level of a flow's bound
+abbrev pub bound_limit : List (Option Flow) → ℕ → Option ℕ
+bound_limit slots id = bound_of (flow_in slots id)
+
 -- what limits a flow
 abbrev pub limits_at : List (Option Flow) → List ℕ → ℕ → List ℕ
-limits_at slots levels id = option_to_list (option_map (bound_level (weight_at slots id)) (bound_at slots id)) ++ map (slice_index levels) (uses_at slots id)
+limits_at slots levels id = option_to_list (bound_limit slots id) ++ map (slice_index levels) (uses_at slots id)
 
 -- what limits the unfixed flows
 abbrev pub unfixed_limits : List (Option Flow) → List (Option ℕ) → List ℕ → List ℕ → List ℕ
 unfixed_limits slots fixed levels touched = flat_map (λ id. if is_none (fixed_at fixed id) then limits_at slots levels id else []) touched
 
--- the least of the list, or none if it is empty
-abbrev pub IsLeast : Option ℕ → List ℕ → Type 0
-IsLeast None list = list ≡ []
-IsLeast (Some least) list = Contains list least × ((x : ℕ) → Contains list x → least ≤ x)
-
-abbrev pub least_with : Option ℕ → ℕ → ℕ
-least_with None level = level
-least_with (Some least) level = min least level
-
--- an unfixed flow that is at this level is fixed there, and else all stays
-abbrev pub IsStepped : ℕ → Type 0 → Option ℕ → Option ℕ → Type 0
-IsStepped low at (Some level) after = after ≡ Some level
-IsStepped low at None after = (at × (after ≡ Some low)) ⊎ ((at → ⊥) × (after ≡ None))
-
--- the same of a flow by its number
+-- the step of a flow by its number
 abbrev pub FlowSteps : List (Option Flow) → List ℕ → ℕ → List (Option ℕ) → List (Option ℕ) → ℕ → Type 0
 FlowSteps slots levels low old new id = IsStepped low (IsLeast (Some low) (limits_at slots levels id)) (fixed_at old id) (fixed_at new id)
 
@@ -80,7 +63,7 @@ weight_of slots touched c = sum_by (λ id. weight_on slots id c) touched
 
 -- what stands fixed on a resource, and the weights that wait there
 abbrev pub taken_on : List (Option Flow) → List (Option ℕ) → List ℕ → ℕ → ℕ
-taken_on slots fixed touched c = sum_by (λ id. times c (uses_at slots id) * given (flow_in slots id) (fixed_at fixed id)) touched
+taken_on slots fixed touched c = sum_by (λ id. times c (uses_at slots id) * share_of_fixed (flow_in slots id) (fixed_at fixed id)) touched
 
 abbrev pub waiting_on : List (Option Flow) → List (Option ℕ) → List ℕ → ℕ → ℕ
 waiting_on slots fixed touched c = sum_by (λ id. times c (uses_at slots id) * waits_with (flow_in slots id) (fixed_at fixed id)) touched
@@ -92,7 +75,7 @@ pub record AreCounted (s : Sharing) (fixed : List (Option ℕ)) (touched left wa
 
 -- what a pass over the flows fixed on a resource, and the weights that wait there no more
 abbrev pub gained : List (Option Flow) → List (Option ℕ) → List (Option ℕ) → List ℕ → ℕ → ℕ
-gained slots old new touched c = sum_by (λ id. times c (uses_at slots id) * (given (flow_in slots id) (fixed_at new id) - given (flow_in slots id) (fixed_at old id))) touched
+gained slots old new touched c = sum_by (λ id. times c (uses_at slots id) * (share_of_fixed (flow_in slots id) (fixed_at new id) - share_of_fixed (flow_in slots id) (fixed_at old id))) touched
 
 abbrev pub freed : List (Option Flow) → List (Option ℕ) → List (Option ℕ) → List ℕ → ℕ → ℕ
 freed slots old new touched c = sum_by (λ id. times c (uses_at slots id) * (waits_with (flow_in slots id) (fixed_at old id) - waits_with (flow_in slots id) (fixed_at new id))) touched
@@ -147,10 +130,6 @@ pub record HasResources (resources : ℕ) (filling : Filling) : Type 0 where
   pub stale_room : filling.stale.room ≡ resources
   pub slots : length filling.agenda ≡ resources
   pub idle : IsIdle filling
-
--- the level of a flow's bound
-abbrev pub bound_limit : List (Option Flow) → ℕ → Option ℕ
-bound_limit slots id = option_map (bound_level (weight_at slots id)) (bound_at slots id)
 
 -- the level of a resource, if a flow waits there
 abbrev pub level_where : ℕ → ℕ → List ℕ

@@ -4,11 +4,12 @@ use Rattle.sg_base.specs.MarkSet.{is_in}
 use Rattle.sg_chains.specs.Chained.{users_on}
 use Rattle.sg_maxmin.specs.Fill.{Flow}
 use Rattle.sg_maxmin.specs.Sharing.{Sharing}
-use Rattle.sg_levels.specs.Numbered.{below_at, row_level}
+use Rattle.sg_maxmin.specs.Numbered.{below_at, row_level}
 use Rattle.sg_filling.specs.declared.filling.Filling.{Filling}
 use Rattle.sg_filling.specs.declared.filling.Low.{Low}
 use Rattle.sg_filling.specs.Dates.{AreDated, HaveNone, IsIdle}
-use Rattle.sg_filling.specs.Filling.{AreAbove, AreCounted, AreFixed, AreJoined, AreLeveled, AreLevels, AreTaken, HasPlaces, IsFloor, IsLeast, KeepsFixed, KeepsHolds, KeepsOthers, StepsPartly, fixed_at, limits_at, unfixed_bounds, unfixed_limits, unfixed_uses}
+use Rattle.sg_maxmin.specs.Step.{IsLeast}
+use Rattle.sg_filling.specs.Filling.{AreAbove, AreCounted, AreFixed, AreJoined, AreLeveled, AreLevels, AreTaken, HasPlaces, IsFloor, KeepsFixed, KeepsHolds, KeepsOthers, StepsPartly, fixed_at, limits_at, unfixed_bounds, unfixed_limits, unfixed_uses}
 
 -- a resource is noted if it is at this level
 abbrev pub noted_at : ℕ → ℕ → Filling → List (Option ℕ)

@@ -4,14 +4,14 @@ use Rattle.sg_base.specs.MarkSet.{MarkSet, is_in}
 use Rattle.sg_chains.specs.Chained.{users_on}
 use Rattle.sg_maxmin.specs.Fill.{level_of}
 use Rattle.sg_maxmin.specs.Sharing.{Sharing, flow_at, held}
-use Rattle.sg_levels.specs.Held.{IsHold}
-use Rattle.sg_levels.specs.Kept.{PassAlong}
+use Rattle.sg_maxmin.specs.Held.{IsHold}
+use Rattle.sg_maxmin.specs.Found.{PassAlong}
 use Rattle.sg_filling.specs.declared.component.Component.{Component}
 use Rattle.sg_filling.specs.declared.filling.Filling.{Filling}
 use Rattle.sg_filling.specs.declared.parts.Parts.{Parts}
 use Rattle.sg_filling.specs.Component.{AllPass, Grows, IsClosedBy, IsOpen, PassAlong as PassRows, StaysWithin, touched_uses}
 use Rattle.sg_filling.specs.Dates.{IsIdle}
-use Rattle.sg_levels.specs.Numbered.{flow_in}
+use Rattle.sg_maxmin.specs.Numbered.{flow_in}
 use Rattle.sg_filling.specs.Filling.{HasPlaces, HasResources, fixed_at}
 
 -- the level of a flow in the whole

@@ -3,7 +3,7 @@ ghost use Rattle.std.specs.Prelude.{◌≡◌, ◌<◌, ◌+◌, ◌/◌, ◌==�
 ghost use Rattle.sg_base.specs.MarkSet.{is_in};
 ghost use Rattle.sg_chains.specs.Chained.{users_on};
 ghost use Rattle.sg_maxmin.specs.Sharing.{uses_at};
-ghost use Rattle.sg_levels.specs.Numbered.{IsHeld};
+ghost use Rattle.sg_maxmin.specs.Numbered.{IsHeld};
 ghost use Rattle.sg_filling.specs.Alone.{IsAlone};
 ghost use Rattle.sg_filling.specs.Component.{IsOpen, MarksRow, Passes, Spreads, StaysWithin, touched_uses};
 ghost use Rattle.sg_filling.specs.Dates.{IsIdle};
@@ -11,10 +11,11 @@ ghost use Rattle.sg_filling.specs.Filling.{AreJoined, HasPlaces, fixed_at};
 ghost use Rattle.sg_filling.specs.Holds.{IsEnded};
 
 use crate::component::Component;
-use crate::filling::{Filling, bound_level, level, smaller};
+use crate::filling::Filling;
 use sg_base::{Marks, Steps};
 use sg_chains::Use;
 use sg_maxmin::System;
+use sg_maxmin::rounding::{level_of, level_of_bound, smaller};
 use std::sync::ledger::Ledger;
 
 // Returns whether a use is the only one of its resource, if all before were.
@@ -57,13 +58,16 @@ pub fn mark_alone<L: Ledger>(
     ensures looks { steps.new ≡ steps.old + length (uses_at system.now.slots flow) }
 {
     let weight = system.weight(flow);
-    let mut least = bound_level(weight, system.bound(flow));
+    let mut least = level_of_bound(weight, system.bound(flow));
     let mut alone = true;
     let mut at = system.first_of(flow);
     while let Some(i) = at {
         let one = system.look(i, steps);
         alone = is_only(system, alone, i, one);
-        least = smaller(least, level(system.capacity(one.resource), weight as u64));
+        least = smaller(
+            least,
+            level_of(system.capacity(one.resource), weight as u64),
+        );
         reached.insert(one.resource);
         at = one.next_of_flow;
     }
@@ -115,7 +119,7 @@ fn note_alone(system: &System, reached: &[usize], weight: u64, low: u64, holds: 
         → fixed_at holds.new c ≡ fixed_at holds.old c }
 {
     for c in reached {
-        holds[*c] = hold_at(level(system.capacity(*c), weight), low);
+        holds[*c] = hold_at(level_of(system.capacity(*c), weight), low);
     }
 }
 

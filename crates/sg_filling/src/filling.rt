@@ -1,20 +1,20 @@
 //! The max-min solve of the touched flows alone.
-ghost use Rattle.std.specs.Prelude.{◌≡◌, ◌≢◌, ◌≤◌, ◌<◌, ◌+◌, ◌-◌, ◌*◌, ◌/◌, ◌^◌, ◌++◌, ◌∷◌, ℕ, List, [], Option, None, Some, IfOk, IfSome, IsSome, true, false, AllPairs, All, length, min, option_map, option_to_list, slice_index, slice_set, sum_by};
+ghost use Rattle.std.specs.Prelude.{◌≡◌, ◌≢◌, ◌≤◌, ◌<◌, ◌+◌, ◌-◌, ◌*◌, ◌/◌, ◌^◌, ◌++◌, ◌∷◌, ℕ, List, [], Option, None, Some, IfOk, IfSome, IsSome, true, false, AllPairs, All, length, min, option_to_list, slice_index, slice_set, sum_by};
 ghost use Rattle.sg_base.specs.MarkSet.{is_in, with_mark};
 ghost use Rattle.sg_chains.specs.Chained.{users_on};
-ghost use Rattle.sg_maxmin.specs.Fill.{bound_level as level_of_bound, level_of, share_of, bounded};
-ghost use Rattle.sg_maxmin.specs.Laws.{HaveLimits};
 ghost use Rattle.sg_maxmin.specs.Sharing.{flow_at, uses_at};
+ghost use Rattle.sg_maxmin.specs.Step.{IsLeast, least_with};
 ghost use Rattle.sg_filling.specs.Component.{AreIn, lengths};
 ghost use Rattle.sg_filling.specs.Dates.{AreDated, HaveKeys, IsIdle, StayDated};
-ghost use Rattle.sg_levels.specs.Numbered.{IsHeld, weight_at};
-ghost use Rattle.sg_filling.specs.Filling.{AreAbove, AreAmong, AreFixed, AreJoined, AreLeveled, AreLevels, ArePart, AreStepped, AreTaken, CanFixBounded, CanFixOn, FixesAt, FixesFlow, FixesFlows, HasFlow, HasPlaces, HasResources, IsLeast, IsLow, IsMoreBy, IsNext, IsNextOf, IsOver, IsUpTo, KeepsCount, KeepsFixed, KeepsHolds, KeepsLevels, StepsPartly, bound_limit, fixed_at, least_with, limits_at, unfixed_bounds, unfixed_limits, waited_levels, weight_of, weight_on};
+ghost use Rattle.sg_maxmin.specs.Numbered.{IsHeld, weight_at};
+ghost use Rattle.sg_filling.specs.Filling.{AreAbove, AreAmong, AreFixed, AreJoined, AreLeveled, AreLevels, ArePart, AreStepped, AreTaken, CanFixBounded, CanFixOn, FixesAt, FixesFlow, FixesFlows, HasFlow, HasPlaces, HasResources, IsLow, IsMoreBy, IsNext, IsNextOf, IsOver, IsUpTo, KeepsCount, KeepsFixed, KeepsHolds, KeepsLevels, StepsPartly, bound_limit, fixed_at, limits_at, unfixed_bounds, unfixed_limits, waited_levels, weight_of, weight_on};
 ghost use Rattle.sg_filling.specs.Holds.{AreNoted, CountsOnce, FixesRest, FixesUsers, IsAtLevel, IsBegun, IsEnded, IsLast, IsUnderWay, MayHold, NotesHolds, noted_at, users_at};
 
 use crate::dates::{date_all, due, has_keys, is_late};
 use sg_base::{Marks, Memory, Steps};
 use sg_heap::Agenda;
 use sg_maxmin::System;
+use sg_maxmin::rounding::{level_of, level_of_bound, share_at, smaller};
 use std::alloc::Global;
 use std::sync::ledger::Ledger;
 
@@ -79,28 +79,6 @@ struct Low {
     at: Span,
 }
 
-/// Returns the level of a bound.
-pub fn bound_level(weight: u32, bound: Option<u64>) -> Option<u64>
-    requires { 0 < weight }
-    ensures { result ≡ option_map (level_of_bound weight) bound }
-{
-    match bound {
-        None => None,
-        Some(bound) => Some(bound.div_ceil(weight as u64)),
-    }
-}
-
-// Returns the share at a level, or the greatest number if that is less.
-fn capped_share(weight: u32, bound: Option<u64>, level: u64) -> u64
-    ensures { result ≡ min (bounded bound (weight * level)) (2 ^ 64 - 1) }
-{
-    let share = (weight as u64).saturating_mul(level);
-    match bound {
-        None => share,
-        Some(bound) => share.min(bound),
-    }
-}
-
 // Adds to the weight that waits at a resource.
 fn add(amounts: &mut [u64], resource: usize, more: u64)
     requires resource { resource < length amounts.old }
@@ -157,17 +135,6 @@ fn take_use(resource: usize, weight: u32, share: u64, filling: &mut Filling)
     filling.stale.insert(resource);
 }
 
-/// Returns what remains for each unit of weight that waits. Often that weight is 1, and a division takes long.
-pub fn level(left: u64, waiting: u64) -> u64
-    ensures { result ≡ left / waiting }
-{
-    match waiting {
-        0 => 0,
-        1 => left,
-        _ => left / waiting,
-    }
-}
-
 // Computes the levels of the listed resources.
 fn set_levels(listed: &[usize], left: &[u64], waiting: &[u64], levels: &mut [u64])
     requires left { All (λ c. c < length left.now) listed.now }
@@ -181,21 +148,11 @@ fn set_levels(listed: &[usize], left: &[u64], waiting: &[u64], levels: &mut [u64
         → slice_index levels.new c ≡ slice_index levels.old c }
 {
     for c in listed {
-        levels[*c] = level(left[*c], waiting[*c]);
+        levels[*c] = level_of(left[*c], waiting[*c]);
     }
 }
 
-/// Returns the smaller of the two, if there are two.
-pub fn smaller(least: Option<u64>, level: u64) -> Option<u64>
-    ensures { result ≡ Some (least_with least level) }
-{
-    match least {
-        None => Some(level),
-        Some(least) => Some(least.min(level)),
-    }
-}
-
-// Does the same, if a flow waits at the level of the resource at this place.
+// Returns the lesser of a level and of what was found before, if a flow waits at the resource at this place.
 fn with_level(place: usize, level: u64, least: Least) -> Least
     requires { place + 1 < 2 ^ 64 }
     ensures level { result.level ≡ Some (least_with least.level level) }
@@ -300,7 +257,7 @@ fn least_with_bound(system: &System, flow: usize, least: Option<u64>) -> Option<
     ensures { (list : List ℕ) → IsLeast least list
         → IsLeast result (list ++ option_to_list (bound_limit system.now.slots flow)) }
 {
-    match bound_level(system.weight(flow), system.bound(flow)) {
+    match level_of_bound(system.weight(flow), system.bound(flow)) {
         None => least,
         Some(limit) => smaller(least, limit),
     }
@@ -431,7 +388,7 @@ fn fix<L: Ledger>(
     filling.fixed[flow] = Some(low);
     let weight = system.weight(flow);
     let bound = system.bound(flow);
-    let share = capped_share(weight, bound, low);
+    let share = share_at(weight, bound, low);
     let mut at = system.first_of(flow);
     while let Some(i) = at {
         let one = system.look(i, steps);
@@ -515,7 +472,7 @@ fn is_bound_at(system: &System, flow: usize, low: u64) -> bool
     ensures at { result ≡ true → bound_limit system.now.slots flow ≡ Some low }
     ensures off { result ≡ false → bound_limit system.now.slots flow ≡ Some low → ⊥ }
 {
-    match bound_level(system.weight(flow), system.bound(flow)) {
+    match level_of_bound(system.weight(flow), system.bound(flow)) {
         None => false,
         Some(limit) => limit == low,
     }

@@ -1,14 +1,13 @@
 //! The connected components of some flows and resources, with the result of their max-min solve.
 ghost use Rattle.std.specs.Prelude.{◌≡◌, ◌≢◌, ◌≤◌, ◌<◌, ◌+◌, ℕ, All, AllPairs, IfOk, OnOk, length};
-ghost use Rattle.sg_levels.specs.Kept.{IsFound};
+ghost use Rattle.sg_maxmin.specs.Found.{IsFound};
 ghost use Rattle.sg_filling.specs.Parts.{AreHeldUnless, IsJoinedTo, IsReady, part_looks};
 
 use crate::by_part::{fill_marked, fill_on_all};
 use crate::component::Component;
 use crate::filling::Filling;
 use sg_base::{Marks, Memory, Steps};
-use sg_levels::Filled;
-use sg_maxmin::System;
+use sg_maxmin::{Filled, System};
 use std::alloc::Global;
 use std::sync::ledger::Ledger;
 

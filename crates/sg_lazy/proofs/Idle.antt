@@ -1,21 +1,18 @@
 -- If nothing changed since the last rate update, a rate update has nothing to do.
-use Rattle.std.proofs.Common.{◌≡◌, ℕ, ◌<◌, Bool, true, false, true≢false, ◌||◌, not, eqb, eq-eqb, Option, None, Some, Contains, List, [], ◌∷◌, length, get_or, refl, sym, ap, subst, ◌∙◌, arith}
+use Rattle.std.proofs.Common.{◌≡◌, ℕ, false, true≢false, not, eq-eqb, Option, Some, List, [], ◌∷◌, length, get_or, refl, sym, ap, subst, ◌∙◌, arith}
 use Rattle.std.specs.List.{list_any}
-use Rattle.sg_base.specs.MarkSet.{is_in}
 use Rattle.sg_maxmin.specs.Fill.{Flow, share_of}
-use Rattle.sg_maxmin.specs.Sharing.{Sharing, IsSound, flow_at}
-use Rattle.sg_filling.proofs.Listing.{some_of}
-use Rattle.sg_filling.proofs.Rows.{none_some, some_same}
+use Rattle.sg_maxmin.specs.Sharing.{Sharing, flow_at}
 use Rattle.sg_lazy.specs.RunningFlow.{RunningFlow, running_at, flows_in}
-use Rattle.sg_lazy.specs.Touch.{touches, IsClosed}
+use Rattle.sg_lazy.specs.Touch.{IsClosed}
 use Rattle.sg_levels.specs.declared.levels.Levels.{Levels}
 use Rattle.sg_lazy.specs.kept.Leveled.{AreLeveled}
-use Rattle.sg_lazy.specs.kept.Keeping.{AreKept, IsUnmarked}
+use Rattle.sg_lazy.specs.kept.Keeping.{IsUnmarked}
 use Rattle.sg_lazy.specs.kept.Held.{IsLazy, IsRefilled, IsWithout, running_in}
 use Rattle.sg_lazy.proofs.Keeps.{settles_rates_lem}
 use Rattle.sg_lazy.proofs.Parts.{free_rate_lem}
 use Rattle.sg_lazy.proofs.Settled.{held_runs, runs_held}
-use Rattle.sg_lazy.proofs.Starting.{is_here}
+use Rattle.sg_maxmin.proofs.Listed.{some_of, some_same}
 
 pub none_in : (xs : List ℕ) → length xs ≡ 0 → xs ≡ []
 none_in [] e = refl

@@ -4,11 +4,11 @@ use Rattle.std.proofs.lemmas.List.Sums.{sum_by-cons}
 use Rattle.sg_maxmin.specs.Fill.{Flow}
 use Rattle.sg_maxmin.specs.Sharing.{Sharing, flow_at, slot_part, uses_at, uses_in}
 use Rattle.sg_levels.specs.Joined.{joined_count, joined_part, joined_uses, sum_below}
-use Rattle.sg_levels.specs.Kept.{PassAlong}
-use Rattle.sg_levels.specs.Numbered.{all_uses}
-use Rattle.sg_filling.proofs.Listing.{eq_cases, some_of}
-use Rattle.sg_filling.proofs.Rows.{held_below, in_uses}
+use Rattle.sg_maxmin.specs.Found.{PassAlong}
+use Rattle.sg_maxmin.specs.Numbered.{all_uses}
 use Rattle.sg_lazy.specs.kept.Held.{listed}
+use Rattle.sg_maxmin.proofs.Listed.{eq_cases, some_of}
+use Rattle.sg_maxmin.proofs.Users.{held_below, in_uses}
 
 below_nothing : (f : ℕ → ℕ) → sum_below f 0 ≡ 0
 unfolding sum_below

@@ -1,8 +1,8 @@
 -- Lists of what stands under each number.
 use Rattle.std.proofs.Common.{◌≡◌, ◌≢◌, ℕ, zero, suc, ◌<◌, ◌≤◌, inl, inr, ◌∷◌, length, get_or, set, length-set, get_or-set_same, get_or-set_other, refl, sym, ap, ◌∙◌, arith}
 use Rattle.std.proofs.lemmas.List.{ext_get_or, get_or_past}
-use Rattle.sg_filling.proofs.Listing.{eq_cases}
 use Rattle.sg_lazy.specs.kept.Held.{listed}
+use Rattle.sg_maxmin.proofs.Listed.{eq_cases}
 
 pub length_listed : {X : Type 0} (n : ℕ) (f : ℕ → X) → length (listed n f) ≡ n
 unfolding listed

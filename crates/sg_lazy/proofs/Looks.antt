@@ -10,11 +10,9 @@ use Rattle.sg_maxmin.proofs.Members.{In, In-map, list_any_in}
 use Rattle.sg_chains.specs.Chained.{users_on}
 use Rattle.sg_levels.specs.declared.levels.Levels.{Levels}
 use Rattle.sg_levels.specs.Joined.{joined_count, joined_part, joined_uses, sum_below}
-use Rattle.sg_levels.specs.Kept.{IsWithin, PassAlong}
+use Rattle.sg_levels.specs.Kept.{IsWithin}
+use Rattle.sg_maxmin.specs.Found.{PassAlong}
 use Rattle.sg_filling.specs.Component.{MarksRow, lengths}
-use Rattle.sg_filling.proofs.Growing.{in_at}
-use Rattle.sg_filling.proofs.Listing.{bool_cases, some_of}
-use Rattle.sg_filling.proofs.Rows.{in_uses, is_in_In, on_held}
 use Rattle.sg_lazy.specs.Touch.{touches, spread, reach}
 use Rattle.sg_lazy.specs.RunningFlow.{RunningFlow, running_at, running_flows}
 use Rattle.sg_lazy.specs.Work.{is_marked, is_joined, work}
@@ -29,6 +27,8 @@ use Rattle.sg_lazy.proofs.Reached.{all_reached_lem}
 use Rattle.sg_lazy.proofs.Settled.{held_runs}
 use Rattle.sg_lazy.proofs.Whole.{length-ended, lengths-ended}
 use Rattle.sg_lazy.proofs.Works.{more_looks, suffices_lem}
+use Rattle.sg_maxmin.proofs.Listed.{in_at, bool_cases, some_of}
+use Rattle.sg_maxmin.proofs.Users.{in_uses, is_in_In, on_held}
 
 -- ---- sums over what runs
 abbrev part : (RunningFlow → ℕ) → Option RunningFlow → ℕ

@@ -1,5 +1,5 @@
 -- What nothing reached, and what is touched, are parts.
-use Rattle.std.proofs.Common.{◌≡◌, ℕ, ◌-◌, ◌*◌, ◌/◌, ◌<◌, ◌≤◌, ◌⊎◌, inl, inr, min, Bool, true, false, cond, not, ◌&&◌, true≢false, Some, is_none, List, filter, get_or, ◌==◌, eqb-true, refl, sym, ap, ap₂, subst, ◌∙◌, arith}
+use Rattle.std.proofs.Common.{◌≡◌, ℕ, ◌-◌, ◌*◌, ◌/◌, ◌<◌, ◌≤◌, inl, inr, min, Bool, true, false, cond, not, ◌&&◌, true≢false, Some, is_none, List, filter, get_or, ◌==◌, eqb-true, refl, sym, ap, ap₂, subst, ◌∙◌, arith}
 use Rattle.std.proofs.lemmas.Grind.{div_ceil_times}
 use Rattle.sg_maxmin.specs.Fill.{Flow, Fixed, is_on, bounded, share_at, share_of_fixed, bound_level, taken, waiting, level, level_of, limits, share_of}
 use Rattle.sg_maxmin.specs.Laws.{HaveLimits}
@@ -12,6 +12,7 @@ use Rattle.sg_maxmin.proofs.Same.{IsPart, leveled_same}
 use Rattle.sg_maxmin.proofs.Proved.{limited_from}
 use Rattle.sg_lazy.specs.Touch.{touches, has_uses, IsClosed}
 use Rattle.sg_lazy.specs.Laws.{KeepsRate, TouchedRate, FreeRate}
+use Rattle.sg_maxmin.proofs.Listed.{bool_cases}
 
 -- ---- a component, even if capacities outside it differ
 and_cond : (a b : Bool) (n : ℕ) → cond (a && b) n 0 ≡ cond a (cond b n 0) 0
@@ -66,10 +67,6 @@ both_true false y e = absurd (true≢false (sym e))
 not_true : (x : Bool) → not x ≡ true → x ≡ false
 not_true true e = absurd (true≢false (sym e))
 not_true false e = refl
-
-bool_cases : (b : Bool) → (b ≡ true) ⊎ (b ≡ false)
-bool_cases true = inl refl
-bool_cases false = inr refl
 
 uses_of : (c : ℕ) (f : Flow) → is_on c f ≡ true → In c f.uses
 uses_of c f e = let r = list_any_back (λ u. u == c) f.uses e in subst (λ w. In w f.uses) (eqb-true r.0 c r.2) r.1

@@ -7,6 +7,7 @@ use Rattle.sg_maxmin.proofs.Sums.{sum_by_lt, le-sum_by}
 use Rattle.std.proofs.lemmas.List.Sums.{count_by-le-length}
 use Rattle.sg_lazy.specs.Touch.{touches, spread, reach}
 use Rattle.sg_lazy.specs.Laws.{AllReached}
+use Rattle.sg_maxmin.proofs.Listed.{bool_cases}
 
 pub or_true : (x y : Bool) → (x || y) ≡ true → (x ≡ true) ⊎ (y ≡ true)
 or_true true y e = inl refl
@@ -101,10 +102,6 @@ back_to flows first (suc d) n c h e = back_to flows first d n c h (stable_use fl
 
 touched_count : List Flow → (ℕ → Bool) → ℕ → ℕ
 touched_count flows first n = count_by (λ g. touches (reach n flows first) g) flows
-
-bool_cases : (b : Bool) → (b ≡ true) ⊎ (b ≡ false)
-bool_cases true = inl refl
-bool_cases false = inr refl
 
 one_le : (p q : Bool) → (p ≡ true → q ≡ true) → cond p 1 0 ≤ cond q 1 0
 one_le true q h = rw (h refl) (omega arith)

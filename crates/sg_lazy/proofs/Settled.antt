@@ -5,12 +5,11 @@ use Rattle.sg_maxmin.specs.Fill.{Flow, share_of}
 use Rattle.sg_maxmin.specs.Sharing.{Sharing, IsSound, flow_at, held}
 use Rattle.sg_maxmin.proofs.Held.{held_in}
 use Rattle.sg_levels.specs.declared.levels.Levels.{Levels}
-use Rattle.sg_levels.specs.Held.{AreFilled}
-use Rattle.sg_levels.specs.Kept.{IsWithin, NotesChanged, PassAlong}
-use Rattle.sg_levels.specs.Numbered.{bound_at}
-use Rattle.sg_levels.proofs.HeldLevels.{held_limits}
-use Rattle.sg_filling.proofs.Listing.{bool_cases, some_of}
-use Rattle.sg_filling.proofs.Rows.{flow_below, none_some, on_held, some_same}
+use Rattle.sg_maxmin.specs.Held.{AreFilled}
+use Rattle.sg_levels.specs.Kept.{IsWithin, NotesChanged}
+use Rattle.sg_maxmin.specs.Found.{PassAlong}
+use Rattle.sg_maxmin.specs.Numbered.{bound_at}
+use Rattle.sg_maxmin.proofs.HeldLevels.{held_limits}
 use Rattle.sg_filling.proofs.Starts.{share_fits}
 use Rattle.sg_lazy.specs.RunningFlow.{RunningFlow, running_at, flows_in}
 use Rattle.sg_lazy.specs.declared.settle.Pending.{Pending}
@@ -22,6 +21,8 @@ use Rattle.sg_lazy.proofs.Joining.{or_left, or_parts, or_right}
 use Rattle.sg_lazy.proofs.Leveled.{flow_is, off_before, rate_same}
 use Rattle.sg_lazy.proofs.Listed.{at_listed}
 use Rattle.sg_lazy.proofs.Starting.{is_here}
+use Rattle.sg_maxmin.proofs.Listed.{bool_cases, some_of, none_some, some_same}
+use Rattle.sg_maxmin.proofs.Users.{flow_below, on_held}
 
 -- what runs is the flow that is held, whatever its rate
 pub flow_of_running : (slots : List (Option Flow)) (rates began marked ended : List ℕ) (id : ℕ) → option_map (λ (r : RunningFlow). r.flow) (running_of slots rates began marked ended id) ≡ cond (is_in id ended) None (flow_at slots id)

@@ -4,8 +4,7 @@ use Rattle.std.proofs.lemmas.List.{take_more}
 use Rattle.std.proofs.Math.Seq.{get_or-take}
 use Rattle.std.specs.List.{list_any}
 use Rattle.sg_base.specs.MarkSet.{is_in, with_mark}
-use Rattle.sg_filling.proofs.Growing.{at_in, in_at}
-use Rattle.sg_filling.proofs.Listing.{bool_cases}
+use Rattle.sg_maxmin.proofs.Listed.{at_in, in_at, bool_cases}
 
 any-append : (p : ℕ → Bool) (xs : List ℕ) (y : ℕ) → list_any p (xs ++ y ∷ []) ≡ list_any p xs || p y
 any-append p [] y = or_false (p y)

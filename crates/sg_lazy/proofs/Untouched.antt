@@ -10,11 +10,11 @@ use Rattle.sg_lazy.specs.RunningFlow.{RunningFlow, running_at, running_flows, fl
 use Rattle.sg_lazy.specs.Work.{is_marked, is_joined}
 use Rattle.sg_lazy.specs.kept.Keeping.{AreKept, IsUnmarked}
 use Rattle.sg_lazy.proofs.Keeps.{settles_rates_lem}
-use Rattle.sg_filling.proofs.Listing.{bool_cases, some_of}
 use Rattle.sg_lazy.proofs.Looks.{In-held, first_reached, next_reached, both_true}
 use Rattle.sg_lazy.proofs.Parts.{free_rate_lem}
 use Rattle.sg_lazy.proofs.Reached.{all_reached_lem}
 use Rattle.sg_lazy.proofs.Slots.{In-flows_back}
+use Rattle.sg_maxmin.proofs.Listed.{bool_cases, some_of}
 
 neither_left : (a b : Bool) → (a || b) ≡ false → a ≡ false
 neither_left true b e = absurd (true≢false e)

@@ -11,11 +11,12 @@ use Rattle.sg_filling.specs.Component.{lengths}
 use Rattle.sg_lazy.specs.kept.Keeping.{IsUnmarked, AreKept}
 use Rattle.sg_lazy.specs.kept.Held.{IsLazy, IsRefilled, listed, running_of, running_in, flow_or_none, ended_in}
 use Rattle.sg_lazy.proofs.Keeps.{settle_keeps}
-use Rattle.sg_filling.proofs.Listing.{map_same, some_of}
+use Rattle.sg_filling.proofs.Listing.{map_same}
 use Rattle.sg_lazy.proofs.Listed.{at_listed, length_listed, past_listed}
-use Rattle.sg_filling.proofs.Rows.{flow_below, none_some, some_same, uses_held}
 use Rattle.sg_lazy.proofs.Settled.{flow_of_running, held_runs}
 use Rattle.sg_lazy.proofs.Starting.{is_here}
+use Rattle.sg_maxmin.proofs.Listed.{some_of, none_some, some_same}
+use Rattle.sg_maxmin.proofs.Users.{flow_below, uses_held}
 
 front : (a b : Option RunningFlow) (xs ys : List (Option RunningFlow)) → option_map (λ (r : RunningFlow). r.flow) a ≡ option_map (λ (r : RunningFlow). r.flow) b → flows_in xs ≡ flows_in ys → flows_in (a ∷ xs) ≡ flows_in (b ∷ ys)
 front None None xs ys h r = r

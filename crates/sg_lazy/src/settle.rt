@@ -1,7 +1,8 @@
 //! The rate update: levels are brought up to date, and the rates of the flows that moved are written.
 ghost use Rattle.std.specs.Prelude.{◌≡◌, ◌≢◌, ◌≤◌, ◌<◌, ◌+◌, ℕ, Bool, [], true, false, IfOk, IsSome, IsTrue, AllPairs, length, slice_index};
 ghost use Rattle.sg_maxmin.specs.Sharing.{IsSound, flow_at, uses_at};
-ghost use Rattle.sg_levels.specs.Kept.{IsBetween, IsWithin, NotesChanged, PassAlong};
+ghost use Rattle.sg_levels.specs.Kept.{IsBetween, IsWithin, NotesChanged};
+ghost use Rattle.sg_maxmin.specs.Found.{PassAlong};
 ghost use Rattle.sg_filling.specs.Component.{MarksRow, lengths};
 ghost use Rattle.sg_lazy.specs.RunningFlow.{running_flows};
 ghost use Rattle.sg_lazy.specs.Work.{work};

@@ -1,9 +1,8 @@
 //! Writing of rates, and noting of those that change.
 ghost use Rattle.std.specs.Prelude.{◌≡◌, ◌≢◌, ◌<◌, ◌≤◌, ◌*◌, ◌^◌, ℕ, [], false, IsSome, None, length, slice_index, if◌then◌else◌};
 ghost use Rattle.sg_base.specs.MarkSet.{is_in, with_mark};
-ghost use Rattle.sg_maxmin.specs.Fill.{bounded};
 ghost use Rattle.sg_maxmin.specs.Sharing.{flow_at};
-ghost use Rattle.sg_levels.specs.Numbered.{bound_at, flow_in};
+ghost use Rattle.sg_maxmin.specs.Numbered.{bound_at, flow_in};
 ghost use Rattle.sg_lazy.specs.kept.Changes.{WritesRate, WritesRates, did_change};
 ghost use Rattle.sg_lazy.specs.kept.Leveled.{AreRatable, IsRatable, rate_at, rate_of};
 
@@ -11,17 +10,7 @@ use crate::settle::Pending;
 use sg_base::Marks;
 use sg_levels::Levels;
 use sg_maxmin::System;
-
-// Returns a weight's share at a level.
-fn share_at_level(weight: u32, bound: Option<u64>, level: u64) -> u64
-    requires { bound ≡ None → weight * level < 2 ^ 64 }
-    ensures { result ≡ bounded bound (weight * level) }
-{
-    match bound {
-        None => weight as u64 * level,
-        Some(bound) => (weight as u64).saturating_mul(level).min(bound),
-    }
-}
+use sg_maxmin::rounding::share_at;
 
 // Returns what a flow gets at its level; nothing if it has none.
 fn share(system: &System, flow: usize, level: Option<u64>) -> u64
@@ -32,7 +21,7 @@ fn share(system: &System, flow: usize, level: Option<u64>) -> u64
 {
     match level {
         None => 0,
-        Some(level) => share_at_level(system.weight(flow), system.bound(flow), level),
+        Some(level) => share_at(system.weight(flow), system.bound(flow), level),
     }
 }
 

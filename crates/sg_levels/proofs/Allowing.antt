@@ -9,10 +9,11 @@ use Rattle.sg_maxmin.specs.Sharing.{Sharing, IsSound, flow_at}
 use Rattle.sg_levels.specs.declared.allowance.Allowance.{Allowance}
 use Rattle.sg_levels.specs.declared.levels.Levels.{Levels}
 use Rattle.sg_levels.specs.Settling.{is_active}
-use Rattle.sg_levels.specs.Kept.{IsKept, IsWithin, PassAlong, StaysWithin}
+use Rattle.sg_levels.specs.Kept.{IsKept, IsWithin, StaysWithin}
+use Rattle.sg_maxmin.specs.Found.{PassAlong}
 use Rattle.sg_levels.specs.Joined.{joined_count, joined_uses, spare_looks}
 use Rattle.sg_levels.specs.Allowed.{AreNew, IsJoined, SparesLooks}
-use Rattle.sg_levels.proofs.Users.{on_held}
+use Rattle.sg_maxmin.proofs.Users.{on_held}
 use Rattle.sg_levels.proofs.Joined.{noted_count, past_none, row_count, row_uses, spare_more}
 
 -- ---- two tests

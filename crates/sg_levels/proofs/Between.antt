@@ -6,12 +6,12 @@ use Rattle.sg_maxmin.specs.Fill.{Flow, flow, level_of, share_at}
 use Rattle.sg_maxmin.specs.Sharing.{Sharing, IsSound, Changes, flow_at, held, uses_at, uses_in}
 use Rattle.sg_maxmin.proofs.Sums.{sum_by_same}
 use Rattle.sg_levels.specs.declared.levels.Levels.{Levels}
-use Rattle.sg_levels.specs.Numbered.{flow_in, level_at, row_waiting, slot_bound, slot_weight}
+use Rattle.sg_maxmin.specs.Numbered.{flow_in, level_at, row_waiting, slot_bound, slot_weight}
 use Rattle.sg_levels.specs.Demand.{demand_of}
-use Rattle.sg_levels.specs.Held.{IsHold}
+use Rattle.sg_maxmin.specs.Held.{IsHold}
 use Rattle.sg_levels.specs.Settling.{AreMarked, AreSettlingBut, is_active}
 use Rattle.sg_levels.specs.Kept.{AreParts, HasRoom, IsBetween, IsBetweenBut, IsFresh, IsKept, KeepsAll, MarksNoMore, NotesChanged, NotesMoved, SharesAreNoted}
-use Rattle.sg_levels.proofs.Listed.{bool_cases, eq_cases, mark_stays, mark_there, none_some, some_same, times-cons}
+use Rattle.sg_maxmin.proofs.Listed.{bool_cases, eq_cases, mark_stays, mark_there, none_some, some_same, times-cons}
 use Rattle.sg_levels.proofs.Joined.{users_same}
 use Rattle.sg_levels.proofs.Keeping.{system_kept}
 use Rattle.sg_levels.proofs.Marked.{changes_keep_lem}

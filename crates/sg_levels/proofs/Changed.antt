@@ -4,11 +4,11 @@ use Rattle.sg_base.specs.MarkSet.{MarkSet, is_in, with_mark}
 use Rattle.sg_maxmin.specs.Fill.{Flow}
 use Rattle.sg_maxmin.specs.Sharing.{Sharing, IsSound, Changes, flow_at, uses_at, uses_in}
 use Rattle.sg_levels.specs.declared.levels.Levels.{Levels}
-use Rattle.sg_levels.specs.Numbered.{level_at}
+use Rattle.sg_maxmin.specs.Numbered.{level_at}
 use Rattle.sg_levels.specs.Settling.{IsChanged, IsSame, IsStale, is_active}
 use Rattle.sg_levels.specs.Kept.{ActivatesAll, HasLeft, IsBetween, IsBetweenBut, IsKept, NotesChanged}
-use Rattle.sg_levels.proofs.Listed.{bool_cases, eq_cases, mark_stays, mark_there, none_some, off_mark, some_of}
-use Rattle.sg_levels.proofs.Users.{flow_below, uses_held, held_below}
+use Rattle.sg_maxmin.proofs.Listed.{bool_cases, eq_cases, mark_stays, mark_there, none_some, off_mark, some_of}
+use Rattle.sg_maxmin.proofs.Users.{flow_below, uses_held, held_below}
 use Rattle.sg_chains.specs.Chained.{times, users_on}
 use Rattle.sg_levels.proofs.Joined.{users_more, users_same}
 use Rattle.sg_levels.proofs.Keeping.{system_kept}

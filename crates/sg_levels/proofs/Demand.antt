@@ -6,11 +6,11 @@ use Rattle.sg_chains.specs.Chained.{times, users_on}
 use Rattle.sg_maxmin.specs.Fill.{Flow, share_at, share_of_fixed}
 use Rattle.sg_maxmin.specs.Sharing.{Sharing, IsSound, flow_at, uses_at}
 use Rattle.sg_maxmin.proofs.Sums.{sum_by_same}
-use Rattle.sg_levels.specs.Numbered.{flow_in, level_at, row_taken, row_waiting, weight_at}
+use Rattle.sg_maxmin.specs.Numbered.{flow_in, level_at, row_taken, row_waiting, weight_at}
 use Rattle.sg_levels.specs.Demand.{DemandHoldsNone, demand_of, row_demand}
-use Rattle.sg_levels.proofs.Listed.{eq_cases, times-cons, times-once}
-use Rattle.sg_levels.proofs.Users.{in_is, on_below, on_held, rows_once, weighs}
-use Rattle.sg_levels.proofs.OnRow.{row_le, sum_weighed}
+use Rattle.sg_maxmin.proofs.Listed.{eq_cases, times-cons, times-once}
+use Rattle.sg_maxmin.proofs.Users.{in_is, on_below, on_held, rows_once, weighs}
+use Rattle.sg_maxmin.proofs.OnRow.{row_le, sum_weighed}
 use Rattle.sg_levels.proofs.Changing.{slack_holds_none_lem}
 
 -- ---- a demand that fits 64 bits is the shares and twice the weights

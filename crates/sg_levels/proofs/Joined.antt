@@ -5,10 +5,10 @@ use Rattle.sg_base.specs.MarkSet.{is_in}
 use Rattle.sg_chains.specs.Chained.{times, users_on}
 use Rattle.sg_maxmin.specs.Fill.{Flow}
 use Rattle.sg_maxmin.specs.Sharing.{Sharing, IsSound, flow_at, slot_part, uses_at}
-use Rattle.sg_levels.specs.Numbered.{all_uses}
+use Rattle.sg_maxmin.specs.Numbered.{all_uses}
 use Rattle.sg_levels.specs.Joined.{joined_count, joined_part, joined_uses, spare_looks, sum_below}
-use Rattle.sg_levels.proofs.Listed.{at_in, bool_cases, eq_cases, some_of, times-cons, times-once, times_in, times_out}
-use Rattle.sg_levels.proofs.Users.{held_below, on_held, on_below, rows_once}
+use Rattle.sg_maxmin.proofs.Listed.{at_in, bool_cases, eq_cases, some_of, times-cons, times-once, times_in, times_out}
+use Rattle.sg_maxmin.proofs.Users.{held_below, on_held, on_below, rows_once}
 
 -- ---- sums over the numbers below one
 pub below_le : (f g : ℕ → ℕ) (n : ℕ) → ((i : ℕ) → i < n → f i ≤ g i) → sum_below f n ≤ sum_below g n

@@ -4,7 +4,7 @@ use Rattle.sg_chains.specs.Chained.{times, users_on}
 use Rattle.sg_maxmin.specs.Sharing.{Sharing, IsSound, flow_at, uses_at}
 use Rattle.sg_levels.specs.declared.levels.Levels.{Levels}
 use Rattle.sg_levels.specs.Kept.{CanShift, HasPlaces, IsKept, Shifts}
-use Rattle.sg_levels.proofs.Listed.{eq_cases, none_some, some_of}
+use Rattle.sg_maxmin.proofs.Listed.{eq_cases, none_some, some_of}
 use Rattle.sg_levels.proofs.Demand.{part_in, parts_fit, parts_move, rows_same}
 
 -- ---- one flow has another part

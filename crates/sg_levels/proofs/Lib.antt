@@ -1,13 +1,6 @@
-pub mod Listed
-pub mod Walked
-pub mod Users
-pub mod Balance
-pub mod OnRow
-pub mod HeldLevels
 pub mod RowRise
 pub mod Passes
 pub mod Changing
-pub mod Converse
 pub mod Demand
 pub mod Shifting
 pub mod Steps

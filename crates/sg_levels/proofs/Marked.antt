@@ -4,14 +4,13 @@ use Rattle.sg_base.specs.MarkSet.{is_in}
 use Rattle.sg_chains.specs.Chained.{times, users_on}
 use Rattle.sg_maxmin.specs.Fill.{Flow, share_of_fixed}
 use Rattle.sg_maxmin.specs.Sharing.{Sharing, IsSound, flow_at, uses_at, uses_in}
-use Rattle.sg_levels.specs.Numbered.{below_at, bound_of, flow_in, level_at, row_level, row_taken, row_waiting, weight_at}
-use Rattle.sg_levels.specs.Held.{IsAtMost, IsHold}
-use Rattle.sg_levels.specs.Changes.{IsSameRow}
+use Rattle.sg_maxmin.specs.Numbered.{below_at, bound_of, flow_in, level_at, row_level, row_taken, row_waiting, weight_at}
+use Rattle.sg_maxmin.specs.Held.{IsAtMost, IsHold, IsSameRow}
 use Rattle.sg_levels.specs.Settling.{AreMarked, AreSettling, AreSettlingBut, ChangesKeep, HasCause, IsStale, at_bound, is_active}
-use Rattle.sg_levels.proofs.Listed.{bool_cases, times_out}
-use Rattle.sg_levels.proofs.Users.{in_uses, on_below, uses_held, uses_none}
-use Rattle.sg_levels.proofs.OnRow.{sum_listed}
-use Rattle.sg_levels.proofs.Changing.{hold_is_local_lem}
+use Rattle.sg_maxmin.proofs.Listed.{bool_cases, times_out}
+use Rattle.sg_maxmin.proofs.Users.{in_uses, on_below, uses_held, uses_none}
+use Rattle.sg_maxmin.proofs.OnRow.{sum_listed}
+use Rattle.sg_maxmin.proofs.OneHold.{hold_is_local_lem}
 use Rattle.sg_levels.proofs.Steps.{at_most_self, uses_row}
 
 -- ---- the order of a row doesn't matter

@@ -4,12 +4,12 @@ use Rattle.sg_base.specs.MarkSet.{is_in}
 use Rattle.sg_chains.specs.Chained.{users_on}
 use Rattle.sg_maxmin.specs.Sharing.{Sharing, IsSound, uses_at}
 use Rattle.sg_levels.specs.declared.levels.Levels.{Levels}
-use Rattle.sg_levels.specs.Numbered.{bound_of, flow_in, level_at}
+use Rattle.sg_maxmin.specs.Numbered.{bound_of, flow_in, level_at}
 use Rattle.sg_levels.specs.Demand.{demand_of}
-use Rattle.sg_levels.specs.Held.{IsAtMost, IsUnder}
+use Rattle.sg_maxmin.specs.Held.{IsAtMost, IsUnder}
 use Rattle.sg_levels.specs.Settling.{AreSettlingOn, HasCause}
 use Rattle.sg_levels.specs.Kept.{ActivatesAll, ActivatesBut, AreParts, IsKept, IsMoved, IsSettlingOn, Moves, NotesMoved}
-use Rattle.sg_levels.proofs.Listed.{eq_cases}
+use Rattle.sg_maxmin.proofs.Listed.{eq_cases}
 use Rattle.sg_levels.proofs.Noted.{noted_none, noted_one}
 use Rattle.sg_levels.proofs.Steps.{held_user, uses_row, user_below, skip_keeps, lower_keeps, raise_keeps}
 

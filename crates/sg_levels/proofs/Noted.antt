@@ -1,9 +1,9 @@
 -- Flows whose levels change are noted.
 use Rattle.std.proofs.Common.{◌≡◌, ℕ, inl, inr, true, true≢false, Option, None, List, set, get_or-set_other, refl, sym, ap, subst, ◌∙◌}
 use Rattle.sg_base.specs.MarkSet.{MarkSet, is_in, with_mark}
-use Rattle.sg_levels.specs.Numbered.{level_at}
+use Rattle.sg_maxmin.specs.Numbered.{level_at}
 use Rattle.sg_levels.specs.Settling.{AreNoted}
-use Rattle.sg_levels.proofs.Listed.{bool_cases, eq_cases, mark_stays, mark_there}
+use Rattle.sg_maxmin.proofs.Listed.{bool_cases, eq_cases, mark_stays, mark_there}
 
 pub noted_none : (log : MarkSet) (levels : List (Option ℕ)) → AreNoted log log levels levels
 noted_none log levels = record { room = refl; grows = λ id i. i; kept = λ id i. refl }

@@ -3,10 +3,10 @@ use Rattle.std.proofs.Common.{◌≡◌, ◌≢◌, ℕ, ◌+◌, ◌-◌, ◌*�
 use Rattle.sg_chains.specs.Chained.{users_on}
 use Rattle.sg_maxmin.specs.Sharing.{Sharing}
 use Rattle.sg_levels.specs.declared.hold.Above.{Above}
-use Rattle.sg_levels.specs.Numbered.{below_at, row_level, row_waiting}
+use Rattle.sg_maxmin.specs.Numbered.{below_at, row_level, row_waiting}
 use Rattle.sg_levels.specs.Kept.{IsLevelAbove, IsPass, hold_looks}
-use Rattle.sg_levels.proofs.Listed.{none_some}
-use Rattle.sg_levels.proofs.HeldLevels.{row_same, waiting_same}
+use Rattle.sg_maxmin.proofs.Listed.{none_some}
+use Rattle.sg_maxmin.proofs.HeldLevels.{row_same, waiting_same}
 use Rattle.sg_levels.proofs.RowRise.{IsOnWay, Looked, looked_all, looked_first, looked_next}
 
 -- what a pass over the users found, after so many of the available visits

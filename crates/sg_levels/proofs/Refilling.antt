@@ -6,15 +6,16 @@ use Rattle.sg_chains.specs.Chained.{users_on}
 use Rattle.sg_maxmin.specs.Fill.{Flow}
 use Rattle.sg_maxmin.specs.Sharing.{Sharing, IsSound, flow_at}
 use Rattle.sg_levels.specs.declared.levels.Levels.{Levels}
-use Rattle.sg_levels.specs.Numbered.{flow_in, level_at}
+use Rattle.sg_maxmin.specs.Numbered.{flow_in, level_at}
 use Rattle.sg_levels.specs.Demand.{demand_of}
-use Rattle.sg_levels.specs.Held.{AreFilled, AreHeld, IsHold}
-use Rattle.sg_levels.specs.Kept.{AreGiven, AreHeldAt, is_one_of, IsBetween, IsFound, IsKept, IsMoved, IsRefilled, IsSettling, IsWithin, KeepsFlows, PassAlong, AreParts, IsGiven}
-use Rattle.sg_levels.proofs.Listed.{bool_cases, eq_cases, in_end, in_more, some_of}
-use Rattle.sg_levels.proofs.Users.{in_is, in_uses, is_in_In}
+use Rattle.sg_maxmin.specs.Held.{AreFilled, AreHeld, IsHold}
+use Rattle.sg_levels.specs.Kept.{AreGiven, AreHeldAt, is_one_of, IsBetween, IsKept, IsMoved, IsRefilled, IsSettling, IsWithin, KeepsFlows, AreParts, IsGiven}
+use Rattle.sg_maxmin.specs.Found.{IsFound, PassAlong}
+use Rattle.sg_maxmin.proofs.Listed.{bool_cases, eq_cases, in_end, in_more, some_of}
+use Rattle.sg_maxmin.proofs.Users.{in_is, in_uses, is_in_In}
 use Rattle.sg_levels.proofs.Within.{in_append}
-use Rattle.sg_levels.proofs.HeldLevels.{held_is_filling_lem}
-use Rattle.sg_levels.proofs.Changing.{hold_is_local_lem}
+use Rattle.sg_maxmin.proofs.HeldLevels.{held_is_filling_lem}
+use Rattle.sg_maxmin.proofs.OneHold.{hold_is_local_lem}
 use Rattle.sg_levels.proofs.Steps.{held_settles_lem}
 use Rattle.sg_levels.proofs.WayBack.{way_back_lem}
 

@@ -3,13 +3,13 @@ use Rattle.std.proofs.Common.{◌≡◌, ◌≢◌, ℕ, ◌<◌, ◌⊎◌, inl
 use Rattle.sg_base.specs.MarkSet.{MarkSet, is_in}
 use Rattle.sg_maxmin.specs.Sharing.{Sharing, IsSound, flow_at, uses_at}
 use Rattle.sg_levels.specs.declared.levels.Levels.{Levels}
-use Rattle.sg_levels.specs.Numbered.{bound_of, flow_in, level_at}
-use Rattle.sg_levels.specs.Held.{AreFilled}
+use Rattle.sg_maxmin.specs.Numbered.{bound_of, flow_in, level_at}
+use Rattle.sg_maxmin.specs.Held.{AreFilled}
 use Rattle.sg_levels.specs.Settling.{IsChanged, IsSame, IsStale, is_active}
 use Rattle.sg_levels.specs.Kept.{ActivatesAll, IsBetweenBut, IsKept, IsMoved, IsSettling}
-use Rattle.sg_levels.proofs.Listed.{eq_cases}
-use Rattle.sg_levels.proofs.Users.{flow_in_is, in_is, is_in_In}
-use Rattle.sg_levels.proofs.HeldLevels.{held_is_filling_lem}
+use Rattle.sg_maxmin.proofs.Listed.{eq_cases}
+use Rattle.sg_maxmin.proofs.Users.{flow_in_is, in_is, is_in_In}
+use Rattle.sg_maxmin.proofs.HeldLevels.{held_is_filling_lem}
 use Rattle.sg_levels.proofs.Steps.{settling_ends_lem}
 use Rattle.sg_levels.proofs.Marked.{but_none, none_but}
 use Rattle.sg_levels.proofs.Moving.{more_off, parts_moved}

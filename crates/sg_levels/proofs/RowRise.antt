@@ -4,10 +4,10 @@ use Rattle.std.proofs.lemmas.List.Sums.{sum_by-cons}
 use Rattle.sg_maxmin.specs.Fill.{Flow, share_of_fixed}
 use Rattle.sg_maxmin.proofs.Members.{In}
 use Rattle.sg_maxmin.proofs.Sums.{sum_by_le, sum_by-add, sum_by-mul, sum_by_same}
-use Rattle.sg_levels.specs.Numbered.{below_at, flow_in, level_at, row_level, row_taken, row_waiting, weight_at, when_below}
-use Rattle.sg_levels.specs.Held.{IsHold}
-use Rattle.sg_levels.proofs.Listed.{lt_cases, part_le, part_next}
-use Rattle.sg_levels.proofs.Balance.{moved, three, level_kept}
+use Rattle.sg_maxmin.specs.Numbered.{below_at, flow_in, level_at, row_level, row_taken, row_waiting, weight_at, when_below}
+use Rattle.sg_maxmin.specs.Held.{IsHold}
+use Rattle.sg_maxmin.proofs.Listed.{lt_cases, part_le, part_next}
+use Rattle.sg_maxmin.proofs.Balance.{moved, three, level_kept}
 
 -- ---- a row, one more flow at a time
 one_more : (k : ℕ) → k + 1 ≡ suc k

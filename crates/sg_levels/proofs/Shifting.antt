@@ -3,7 +3,7 @@ use Rattle.std.proofs.Common.{◌≡◌, ℕ, zero, suc, ◌+◌, ◌-◌, ◌*�
 use Rattle.std.proofs.lemmas.List.{take_more}
 use Rattle.std.proofs.lemmas.List.Sums.{sum_by-append, sum_by-cons}
 use Rattle.sg_chains.specs.Chained.{times}
-use Rattle.sg_levels.proofs.Listed.{eq_cases, times-cons}
+use Rattle.sg_maxmin.proofs.Listed.{eq_cases, times-cons}
 
 -- ---- how often a resource stands in a row
 times_more : (c : ℕ) (row : List ℕ) (k : ℕ) → k < length row → times c (take (suc k) row) ≡ times c (take k row) + cond (eqb (get_or row k 0) c) 1 0

@@ -5,15 +5,16 @@ use Rattle.sg_chains.specs.Chained.{users_on}
 use Rattle.sg_maxmin.specs.Fill.{Flow, bound_level}
 use Rattle.sg_maxmin.specs.Sharing.{Sharing, IsSound, flow_at, uses_at}
 use Rattle.sg_maxmin.proofs.Members.{In}
-use Rattle.sg_levels.specs.Numbered.{all_uses, below_at, bound_of, flow_in, level_at, when_below}
-use Rattle.sg_levels.specs.Held.{IsAtMost, IsCause, IsHold, IsUnder, by_bound, by_resource}
-use Rattle.sg_levels.specs.Changes.{ChangesFrom, IsFrom, IsSameRow}
+use Rattle.sg_maxmin.specs.Numbered.{all_uses, below_at, bound_of, flow_in, level_at, when_below}
+use Rattle.sg_maxmin.specs.Held.{IsAtMost, IsCause, IsHold, IsUnder, by_bound, by_resource, IsSameRow}
+use Rattle.sg_levels.specs.Changes.{ChangesFrom, IsFrom}
 use Rattle.sg_levels.specs.Settling.{AreSettlingOn, HasCause, HeldSettles, SettlingEnds, at_bound, at_hold, is_active}
-use Rattle.sg_levels.proofs.Listed.{bool_cases, eq_cases, none_some, part_next, same_in, some_same}
-use Rattle.sg_levels.proofs.Users.{on_held, in_is, is_in_In, weighs, flow_in_is, flow_below, rows_exist}
-use Rattle.sg_levels.proofs.HeldLevels.{waiting_some, users_of, exists_of}
+use Rattle.sg_maxmin.proofs.Listed.{bool_cases, eq_cases, none_some, part_next, same_in, some_same}
+use Rattle.sg_maxmin.proofs.Users.{on_held, in_is, is_in_In, weighs, flow_in_is, flow_below, rows_exist}
+use Rattle.sg_maxmin.proofs.HeldLevels.{waiting_some, users_of, exists_of}
 use Rattle.sg_levels.proofs.RowRise.{level_le}
-use Rattle.sg_levels.proofs.Changing.{hold_is_local_lem, hold_stays_lem}
+use Rattle.sg_levels.proofs.Changing.{hold_stays_lem}
+use Rattle.sg_maxmin.proofs.OneHold.{hold_is_local_lem}
 
 -- ---- the first of a list, or another
 pub head_or : (id id' : ℕ) (todo : List ℕ) → is_in id' (id ∷ todo) ≡ true → (id' ≡ id) ⊎ (is_in id' todo ≡ true)

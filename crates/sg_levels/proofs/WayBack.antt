@@ -5,16 +5,17 @@ use Rattle.sg_chains.specs.Chained.{users_on}
 use Rattle.sg_maxmin.specs.Fill.{Flow, level_of}
 use Rattle.sg_maxmin.specs.Sharing.{Sharing, IsSound, flow_at, held, uses_at}
 use Rattle.sg_levels.specs.declared.levels.Levels.{Levels}
-use Rattle.sg_levels.specs.Numbered.{below_at, bound_of, flow_in, level_at, row_level, row_waiting}
-use Rattle.sg_levels.specs.Held.{AreFilled, AreHeld, IsAtMost, IsCause, IsHold, by_bound, by_resource}
+use Rattle.sg_maxmin.specs.Numbered.{below_at, bound_of, flow_in, level_at, row_level, row_waiting}
+use Rattle.sg_maxmin.specs.Held.{AreFilled, AreHeld, IsAtMost, IsCause, IsHold, by_bound, by_resource}
 use Rattle.sg_levels.specs.Settling.{HasCause, at_bound, at_hold, is_active}
-use Rattle.sg_levels.specs.Kept.{IsBetween, IsRefilled, IsWithin, PassAlong, WayBack}
-use Rattle.sg_levels.proofs.Listed.{bool_cases}
-use Rattle.sg_levels.proofs.Users.{in_is, is_in_In, uses_held}
-use Rattle.sg_levels.proofs.HeldLevels.{users_of}
+use Rattle.sg_levels.specs.Kept.{IsBetween, IsRefilled, IsWithin, WayBack}
+use Rattle.sg_maxmin.specs.Found.{PassAlong}
+use Rattle.sg_maxmin.proofs.Listed.{bool_cases}
+use Rattle.sg_maxmin.proofs.Users.{in_is, is_in_In, uses_held}
+use Rattle.sg_maxmin.proofs.HeldLevels.{users_of}
 use Rattle.sg_levels.proofs.RowRise.{IsOnWay, way_starts, way_on, way_none, way_ends, level_le}
-use Rattle.sg_levels.proofs.Changing.{hold_is_local_lem}
-use Rattle.sg_levels.proofs.Converse.{filling_is_held_lem}
+use Rattle.sg_maxmin.proofs.OneHold.{hold_is_local_lem}
+use Rattle.sg_maxmin.proofs.Converse.{filling_is_held_lem}
 use Rattle.sg_levels.proofs.Steps.{held_user, uses_row, settling_ends_lem}
 
 -- ---- each resource has a hold

@@ -6,8 +6,8 @@ use Rattle.sg_maxmin.proofs.Members.{In}
 use Rattle.sg_levels.specs.declared.levels.Levels.{Levels}
 use Rattle.sg_levels.specs.Settling.{is_active}
 use Rattle.sg_levels.specs.Kept.{ActivatesOnly, FlowStaysWithin, IsMoved}
-use Rattle.sg_levels.proofs.Listed.{bool_cases, eq_cases}
-use Rattle.sg_levels.proofs.Users.{in_is, is_in_In}
+use Rattle.sg_maxmin.proofs.Listed.{bool_cases, eq_cases}
+use Rattle.sg_maxmin.proofs.Users.{in_is, is_in_In}
 
 pub in_append : (id x : ℕ) (xs : List ℕ) → In id (xs ++ x ∷ []) → (id ≡ x) ⊎ In id xs
 in_append id x [] (inl e) = inl (sym e)

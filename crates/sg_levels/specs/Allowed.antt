@@ -5,7 +5,8 @@ use Rattle.sg_maxmin.specs.Sharing.{Sharing, flow_at}
 use Rattle.sg_levels.specs.declared.allowance.Allowance.{Allowance}
 use Rattle.sg_levels.specs.declared.levels.Levels.{Levels}
 use Rattle.sg_levels.specs.Joined.{joined_count, joined_uses, spare_looks}
-use Rattle.sg_levels.specs.Kept.{IsWithin, PassAlong}
+use Rattle.sg_levels.specs.Kept.{IsWithin}
+use Rattle.sg_maxmin.specs.Found.{PassAlong}
 
 -- the flows that began or have another bound are held, and noted
 pub record AreNew (s : Sharing) (all : Levels) : Type 0 where

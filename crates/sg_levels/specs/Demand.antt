@@ -3,8 +3,8 @@ use Rattle.std.specs.Prelude.{ℕ, ◌+◌, ◌-◌, ◌*◌, ◌^◌, ◌<◌, 
 use Rattle.sg_chains.specs.Chained.{users_on}
 use Rattle.sg_maxmin.specs.Fill.{Flow, share_at}
 use Rattle.sg_maxmin.specs.Sharing.{Sharing, IsSound}
-use Rattle.sg_levels.specs.Numbered.{flow_in, level_at}
-use Rattle.sg_levels.specs.Held.{IsHold}
+use Rattle.sg_maxmin.specs.Numbered.{flow_in, level_at}
+use Rattle.sg_maxmin.specs.Held.{IsHold}
 use Rattle.sg_levels.specs.Changes.{AreWithin}
 
 -- What a flow adds: its share, of which no more than 64 bits hold, and twice its weight. Without a level it is more than any capacity.

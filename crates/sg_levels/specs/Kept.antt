@@ -1,5 +1,5 @@
 -- What a `Levels` keeps, and what a change and the processing of a resource do to it.
-use Rattle.std.specs.Prelude.{◌≡◌, ◌≢◌, ℕ, ◌+◌, ◌-◌, ◌*◌, ◌^◌, ◌<◌, ◌≤◌, Bool, true, false, ◌||◌, is_none, Option, None, Some, IsTrue, IsSome, IfSome, List, [], ◌∷◌, All, length, sum_by, slice_index, slice_set, ◌==◌, if◌then◌else◌}
+use Rattle.std.specs.Prelude.{◌≡◌, ◌≢◌, ℕ, ◌+◌, ◌-◌, ◌*◌, ◌^◌, ◌<◌, ◌≤◌, Bool, true, false, ◌||◌, is_none, Option, None, Some, IsTrue, IsSome, IfSome, List, [], ◌∷◌, length, sum_by, slice_index, slice_set, ◌==◌, if◌then◌else◌}
 use Rattle.sg_base.specs.MarkSet.{is_in, with_mark}
 use Rattle.sg_chains.specs.Chained.{times, users_on}
 use Rattle.sg_maxmin.specs.Fill.{Flow, level_of, share_of}
@@ -7,9 +7,10 @@ use Rattle.sg_maxmin.specs.Sharing.{Sharing, IsSound, Changes, flow_at, held, us
 use Rattle.sg_levels.specs.declared.hold.Above.{Above}
 use Rattle.sg_levels.specs.declared.hold.Rest.{Rest}
 use Rattle.sg_levels.specs.declared.levels.Levels.{Levels}
-use Rattle.sg_levels.specs.Numbered.{below_at, flow_in, level_at, row_level, row_taken, row_waiting, weight_at}
+use Rattle.sg_maxmin.specs.Numbered.{below_at, flow_in, level_at, row_level, row_taken, row_waiting, weight_at}
 use Rattle.sg_levels.specs.Demand.{demand_of}
-use Rattle.sg_levels.specs.Held.{AreFilled, AreHeld, IsHold}
+use Rattle.sg_maxmin.specs.Found.{PassAlong}
+use Rattle.sg_maxmin.specs.Held.{AreFilled, AreHeld, IsHold}
 use Rattle.sg_levels.specs.Settling.{AreNoted, AreSettling, AreSettlingBut, AreSettlingOn, is_active}
 
 -- there is a place for each flow and each resource of a system
@@ -204,12 +205,7 @@ pub record Activates (resources old new : List ℕ) : Type 0 where
 abbrev pub ActivatesBut : ℕ → List ℕ → List ℕ → List ℕ → Type 0
 ActivatesBut but resources old new = (r : ℕ) → is_active new r ≡ false → (is_active old r ≡ false) × (is_in r resources ≡ true → r ≡ but)
 
--- a test of flows and one of resources hold along all uses, if the one or the other holds
-pub record PassAlong (s : Sharing) (flows resources : ℕ → Bool) : Type 0 where
-  pub uses : (id r : ℕ) → IsTrue (flows id) → is_in r (uses_at s.slots id) ≡ true → IsTrue (resources r)
-  pub users : (r id : ℕ) → IsTrue (resources r) → is_in id (users_on s.users r) ≡ true → IsTrue (flows id)
-
--- they hold of all that is active, noted or stale
+-- a test of flows and one of resources hold of all that is active, noted or stale
 pub record IsWithin (flows resources : ℕ → Bool) (all : Levels) : Type 0 where
   pub active : (r : ℕ) → is_active all.active.members r ≡ true → IsTrue (resources r)
   pub moved : (id : ℕ) → is_in id all.moved.members ≡ true → IsTrue (flows id)
@@ -367,15 +363,6 @@ pub record AreHeldAt (resources : List ℕ) (holds : List (Option ℕ)) (old new
   pub here : (r : ℕ) → is_in r resources ≡ true → level_at new.holds.items r ≡ level_at holds r
   pub others : (r : ℕ) → is_in r resources ≡ false → level_at new.holds.items r ≡ level_at old.holds.items r
   pub flows : KeepsFlows old new
-
--- these flows are held and have these max-min levels, and these resources hold their flows at these
-pub record IsFound (s : Sharing) (flows resources : List ℕ) (levels holds : List (Option ℕ)) : Type 0 where
-  pub flows_held : All (λ id. IsSome (flow_at s.slots id)) flows
-  pub places : length s.slots ≤ length levels
-  pub exist : All (λ r. r < length s.capacities) resources
-  pub as_many : length holds ≡ length s.capacities
-  pub filled : (id : ℕ) (flow : Flow) → flow_at s.slots id ≡ Some flow → is_in id flows ≡ true → level_at levels id ≡ Some (level_of s.capacities (held s.slots) flow)
-  pub holds_are : (r : ℕ) → is_in r resources ≡ true → IsHold (slice_index s.capacities r) s.slots levels (users_on s.users r) (level_at holds r)
 
 abbrev pub FlowsStayWithin : Sharing → List ℕ → Levels → Levels → Type 0
 FlowsStayWithin s flows old new = (p q : ℕ → Bool) → PassAlong s p q → ((id : ℕ) → is_in id flows ≡ true → IsTrue (p id)) → IsWithin p q old → IsWithin p q new

@@ -4,8 +4,8 @@ use Rattle.sg_base.specs.MarkSet.{MarkSet, is_in}
 use Rattle.sg_chains.specs.Chained.{users_on}
 use Rattle.sg_maxmin.specs.Fill.{Flow}
 use Rattle.sg_maxmin.specs.Sharing.{Sharing, IsSound, flow_at, uses_at}
-use Rattle.sg_levels.specs.Numbered.{bound_of, level_at}
-use Rattle.sg_levels.specs.Held.{IsHold, AreHeld, IsAtMost}
+use Rattle.sg_maxmin.specs.Numbered.{bound_of, level_at}
+use Rattle.sg_maxmin.specs.Held.{IsHold, AreHeld, IsAtMost}
 
 -- whether a resource waits to be processed
 abbrev pub is_active : List ℕ → ℕ → Bool

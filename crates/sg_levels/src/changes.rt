@@ -4,7 +4,7 @@ ghost use Rattle.sg_chains.specs.Chained.{times};
 ghost use Rattle.sg_maxmin.specs.Fill.{flow};
 ghost use Rattle.sg_maxmin.specs.Sharing.{IsFlow, IsSound, flow_at, uses_at};
 ghost use Rattle.sg_levels.specs.Kept.{Activates, FlowJoins, HasFlow, HasLeft, IsBetween, IsEnded, IsKept, IsMoved, IsStarted, KeepsLevels, KeepsUp, ResourceJoins, UsesStayWithin};
-ghost use Rattle.sg_levels.specs.Numbered.{bound_of as bound_of_flow, flow_in};
+ghost use Rattle.sg_maxmin.specs.Numbered.{bound_of as bound_of_flow, flow_in};
 
 use crate::levels::Levels;
 use crate::settling::{bound_of, is_same, part_of, visit, visit_uses};

@@ -1,13 +1,14 @@
 //! The level at which a resource holds its flows.
-ghost use Rattle.std.specs.Prelude.{◌≡◌, ◌≤◌, ◌<◌, ◌+◌, ◌-◌, ◌*◌, ◌/◌, ◌^◌, ℕ, Option, None, Some, IfSome, is_none, length, min, slice_index, if◌then◌else◌};
+ghost use Rattle.std.specs.Prelude.{◌≡◌, ◌≤◌, ◌<◌, ◌+◌, ◌-◌, ◌*◌, ◌/◌, ℕ, Option, None, Some, IfSome, is_none, length, slice_index, if◌then◌else◌};
 ghost use Rattle.sg_chains.specs.Chained.{users_on};
 ghost use Rattle.sg_maxmin.specs.Fill.{bounded, share_of_fixed};
-ghost use Rattle.sg_levels.specs.Held.{IsHold};
+ghost use Rattle.sg_maxmin.specs.Held.{IsHold};
 ghost use Rattle.sg_levels.specs.Kept.{CanCount, CanPass, IsFirstPass, IsLevelAbove, IsPass, IsRest};
-ghost use Rattle.sg_levels.specs.Numbered.{below_at, flow_in, level_at, row_level, row_taken, row_waiting, weight_at, when_below};
+ghost use Rattle.sg_maxmin.specs.Numbered.{below_at, flow_in, level_at, row_level, row_taken, row_waiting, weight_at, when_below};
 
 use sg_base::Steps;
 use sg_maxmin::System;
+use sg_maxmin::rounding::{level_of, share_at};
 use std::sync::ledger::Ledger;
 
 // What fixed flows leave of a resource, the weight of the others, and how many flows there are in all.
@@ -44,22 +45,11 @@ fn below(levels: &[Option<u64>], flow: usize, low: u64) -> Option<u64>
     }
 }
 
-// Returns the share at a level, or the greatest number if that is less.
-pub(crate) fn capped_share(weight: u32, bound: Option<u64>, level: u64) -> u64
-    ensures { result ≡ min (bounded bound (weight * level)) (2 ^ 64 - 1) }
-{
-    let share = (weight as u64).saturating_mul(level);
-    match bound {
-        None => share,
-        Some(bound) => share.min(bound),
-    }
-}
-
 // Returns what remains if a share is given.
 fn less(left: u64, weight: u32, bound: Option<u64>, level: u64) -> u64
     ensures { result ≡ left - bounded bound (weight * level) }
 {
-    left.saturating_sub(capped_share(weight, bound, level))
+    left.saturating_sub(share_at(weight, bound, level))
 }
 
 // Returns the rest with one more flow on the resource, fixed or not.
@@ -120,7 +110,7 @@ fn rest_of<L: Ledger>(
 }
 
 // Returns the level of a resource, if a flow waits there.
-fn level_of(rest: Rest) -> Option<u64>
+fn level_of_rest(rest: Rest) -> Option<u64>
     ensures none { result ≡ None → rest.waiting ≡ 0 }
     ensures some { IfSome result (λ level. (0 < rest.waiting)
         × (level ≡ rest.left / rest.waiting)) }
@@ -128,7 +118,7 @@ fn level_of(rest: Rest) -> Option<u64>
     if rest.waiting == 0 {
         None
     } else {
-        Some(rest.left / rest.waiting)
+        Some(level_of(rest.left, rest.waiting))
     }
 }
 
@@ -154,7 +144,7 @@ pub(crate) fn level_above<L: Ledger>(
         return None;
     };
     Some(Above {
-        level: level_of(rest),
+        level: level_of_rest(rest),
         users: rest.users,
     })
 }

@@ -2,7 +2,7 @@
 ghost use Rattle.std.specs.Prelude.{◌≡◌, ◌≢◌, ◌<◌, ◌≤◌, ◌-◌, ℕ, [], All, AllPairs, IfOk, OnOk, length, slice_index};
 ghost use Rattle.sg_maxmin.specs.Sharing.{IsExtended, Sharing};
 ghost use Rattle.sg_levels.specs.Kept.{HasRoom, IsBetween, IsFresh, IsUnmarked, KeepsAll, MarksNoMore, NotesChanged};
-ghost use Rattle.sg_levels.specs.Numbered.{level_at};
+ghost use Rattle.sg_maxmin.specs.Numbered.{level_at};
 ghost use Rattle.sg_levels.specs.Settling.{is_active};
 
 use sg_base::{Marks, Memory};

@@ -3,26 +3,17 @@ ghost use Rattle.std.specs.Prelude.{◌≡◌, ◌≤◌, ◌<◌, ◌+◌, ◌-
 ghost use Rattle.sg_base.specs.MarkSet.{is_in};
 ghost use Rattle.sg_maxmin.specs.Sharing.{IsSound, flow_at, uses_at};
 ghost use Rattle.sg_levels.specs.Demand.{demand_of};
-ghost use Rattle.sg_levels.specs.Held.{AreFilled};
-ghost use Rattle.sg_levels.specs.Kept.{AreGiven, AreHeldAt, AreParts, CanShift, FlowsStayWithin, HasFlow, IsBetween, IsFound, IsGiven, IsKept, IsWithin, KeepsFlows, Moves, NotesMoved, PassAlong, Shifts, is_one_of};
-ghost use Rattle.sg_levels.specs.Numbered.{all_uses, flow_in, level_at};
+ghost use Rattle.sg_maxmin.specs.Held.{AreFilled};
+ghost use Rattle.sg_levels.specs.Kept.{AreGiven, AreHeldAt, AreParts, CanShift, FlowsStayWithin, HasFlow, IsBetween, IsGiven, IsKept, IsWithin, KeepsFlows, Moves, NotesMoved, Shifts, is_one_of};
+ghost use Rattle.sg_maxmin.specs.Found.{IsFound, PassAlong};
+ghost use Rattle.sg_maxmin.specs.Numbered.{all_uses, flow_in, level_at};
 ghost use Rattle.sg_levels.specs.Settling.{is_active};
 
 use crate::levels::Levels;
 use crate::settling::{is_same, part_of};
 use sg_base::Steps;
-use sg_maxmin::System;
+use sg_maxmin::{Filled, System};
 use std::sync::ledger::Ledger;
-
-/// The result of a max-min solve of some flows and resources: under the number of each flow its level, and under that
-/// of each resource its hold.
-#[derive(Clone, Copy)]
-pub struct Filled<'a> {
-    pub flows: &'a [usize],
-    pub resources: &'a [usize],
-    pub levels: &'a [Option<u64>],
-    pub holds: &'a [Option<u64>],
-}
 
 // Returns what stands under a number.
 fn under(list: &[Option<u64>], number: usize) -> Option<u64>

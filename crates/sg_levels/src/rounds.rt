@@ -3,11 +3,11 @@ ghost use Rattle.std.specs.Prelude.{◌≡◌, ◌≢◌, ◌≤◌, ◌<◌, �
 ghost use Rattle.sg_base.specs.MarkSet.{is_in};
 ghost use Rattle.sg_chains.specs.Chained.{users_on};
 ghost use Rattle.sg_maxmin.specs.Sharing.{IsSound, flow_at, uses_at};
-ghost use Rattle.sg_levels.specs.Held.{AreFilled};
+ghost use Rattle.sg_maxmin.specs.Held.{AreFilled};
 ghost use Rattle.sg_levels.specs.Kept.{HasFlow, HasHold, HasPlaces, HasResource, IsBetween, IsBetweenBut, IsFirstPass, IsSettling, IsSettlingAt, Moves, NotesChanged, NotesMoved, Settles, StaysWithin};
 ghost use Rattle.sg_levels.specs.Allowed.{AreNew, IsSpent, KnowsUsers, SparesLooks};
 ghost use Rattle.sg_levels.specs.Joined.{spare_looks};
-ghost use Rattle.sg_levels.specs.Numbered.{all_uses, level_at};
+ghost use Rattle.sg_maxmin.specs.Numbered.{all_uses, level_at};
 ghost use Rattle.sg_levels.specs.Settling.{is_active};
 
 use crate::allowance::Allowance;

@@ -1,19 +1,18 @@
 //! A rate update: it makes levels and holds agree, one resource at a time, in any order.
-ghost use Rattle.std.specs.Prelude.{◌≡◌, ◌≤◌, ◌<◌, ◌+◌, ◌-◌, ◌*◌, ◌^◌, ℕ, true, false, IsTrue, Option, None, Some, IfSome, IsSome, [], ◌∷◌, length, option_map, slice_index, slice_set, ◌==◌, if◌then◌else◌};
+ghost use Rattle.std.specs.Prelude.{◌≡◌, ◌≤◌, ◌<◌, ◌+◌, ◌-◌, ◌*◌, ◌^◌, ℕ, true, false, IsTrue, Option, None, Some, IfSome, IsSome, [], ◌∷◌, length, slice_index, slice_set, ◌==◌, if◌then◌else◌};
 ghost use Rattle.sg_base.specs.MarkSet.{is_in};
 ghost use Rattle.sg_chains.specs.Chained.{times, users_on};
-ghost use Rattle.sg_maxmin.specs.Fill.{bound_level as level_of_bound};
 ghost use Rattle.sg_maxmin.specs.Sharing.{flow_at, uses_at};
 ghost use Rattle.sg_levels.specs.Demand.{demand_of};
-ghost use Rattle.sg_levels.specs.Held.{IsAtMost, IsUnder};
+ghost use Rattle.sg_maxmin.specs.Held.{IsAtMost, IsUnder};
 ghost use Rattle.sg_levels.specs.Kept.{Activates, ActivatesBut, ActivatesOnly, CanShift, HasFlow, HasPlaces, IsKept, IsSettlingOn, IsUser, KeepsLevels, Lessens, MovesTo, NotesMoved, ResourceStaysWithin, SettlesUser, Shifts};
-ghost use Rattle.sg_levels.specs.Numbered.{IsHeld, bound_of as bound_of_flow, flow_in, level_at};
+ghost use Rattle.sg_maxmin.specs.Numbered.{IsHeld, bound_of as bound_of_flow, flow_in, level_at};
 ghost use Rattle.sg_levels.specs.Settling.{HasCause, is_active};
 
-use crate::hold::capped_share;
 use crate::levels::Levels;
 use sg_base::Steps;
 use sg_maxmin::System;
+use sg_maxmin::rounding::{level_of_bound, share_at};
 use std::sync::ledger::Ledger;
 
 // Returns whether two levels are the same.
@@ -44,23 +43,12 @@ fn hold_below(level: Option<u64>, hold: Option<u64>) -> Option<u64>
     }
 }
 
-// Returns the level of a bound.
-fn bound_level(weight: u32, bound: Option<u64>) -> Option<u64>
-    requires { 0 < weight }
-    ensures { result ≡ option_map (level_of_bound weight) bound }
-{
-    match bound {
-        None => None,
-        Some(bound) => Some(bound.div_ceil(weight as u64)),
-    }
-}
-
 // Returns the level of a flow's bound.
 pub(crate) fn bound_of(system: &System, flow: usize) -> Option<u64>
     requires { IsHeld system.now flow }
     ensures { result ≡ bound_of_flow (flow_in system.now.slots flow) }
 {
-    bound_level(system.weight(flow), system.bound(flow))
+    level_of_bound(system.weight(flow), system.bound(flow))
 }
 
 // Returns what a flow adds to the demand on each of its resources, at this level.
@@ -72,7 +60,7 @@ pub(crate) fn part_of(system: &System, flow: usize, level: Option<u64>) -> u128
     match level {
         None => u128::from(u64::MAX) + 1,
         Some(level) => {
-            u128::from(capped_share(weight, system.bound(flow), level)) + 2 * u128::from(weight)
+            u128::from(share_at(weight, system.bound(flow), level)) + 2 * u128::from(weight)
         }
     }
 }

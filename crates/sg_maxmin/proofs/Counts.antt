@@ -1,7 +1,6 @@
 -- Counting along a chain.
-use Rattle.std.proofs.Common.{◌≡◌, ◌≢◌, ℕ, zero, suc, ◌+◌, ◌-◌, ◌*◌, ◌^◌, ◌<◌, ◌≤◌, ◌⊎◌, inl, inr, Bool, true, false, cond, ◌&&◌, is_none, is_some, ◌==◌, eq-eqb, ne_eqb, Option, None, Some, List, [], ◌∷◌, ◌++◌, length, get_or, set, take, drop, get_or-set_same, get_or-set_other, min, Contains, All, IsSomeAnd, IfSome, map, option_map, add-one, append_assoc, refl, sym, ap, subst, ◌∙◌, arith}
+use Rattle.std.proofs.Common.{◌≡◌, ◌≢◌, ℕ, zero, suc, ◌+◌, ◌-◌, ◌*◌, ◌^◌, ◌<◌, ◌≤◌, ◌⊎◌, inl, inr, Bool, true, false, cond, ◌&&◌, is_none, is_some, ◌==◌, eq-eqb, ne_eqb, Option, None, Some, List, [], ◌∷◌, ◌++◌, length, get_or, set, take, drop, get_or-set_same, get_or-set_other, min, All, IsSomeAnd, IfSome, map, option_map, add-one, append_assoc, refl, sym, ap, subst, ◌∙◌, arith}
 use Rattle.std.proofs.lemmas.List.Sums.{sum_by-cons}
-use Rattle.std.proofs.lemmas.List.Elements.{Contains-push, Contains-push_cases, Contains-append_left, Contains-append_right, Contains-append_cases}
 use Rattle.std.specs.List.{list_any, AllPairs}
 use Rattle.sg_maxmin.specs.declared.flow_row.FlowRow.{FlowRow}
 use Rattle.sg_chains.specs.declared.uses.Use.{Use}
@@ -10,7 +9,9 @@ use Rattle.sg_chains.specs.Chain.{resources, IsChain}
 use Rattle.sg_maxmin.specs.kept.Uses.{flow_of, AreRows, IsOneChain}
 use Rattle.sg_maxmin.specs.Sharing.{IsFlow}
 use Rattle.sg_chains.specs.Chained.{times}
-use Rattle.sg_maxmin.specs.kept.Counting.{HasRowPlaces, row_share, IsLeast, least_with, with_level, without_share, SameRows, RowSteps, IsStepped}
+use Rattle.sg_maxmin.specs.kept.Counting.{HasRowPlaces, row_share, with_level, without_share, SameRows, RowSteps}
+use Rattle.sg_maxmin.specs.Step.{IsLeast, least_with, IsStepped}
+use Rattle.sg_maxmin.proofs.Least.{least_push}
 
 pub eq_cases : (a b : ℕ) → (a ≡ b) ⊎ (a ≢ b)
 eq_cases a b = grind arith
@@ -56,26 +57,6 @@ off_more w r s rest c in' =
     twice : (a s n : ℕ) → a - s - n * s ≡ a - (1 + n) * s
     twice a s n = omega arith
 
--- ---- the least of a list, one more at a time
-min_cases : (a b : ℕ) → (min a b ≤ a) × (min a b ≤ b) × ((min a b ≡ a) ⊎ (min a b ≡ b))
-min_cases a b = grind arith
-
-pub least_push : (o : Option ℕ) (xs : List ℕ) (x : ℕ) → IsLeast o xs → IsLeast (Some (least_with o x)) (xs ++ x ∷ [])
-least_push None xs x e =
-    subst (λ ys. IsLeast (Some x) (ys ++ x ∷ [])) (sym e) ((0, omega arith, refl), λ y i. one y (Contains-push_cases [] x y i))
-  where
-    one : (y : ℕ) → Contains [] y ⊎ (x ≡ y) → x ≤ y
-    one y (inl i) = absurd (omega (arith, i.1))
-    one y (inr e) = omega (arith, e)
-least_push (Some l) xs x h =
-    let m = min_cases l x in (
-      elim m.2 [
-        | inl e ↦ subst (λ w. Contains (xs ++ x ∷ []) w) (sym e) (Contains-append_left xs (x ∷ []) l h.0)
-        | inr e ↦ subst (λ w. Contains (xs ++ x ∷ []) w) (sym e) (Contains-push xs x)
-      ],
-      λ y i. elim (Contains-push_cases xs x y i) [ inl j ↦ omega (arith, m.0, h.1 y j) | inr e ↦ omega (arith, m.1, e) ],
-    )
-
 -- what follows a place, one place on
 pub step_on : (xs : List ℕ) (k y : ℕ) (ys : List ℕ) → drop k xs ≡ y ∷ ys → (take (k + 1) xs ≡ take k xs ++ y ∷ []) × (drop (k + 1) xs ≡ ys)
 step_on xs k y ys e = rw add-one (on xs k e)
@@ -95,17 +76,6 @@ pub limits_more : (o : Option ℕ) (first : List ℕ) (f : ℕ → ℕ) (all : L
 limits_more o first f all k r rest e h =
     subst (λ ys. IsLeast (Some (least_with o (f r))) ys) (append_assoc first (map f (take k all)) (f r ∷ []) ∙ ap (λ ys. first ++ ys) (sym (map_push f (take k all) r) ∙ ap (λ ys. map f ys) (sym (step_on all k r rest e).0)))
     (least_push o (first ++ map f (take k all)) (f r) h)
-
-pub least_join : (o : Option ℕ) (xs ys : List ℕ) (l : ℕ) → IsLeast o xs → IsLeast (Some l) ys → IsLeast (Some (least_with o l)) (xs ++ ys)
-least_join None xs ys l e h = subst (λ zs. IsLeast (Some l) (zs ++ ys)) (sym e) h
-least_join (Some k) xs ys l g h =
-    let m = min_cases k l in (
-      elim m.2 [
-        | inl e ↦ subst (λ w. Contains (xs ++ ys) w) (sym e) (Contains-append_left xs ys k g.0)
-        | inr e ↦ subst (λ w. Contains (xs ++ ys) w) (sym e) (Contains-append_right xs ys l h.0)
-      ],
-      λ y i. elim (Contains-append_cases xs ys y i) [ inl j ↦ omega (arith, m.0, g.1 y j) | inr j ↦ omega (arith, m.1, h.1 y j) ],
-    )
 
 -- if each resource stands once, it is counted once
 times-once : (xs : List ℕ) (c : ℕ) → AllPairs (λ a b. a ≢ b) xs → times c xs ≡ cond (list_any (λ d. d == c) xs) 1 0
@@ -151,8 +121,8 @@ waits_once true level weight e = rw e (omega arith)
 waits_once false level weight e = omega arith
 
 -- off what fits 64 bits, a share goes as far as 64 bits go
-pub cut_times : (a t s : ℕ) → a < 2 ^ 64 → a - t * min (2 ^ 64 - 1) s ≡ a - t * s
-cut_times a zero s fits = none a (min (2 ^ 64 - 1) s) s
+pub cut_times : (a t s : ℕ) → a < 2 ^ 64 → a - t * min s (2 ^ 64 - 1) ≡ a - t * s
+cut_times a zero s fits = none a (min s (2 ^ 64 - 1)) s
   where
     none : (x y z : ℕ) → x - 0 * y ≡ x - 0 * z
     none x y z = omega arith
@@ -161,7 +131,7 @@ cut_times a (suc k) s fits = elim (small s) [
   | inr h ↦ subst (λ n. a - suc k * n ≡ a - suc k * s) (sym h.0) (both_none a k s fits h.1)
 ]
   where
-    small : (n : ℕ) → (min (2 ^ 64 - 1) n ≡ n) ⊎ ((min (2 ^ 64 - 1) n ≡ 2 ^ 64 - 1) × (2 ^ 64 - 1 ≤ n))
+    small : (n : ℕ) → (min n (2 ^ 64 - 1) ≡ n) ⊎ ((min n (2 ^ 64 - 1) ≡ 2 ^ 64 - 1) × (2 ^ 64 - 1 ≤ n))
     small n = elim (cases (2 ^ 64 - 1) n) [ inl h ↦ inr (omega (arith, h), h) | inr h ↦ inl (omega (arith, h)) ]
       where
         cases : (x y : ℕ) → (x ≤ y) ⊎ (y < x)
@@ -186,9 +156,6 @@ takes_once false row level l e = no_time (bounded row.bound (row.weight * l))
 pub unfixed_from : (level : Option ℕ) → is_some level ≡ false → is_none level ≡ true
 unfixed_from None e = refl
 unfixed_from (Some x) e = cc e
-
-pub least_unique : (k l : ℕ) (xs : List ℕ) → IsLeast (Some k) xs → IsLeast (Some l) xs → k ≡ l
-least_unique k l xs g h = omega (arith, g.1 l h.0, h.1 k g.0)
 
 -- ---- rows that are the same except for their shares
 pub flows_same : (uses : List (Option Use)) (old new : List (Option FlowRow)) → SameRows old new → (key : ℕ) → option_map (flow_of uses) (get_or new key None) ≡ option_map (flow_of uses) (get_or old key None)

@@ -2,17 +2,19 @@
 //! fixed flows leave and the weights of the unfixed ones that wait for it; the second finds the lowest limit; the third
 //! fixes each flow at that limit.
 
-ghost use Rattle.std.specs.Prelude.{◌≡◌, ◌≢◌, ◌↔◌, IsTrue, IsSomeAnd, option_map, ◌≤◌, ◌<◌, ◌+◌, ◌-◌, ◌*◌, ◌^◌, ◌/◌, min, ℕ, List, ◌++◌, length, Some, None, slice_index};
+ghost use Rattle.std.specs.Prelude.{◌≡◌, ◌≢◌, ◌↔◌, IsTrue, IsSomeAnd, ◌≤◌, ◌<◌, ◌+◌, ◌-◌, ◌*◌, ◌^◌, ℕ, List, ◌++◌, length, Some, None, slice_index};
 ghost use Rattle.sg_chains.specs.Chained.{times};
 ghost use Rattle.sg_maxmin.specs.kept.Uses.{AreRows, flows_of, row_uses};
 ghost use Rattle.sg_maxmin.specs.Laws.{HaveLimits};
 ghost use Rattle.sg_maxmin.specs.Sharing.{held};
-ghost use Rattle.sg_maxmin.specs.Fill.{bounded, bound_level};
+ghost use Rattle.sg_maxmin.specs.Step.{IsLeast};
+ghost use Rattle.sg_maxmin.specs.Fill.{bounded};
 ghost use Rattle.sg_maxmin.specs.kept.Numbers.{ChangesRow, ChangesRows, row_at};
-ghost use Rattle.sg_maxmin.specs.kept.Counting.{HasRowPlaces, HavePlaces, IsLeast, LooksUpTo, row_limits, least_with, AreCounted, row_taken, row_waiting, row_count, count_of, unfixed_limits, all_limits, with_level, with_share, RowSteps, SameRows, AreRowLevels};
+ghost use Rattle.sg_maxmin.specs.kept.Counting.{HasRowPlaces, HavePlaces, LooksUpTo, row_limits, AreCounted, row_taken, row_waiting, row_count, count_of, unfixed_limits, all_limits, with_level, with_share, RowSteps, SameRows, AreRowLevels};
 
 use crate::flow_row::FlowRow;
 use crate::numbered_rows::Rows;
+use crate::rounding::{level_of, level_of_bound, share_at, smaller};
 use crate::uses::look;
 use sg_base::Steps;
 use sg_chains::Chains;
@@ -24,28 +26,6 @@ use std::sync::ledger::Ledger;
 struct Counts<'a> {
     left: &'a [u64],
     waiting: &'a [u64],
-}
-
-// Returns the level of a flow's bound, if it has one.
-fn level_of_bound(row: FlowRow) -> Option<u64>
-    requires { 0 < row.weight }
-    ensures { result ≡ option_map (bound_level row.weight) row.bound }
-{
-    match row.bound {
-        None => None,
-        Some(bound) => Some(bound.div_ceil(u64::from(row.weight))),
-    }
-}
-
-// Returns the share of a flow at a level, as far as 64 bits go.
-fn share_at(row: FlowRow, level: u64) -> u64
-    ensures { result ≡ min (2 ^ 64 - 1) (bounded row.bound (row.weight * level)) }
-{
-    let share = u64::from(row.weight).saturating_mul(level);
-    match row.bound {
-        None => share,
-        Some(bound) => bound.min(share),
-    }
 }
 
 // Counts the weight of an unfixed flow at each of its resources.
@@ -81,7 +61,7 @@ fn take_off<L: Ledger>(
         - times resource (row_uses uses.now.uses row) * bounded row.bound (row.weight * level) }
     ensures looks { steps.new ≡ steps.old + row.count }
 {
-    let share = share_at(row, level);
+    let share = share_at(row.weight, row.bound, level);
     let mut at = row.first;
     for done in 0..row.count {
         let slot = look(uses, at, row.count - done, steps);
@@ -105,7 +85,7 @@ fn least_limit<L: Ledger>(
         (row_limits counts.entry.left.now counts.entry.waiting.now uses.now.uses row) }
     ensures looks { steps.new ≡ steps.old + row.count }
 {
-    let mut least = level_of_bound(row);
+    let mut least = level_of_bound(row.weight, row.bound);
     let mut at = row.first;
     for done in 0..row.count {
         let slot = look(uses, at, row.count - done, steps);
@@ -114,23 +94,6 @@ fn least_limit<L: Ledger>(
         at = slot.next_of_flow;
     }
     least
-}
-
-// Returns the level of a resource: what remains for each unit of weight that waits. If none waits it plays no part.
-fn level_of(left: u64, waiting: u64) -> u64
-    ensures { result ≡ left / waiting }
-{
-    if waiting == 0 { 0 } else { left / waiting }
-}
-
-// Returns the smaller of the two, or the one if there is one.
-fn smaller(least: Option<u64>, level: u64) -> Option<u64>
-    ensures { result ≡ Some (least_with least level) }
-{
-    match least {
-        None => Some(level),
-        Some(least) => Some(least.min(level)),
-    }
 }
 
 // Writes 0 everywhere.
@@ -366,7 +329,7 @@ fn put_share(flows: &mut Rows, id: usize)
     ensures { ChangesRow id with_share flows.old flows.new }
 {
     if let Some(row) = flows.get(id) {
-        let share = share_at(row, row.level.unwrap_or(0));
+        let share = share_at(row.weight, row.bound, row.level.unwrap_or(0));
         flows.replace(id, FlowRow { share, ..row });
     }
 }

@@ -1,4 +1,7 @@
-//! Laws of max-min shares, each the contract of a function that does nothing.
+//! Laws of max-min shares, levels and holds, each the contract of a function that does nothing.
+ghost use Rattle.sg_maxmin.specs.Balanced.{BalanceIsFilling, FillingBalances};
+ghost use Rattle.sg_maxmin.specs.Held.{FillingIsHeld, FullHolds, HeldIsFilling, HoldIsLocal, HoldIsOne, OthersHoldNone};
+ghost use Rattle.sg_maxmin.specs.Numbered.{RowTells};
 ghost use Rattle.sg_maxmin.specs.Relisted.{FillsInAnyOrder};
 ghost use Rattle.sg_maxmin.specs.Unweighted.{FillsEqually};
 ghost use Rattle.sg_maxmin.specs.Worked.{AreWorked};
@@ -65,6 +68,51 @@ pub fn sums_change()
 /// The flow under a number is one of those that the system holds.
 pub fn is_held()
     ensures { IsHeld }
+{}
+
+/// Levels that balance at each flow and at each resource are the max-min levels.
+pub fn balance_is_filling()
+    ensures { BalanceIsFilling }
+{}
+
+/// The max-min levels balance.
+pub fn filling_balances()
+    ensures { FillingBalances }
+{}
+
+/// The level of a resource depends on the flows on it alone.
+pub fn row_tells()
+    ensures { RowTells }
+{}
+
+/// If each flow's level is the least of its bound's level and its resources' holds, the levels are the max-min levels.
+pub fn held_is_filling()
+    ensures { HeldIsFilling }
+{}
+
+/// Each flow's max-min level is the least of its bound's level and of its resources' holds.
+pub fn filling_is_held()
+    ensures { FillingIsHeld }
+{}
+
+/// A resource has one hold.
+pub fn hold_is_one()
+    ensures { HoldIsOne }
+{}
+
+/// A hold depends on the capacity, the flows on the resource and their levels alone.
+pub fn hold_is_local()
+    ensures { HoldIsLocal }
+{}
+
+/// After a max-min solve a resource that is at the level of one of its users holds at it.
+pub fn full_holds()
+    ensures { FullHolds }
+{}
+
+/// After a max-min solve a resource that is at the level of none of its users holds none.
+pub fn others_hold_none()
+    ensures { OthersHoldNone }
 {}
 
 /// Max-min shares that were worked out by hand.

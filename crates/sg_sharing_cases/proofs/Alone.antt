@@ -12,8 +12,8 @@ use Rattle.sg_lazy.specs.RunningFlow.{RunningFlow, running_at, running_flows, fl
 use Rattle.sg_sharing_cases.specs.OneEach.{users_of}
 use Rattle.sg_lazy.specs.Work.{is_marked, is_joined, touched_count, touched_uses, work}
 use Rattle.sg_lazy.proofs.Reached.{or_true, both_true, spread_cases}
-use Rattle.sg_filling.proofs.Listing.{eq_cases}
 use Rattle.sg_lazy.proofs.Slots.{sum_written}
+use Rattle.sg_maxmin.proofs.Listed.{eq_cases}
 
 -- if no flow uses two resources, spreading reaches nothing more
 reaches_first : (flows : List Flow) (first : ℕ → Bool) → ((f : Flow) → In f flows → (a b : ℕ) → is_on a f ≡ true → is_on b f ≡ true → a ≡ b) → (n c : ℕ) → reach n flows first c ≡ true → first c ≡ true

@@ -5,8 +5,8 @@ use Rattle.sg_maxmin.proofs.Sums.{sum_by_zero}
 use Rattle.sg_lazy.specs.RunningFlow.{RunningFlow, running_at, flow_under, flows_in}
 use Rattle.sg_lazy.specs.Lazily.{Lazily, IsRoomier, IsSettled, with_flow}
 use Rattle.sg_sharing_cases.specs.OneEach.{IsIdle, IsOneEach, users_of}
-use Rattle.sg_filling.proofs.Listing.{eq_cases}
 use Rattle.sg_lazy.proofs.Slots.{In-flows_back, sum_written}
+use Rattle.sg_maxmin.proofs.Listed.{eq_cases}
 
 none_some : (r : RunningFlow) → None ≡ Some r → ⊥
 none_some r h = cc h

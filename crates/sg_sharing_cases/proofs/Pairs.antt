@@ -6,7 +6,7 @@ use Rattle.sg_maxmin.specs.Sharing.{Sharing, flow_at}
 use Rattle.sg_lazy.specs.RunningFlow.{RunningFlow, running_at}
 use Rattle.sg_lazy.specs.Lazily.{Lazily}
 use Rattle.sg_sharing_cases.specs.Pairs.{ArePaired, twin_of}
-use Rattle.sg_filling.proofs.Listing.{eq_cases}
+use Rattle.sg_maxmin.proofs.Listed.{eq_cases}
 
 none_some : {X : Type 0} (x : X) → None ≡ Some x → ⊥
 none_some x h = cc h

@@ -5,7 +5,7 @@ use Rattle.sg_maxmin.specs.Fill.{Flow, share_at}
 use Rattle.sg_maxmin.specs.Sharing.{Sharing, flow_at}
 use Rattle.sg_levels.specs.declared.levels.Levels.{Levels}
 use Rattle.sg_levels.specs.Kept.{IsBetween, IsWithin}
-use Rattle.sg_levels.specs.Numbered.{bound_at, flow_in, level_at}
+use Rattle.sg_maxmin.specs.Numbered.{bound_at, flow_in, level_at}
 use Rattle.sg_lazy.specs.declared.settle.Pending.{Pending}
 
 -- what a flow gets at its level; nothing if it has none

@@ -1,10 +1,11 @@
 -- What one pass over the rows counts.
-use Rattle.std.specs.Prelude.{◌≡◌, ℕ, ◌+◌, ◌-◌, ◌*◌, ◌/◌, ◌<◌, ◌≤◌, ◌&&◌, ◌⊎◌, Option, None, Some, is_none, if◌then◌else◌, List, [], ◌++◌, All, map, filter, filter_map, flat_map, length, slice_index, slice_index_or, sum_by, option_to_list, option_map, Contains, min}
+use Rattle.std.specs.Prelude.{◌≡◌, ℕ, ◌+◌, ◌-◌, ◌*◌, ◌/◌, ◌<◌, ◌≤◌, ◌&&◌, Option, None, Some, is_none, if◌then◌else◌, List, [], ◌++◌, All, map, filter, filter_map, flat_map, length, slice_index, slice_index_or, sum_by, option_to_list, option_map}
 use Rattle.sg_maxmin.specs.declared.flow_row.FlowRow.{FlowRow}
 use Rattle.sg_chains.specs.declared.uses.Use.{Use}
 use Rattle.sg_chains.specs.Chain.{resources}
 use Rattle.sg_maxmin.specs.Fill.{Fixed, is_on, bounded, bound_level, level_of}
 use Rattle.sg_maxmin.specs.Sharing.{held}
+use Rattle.sg_maxmin.specs.Step.{IsLeast, IsStepped}
 use Rattle.sg_maxmin.specs.kept.Uses.{AreRows, IsOneChain, flow_of, flows_of, row_uses, share_by_level}
 
 -- the rows that are there
@@ -40,17 +41,8 @@ pub record HasRowPlaces (uses : List (Option Use)) (row : FlowRow) (list : List 
 abbrev pub row_limits : List ℕ → List ℕ → List (Option Use) → FlowRow → List ℕ
 row_limits left waiting uses row = option_to_list (option_map (bound_level row.weight) row.bound) ++ map (λ c. slice_index left c / slice_index waiting c) (resources row.count uses row.first)
 
--- the least of the list, or none if it is empty
-abbrev pub IsLeast : Option ℕ → List ℕ → Type 0
-IsLeast None list = list ≡ []
-IsLeast (Some least) list = Contains list least × ((x : ℕ) → Contains list x → least ≤ x)
-
 abbrev pub all_limits : List ℕ → List ℕ → List (Option Use) → List (Option FlowRow) → List ℕ
 all_limits left waiting uses rows = flat_map (row_limits left waiting uses) (filter (λ row. is_none row.level) (rows_held rows))
-
-abbrev pub least_with : Option ℕ → ℕ → ℕ
-least_with None level = level
-least_with (Some least) level = min least level
 
 -- what one row adds to the shares on a resource, and to the weights that wait there
 abbrev pub row_taken : List (Option Use) → Option FlowRow → ℕ → ℕ
@@ -74,12 +66,7 @@ pub record LooksUpTo (looks before after : ℕ) : Type 0 where
   pub most : after ≤ before + looks
   pub least : before ≤ after
 
--- an unfixed flow that is at this level gets it, and else all stays
-abbrev pub IsStepped : ℕ → Type 0 → Option ℕ → Option ℕ → Type 0
-IsStepped low at (Some level) after = after ≡ Some level
-IsStepped low at None after = (at × (after ≡ Some low)) ⊎ ((at → ⊥) × (after ≡ None))
-
--- the same of a row
+-- the step of a row
 abbrev pub RowSteps : ℕ → (FlowRow → List ℕ) → Option FlowRow → Option FlowRow → Type 0
 RowSteps low limits None after = after ≡ None
 RowSteps low limits (Some row) after = (level : Option ℕ) × (after ≡ Some (record row { level = level })) × IsStepped low (IsLeast (Some low) (limits row)) row.level level

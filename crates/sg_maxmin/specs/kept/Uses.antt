@@ -17,7 +17,7 @@ flow_of uses row = flow (row_uses uses row) row.weight row.bound
 
 -- the share that the row's level gives it, as far as 64 bits go; none while it isn't fixed
 abbrev pub share_by_level : FlowRow → ℕ
-share_by_level row = min (2 ^ 64 - 1) (bounded row.bound (row.weight * unwrap_or row.level 0))
+share_by_level row = min (bounded row.bound (row.weight * unwrap_or row.level 0)) (2 ^ 64 - 1)
 
 -- the share that the row has
 abbrev pub share_in : Option FlowRow → ℕ

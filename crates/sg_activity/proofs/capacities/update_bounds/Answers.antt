@@ -5,7 +5,7 @@ use Rattle.std.proofs.lemmas.List.Elements.{All-get_or}
 use Rattle.sg_chains.specs.Chained.{users_on}
 use Rattle.sg_chains.specs.declared.uses.Use.{Use}
 use Rattle.sg_chains.specs.Walk.{next_on, user_of}
-use Rattle.sg_levels.proofs.Walked.{can_look, looked, walk_on, nearer, walked}
+use Rattle.sg_maxmin.proofs.Walked.{can_look, looked, walk_on, nearer, walked}
 use Rattle.sg_activity.specs.declared.activity_state.Kept.{Kept}
 use Rattle.sg_activity.specs.kept.Bounds.{Rebounds}
 use Rattle.sg_activity.specs.kept.Rows.{Indexed}

@@ -4,7 +4,7 @@ use Rattle.std.proofs.lemmas.List.{take_all}
 use Rattle.std.proofs.lemmas.List.Elements.{All-get_or}
 use Rattle.sg_chains.specs.Chained.{users_on}
 use Rattle.sg_chains.specs.Walk.{next_on, user_of}
-use Rattle.sg_levels.proofs.Walked.{can_look, looked, walk_on, nearer, walked}
+use Rattle.sg_maxmin.proofs.Walked.{can_look, looked, walk_on, nearer, walked}
 use Rattle.sg_activity.specs.kept.Metered.{rate_of, rates_of, total, with_one}
 use Rattle.sg_lives.specs.Pool.{slot_at}
 use Rattle.sg_activity.proofs.Loaded.{sum_within, total_on}

@@ -4,7 +4,7 @@ use Rattle.std.proofs.lemmas.List.{take_all}
 use Rattle.std.proofs.lemmas.List.Elements.{All-get_or}
 use Rattle.sg_chains.specs.Chained.{users_on}
 use Rattle.sg_chains.specs.Walk.{next_on, user_of}
-use Rattle.sg_levels.proofs.Walked.{can_look, looked, walk_on, nearer, walked}
+use Rattle.sg_maxmin.proofs.Walked.{can_look, looked, walk_on, nearer, walked}
 use Rattle.sg_activity.specs.kept.Hits.{AreLooked}
 use Rattle.sg_activity.specs.kept.State.{state_of, ways_of}
 use Rattle.sg_activity.proofs.Switched.{looked_on}

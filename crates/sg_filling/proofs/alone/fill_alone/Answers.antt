@@ -3,12 +3,12 @@ use Rattle.std.specs.Vec.{with_items}
 use Rattle.std.proofs.lemmas.List.{with_items_is}
 use Rattle.sg_base.specs.MarkSet.{is_in}
 use Rattle.sg_maxmin.specs.Fill.{level_of}
-use Rattle.sg_levels.specs.Numbered.{flow_in, weight_at}
+use Rattle.sg_maxmin.specs.Numbered.{flow_in, weight_at}
 use Rattle.sg_filling.specs.Filling.{fixed_at, flows_at}
 use Rattle.sg_filling.proofs.OneFlow.{alone_level, alone_noted, is_here}
-use Rattle.sg_filling.proofs.Growing.{at_in}
 use Rattle.sg_filling.proofs.Joined.{touched_held}
-use Rattle.sg_filling.proofs.Rows.{held_below, weight_is}
+use Rattle.sg_maxmin.proofs.Listed.{at_in}
+use Rattle.sg_maxmin.proofs.Users.{held_below, weight_is}
 use Rattle.sg_filling.proofs.alone.fill_alone.Goals as goal
 
 -- what holds of the one holds of each

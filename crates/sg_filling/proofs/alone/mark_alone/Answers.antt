@@ -5,19 +5,21 @@ use Rattle.sg_chains.specs.Chained.{users_on}
 use Rattle.sg_chains.specs.Walk.{next_of_flow, resource_of}
 use Rattle.sg_maxmin.specs.Fill.{bound_level}
 use Rattle.sg_maxmin.specs.Sharing.{uses_at}
-use Rattle.sg_levels.specs.Numbered.{bound_at}
-use Rattle.sg_levels.proofs.Walked.{can_look, looked, walk_from, walk_on, nearer, walked}
+use Rattle.sg_maxmin.specs.Numbered.{bound_at}
+use Rattle.sg_maxmin.proofs.Walked.{can_look, looked, walk_from, walk_on, nearer, walked}
 use Rattle.sg_filling.specs.Alone.{IsAlone, alone_limits, whole_level}
 use Rattle.sg_filling.specs.Component.{AllPass, Grows}
-use Rattle.sg_filling.specs.Filling.{IsLeast, bound_limit, least_with}
+use Rattle.sg_maxmin.specs.Step.{IsLeast, least_with}
+use Rattle.sg_filling.specs.Filling.{bound_limit}
 use Rattle.sg_filling.proofs.OneFlow.{in_single, least_list}
-use Rattle.sg_filling.proofs.Growing.{at_in, grows_on, grows_mark, grows_same, in_at, stays, mark_there, few_mark, pass_mark}
-use Rattle.sg_filling.proofs.Rows.{bound_is, rows_exist, same_in, take_all, weighs, weight_is}
+use Rattle.sg_filling.proofs.Growing.{grows_on, grows_mark, grows_same, stays, few_mark, pass_mark}
 use Rattle.sg_filling.proofs.Walked.{limits_next}
+use Rattle.sg_maxmin.proofs.Listed.{at_in, in_at, mark_there, same_in, take_all}
+use Rattle.sg_maxmin.proofs.Users.{bound_is, rows_exist, weighs, weight_is}
 use Rattle.sg_filling.proofs.alone.mark_alone.Goals as goal
 
-pub bound_level-least-requires : goal.bound_level-least-requires
-bound_level-least-requires g c =
+pub level_of_bound-least-requires : goal.level_of_bound-least-requires
+level_of_bound-least-requires g c =
     let s = c.args.system.now in
     omega (arith, weight_is s.slots c.args.flow c.weight-weight.result c.requires.held.held c.weight-weight.ensures, (weighs s c.requires.held.sound c.args.flow).0)
 
@@ -25,9 +27,9 @@ pub loop-at-init : goal.loop-at-init
 loop-at-init g c =
     let s = c.args.system.now in
     let row = uses_at s.slots c.args.flow in
-    let e : bound_limit s.slots c.args.flow ≡ c.bound_level-least.result =
+    let e : bound_limit s.slots c.args.flow ≡ c.level_of_bound-least.result =
     ap (λ w. option_map (bound_level w) (bound_at s.slots c.args.flow)) (sym (weight_is s.slots c.args.flow c.weight-weight.result c.requires.held.held c.weight-weight.ensures))
-    ∙ ap (λ b. option_map (bound_level c.weight-weight.result) b) (sym (bound_is s.slots c.args.flow c.bound.result c.requires.held.held c.bound.ensures)) ∙ sym c.bound_level-least.ensures in (
+    ∙ ap (λ b. option_map (bound_level c.weight-weight.result) b) (sym (bound_is s.slots c.args.flow c.bound.result c.requires.held.held c.bound.ensures)) ∙ sym c.level_of_bound-least.ensures in (
       0,
       record {
         walk = walk_from next_of_flow resource_of s.uses row c.first_of-at.result c.first_of-at.ensures.leads c.first_of-at.ensures.few;
@@ -36,7 +38,7 @@ loop-at-init g c =
         done = λ i h. absurd (omega (arith, h));
         few = omega arith;
         pass = λ q all start. start;
-        limits = subst (λ o. IsLeast c.bound_level-least.result (option_to_list o ++ [])) (sym e) (least_list c.bound_level-least.result);
+        limits = subst (λ o. IsLeast c.level_of_bound-least.result (option_to_list o ++ [])) (sym e) (least_list c.level_of_bound-least.result);
         only = λ t i h. absurd (omega (arith, h));
         looks = omega arith;
       },
@@ -94,7 +96,7 @@ loop-at-preserved g c =
     let number = get_or row k 0 in
     let e : c.insert.new.self.members ≡ with_mark number old = ap (λ (x : MarkSet). x.members) c.insert.ensures ∙ ap (λ n. with_mark n old) r.is in
     let weight = weight_is s.slots flow c.weight-weight.result c.requires.held.held c.weight-weight.ensures in
-    let at : c.level.result ≡ whole_level s flow one.resource = c.level.ensures ∙ ap₂ (λ a b. a / b) c.capacity.ensures weight in
+    let at : c.level_of.result ≡ whole_level s flow one.resource = c.level_of.ensures ∙ ap₂ (λ a b. a / b) c.capacity.ensures weight in
     let its : c.is_only-alone.result ≡ true → users_on s.users number ≡ flow ∷ [] = λ t.
     let row' = c.is_only-alone.ensures.only t in
     let user = same_in number flow row (users_on s.users number) (sym (c.requires.held.sound.both flow number)) (in_at number row k r.less refl) in

@@ -3,10 +3,10 @@ use Rattle.sg_base.specs.MarkSet.{is_in}
 use Rattle.sg_chains.specs.Chained.{users_on}
 use Rattle.sg_chains.specs.Walk.{next_of_flow, resource_of, left_from}
 use Rattle.sg_maxmin.specs.Sharing.{uses_at}
-use Rattle.sg_levels.proofs.Walked.{IsWalk}
+use Rattle.sg_maxmin.proofs.Walked.{IsWalk}
 use Rattle.sg_filling.specs.Alone.{alone_limits}
 use Rattle.sg_filling.specs.Component.{AllPass, RowPasses, Grows}
-use Rattle.sg_filling.specs.Filling.{IsLeast}
+use Rattle.sg_maxmin.specs.Step.{IsLeast}
 use Rattle.sg_filling.proofs.alone.mark_alone.Given as goal
 
 abbrev pub invariant-loop-at : goal.invariant-loop-at

@@ -1,8 +1,7 @@
 use Rattle.std.proofs.Common.{◌≡◌, ◌/◌, ◌<◌, inl, inr, true≢false, cond, eqb, None, Some, length, get_or, set, get_or-set_same, get_or-set_other, below_more, sym, ap, subst, ◌∙◌, arith}
 use Rattle.std.proofs.lemmas.List.Elements.{All-get_or}
 use Rattle.sg_filling.specs.Filling.{fixed_at}
-use Rattle.sg_filling.proofs.Growing.{in_at}
-use Rattle.sg_filling.proofs.Listing.{eq_cases}
+use Rattle.sg_maxmin.proofs.Listed.{eq_cases, in_at}
 use Rattle.sg_filling.proofs.alone.note_alone.Goals as goal
 
 pub loop-c-preserved : goal.loop-c-preserved
@@ -18,7 +17,7 @@ loop-c-preserved c =
     let v = c.hold_at.result in
     let less : k < length items = c.loop-c-test.true in
     let below : n < length old = omega (arith, All-get_or (λ x. x < length caps) items k 0 less c.requires.exist, c.requires.holds, c.loop-c.auto.holds) in
-    let is : v ≡ cond (eqb (get_or caps n 0 / weight) low) (Some low) None = c.hold_at.ensures ∙ ap (λ l. cond (eqb l low) (Some low) None) (c.level.ensures ∙ ap (λ x. x / weight) c.capacity.ensures) in
+    let is : v ≡ cond (eqb (get_or caps n 0 / weight) low) (Some low) None = c.hold_at.ensures ∙ ap (λ l. cond (eqb l low) (Some low) None) (c.level_of.ensures ∙ ap (λ x. x / weight) c.capacity.ensures) in
     let here : fixed_at (set old n v) n ≡ cond (eqb (get_or caps n 0 / weight) low) (Some low) None = get_or-set_same old n v None below ∙ is in
     record {
       noted = below_more _ _ (λ i h. elim (eq_cases (get_or items i 0) n) [

@@ -4,7 +4,7 @@ use Rattle.sg_maxmin.specs.Sharing.{uses_at}
 use Rattle.sg_filling.specs.Component.{AllPass, AreIn, Grows, lengths}
 use Rattle.sg_filling.proofs.Growing.{all_stay, grows_mark, lengths_mark, mark_cases, pass_mark}
 use Rattle.sg_filling.proofs.Listing.{new_mark}
-use Rattle.sg_filling.proofs.Rows.{held_below}
+use Rattle.sg_maxmin.proofs.Users.{held_below}
 use Rattle.sg_filling.proofs.alone.touch_alone.Goals as goal
 
 pub insert-requires : goal.insert-requires

@@ -8,7 +8,8 @@ use Rattle.sg_filling.specs.Filling.{AreJoined}
 use Rattle.sg_filling.specs.Holds.{IsEnded}
 use Rattle.sg_filling.proofs.Apart.{first_of}
 use Rattle.sg_filling.proofs.Filled.{Leads, filled_on, lengths_came, part_joined, part_live, part_twice, part_used, marked_pass, rest_is, start_used, visited_on}
-use Rattle.sg_filling.proofs.Growing.{all_stay, grows_mark, grows_on, grows_same, mark_there, stays}
+use Rattle.sg_filling.proofs.Growing.{all_stay, grows_mark, grows_on, grows_same, stays}
+use Rattle.sg_maxmin.proofs.Listed.{mark_there}
 use Rattle.sg_filling.proofs.by_part.fill_from.Goals as goal
 
 pub reach-requires-clause-open : goal.reach-requires-clause-open

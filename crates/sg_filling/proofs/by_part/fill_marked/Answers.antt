@@ -1,7 +1,8 @@
 use Rattle.std.proofs.Common.{◌≡◌, true, get_or, below_more, refl, ap, ◌∙◌, subst, arith}
 use Rattle.sg_base.specs.MarkSet.{is_in}
 use Rattle.sg_filling.proofs.Filled.{fills_none, fills_on}
-use Rattle.sg_filling.proofs.Growing.{at_in, in_at, stays}
+use Rattle.sg_filling.proofs.Growing.{stays}
+use Rattle.sg_maxmin.proofs.Listed.{at_in, in_at}
 use Rattle.sg_filling.proofs.by_part.fill_marked.Goals as goal
 
 pub loop-flow-init : goal.loop-flow-init

@@ -3,9 +3,8 @@ use Rattle.sg_base.specs.MarkSet.{MarkSet, is_in}
 use Rattle.sg_chains.specs.Chained.{users_on}
 use Rattle.sg_chains.specs.Walk.{next_on, user_of}
 use Rattle.sg_filling.proofs.Filled.{fills_free, fills_none, marked_pass}
-use Rattle.sg_filling.proofs.Growing.{mark_there}
-use Rattle.sg_levels.proofs.Walked.{goes, walk_from, walked}
-use Rattle.sg_filling.proofs.Rows.{none_some}
+use Rattle.sg_maxmin.proofs.Walked.{goes, walk_from, walked}
+use Rattle.sg_maxmin.proofs.Listed.{mark_there, none_some}
 use Rattle.sg_filling.proofs.by_part.fill_on.Goals as goal
 
 pub reach_free-requires-clause-free : goal.reach_free-requires-clause-free

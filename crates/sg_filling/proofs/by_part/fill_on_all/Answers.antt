@@ -2,7 +2,8 @@ use Rattle.std.proofs.Common.{◌≡◌, ◌<◌, true, length, get_or, below_mo
 use Rattle.std.proofs.lemmas.List.Elements.{All-get_or}
 use Rattle.sg_base.specs.MarkSet.{is_in}
 use Rattle.sg_filling.proofs.Filled.{fills_none, fills_on}
-use Rattle.sg_filling.proofs.Growing.{at_in, in_at, stays}
+use Rattle.sg_filling.proofs.Growing.{stays}
+use Rattle.sg_maxmin.proofs.Listed.{at_in, in_at}
 use Rattle.sg_filling.proofs.by_part.fill_on_all.Goals as goal
 
 pub loop-c-init : goal.loop-c-init

@@ -4,8 +4,9 @@ use Rattle.sg_base.specs.MarkSet.{MarkSet, is_in, with_mark}
 use Rattle.sg_maxmin.specs.Sharing.{uses_at}
 use Rattle.sg_chains.specs.Walk.{next_of_flow, resource_of}
 use Rattle.sg_filling.specs.Component.{AllPass, Grows}
-use Rattle.sg_filling.proofs.Growing.{grows_on, grows_mark, stays, mark_there, few_mark, pass_mark}
-use Rattle.sg_levels.proofs.Walked.{can_look, looked, walk_on, nearer, walked}
+use Rattle.sg_filling.proofs.Growing.{grows_on, grows_mark, stays, few_mark, pass_mark}
+use Rattle.sg_maxmin.proofs.Walked.{can_look, looked, walk_on, nearer, walked}
+use Rattle.sg_maxmin.proofs.Listed.{mark_there}
 use Rattle.sg_filling.proofs.component.mark_uses.Goals as goal
 
 pub look-one-requires : goal.look-one-requires

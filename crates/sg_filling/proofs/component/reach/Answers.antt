@@ -1,8 +1,9 @@
 use Rattle.std.proofs.Common.{◌≡◌, ◌<◌, length, get_or, below_more, refl, ap, subst, sym, arith}
 use Rattle.sg_chains.specs.Chained.{users_on}
 use Rattle.sg_filling.specs.Component.{RowPasses, AreIn}
-use Rattle.sg_filling.proofs.Growing.{all_stay, at_in, in_at, lengths_more}
+use Rattle.sg_filling.proofs.Growing.{all_stay, lengths_more}
 use Rattle.sg_filling.proofs.Spread.{spreads_on}
+use Rattle.sg_maxmin.proofs.Listed.{at_in, in_at}
 use Rattle.sg_filling.proofs.component.reach.Goals as goal
 
 pub loop-k-preserved : goal.loop-k-preserved

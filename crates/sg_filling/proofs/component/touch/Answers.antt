@@ -3,7 +3,7 @@ use Rattle.sg_base.specs.MarkSet.{MarkSet, is_in}
 use Rattle.sg_maxmin.specs.Sharing.{uses_at}
 use Rattle.sg_filling.specs.Component.{AreIn, AllPass, Grows, lengths}
 use Rattle.sg_filling.proofs.Growing.{all_stay, grows_mark, lengths_mark, mark_cases, pass_mark}
-use Rattle.sg_filling.proofs.Rows.{rows_exist}
+use Rattle.sg_maxmin.proofs.Users.{rows_exist}
 use Rattle.sg_filling.proofs.component.touch.Goals as goal
 
 pub mark_uses-requires : goal.mark_uses-requires

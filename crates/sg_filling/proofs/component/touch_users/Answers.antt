@@ -3,9 +3,9 @@ use Rattle.sg_base.specs.MarkSet.{is_in}
 use Rattle.sg_chains.specs.Chained.{users_on}
 use Rattle.sg_chains.specs.Walk.{next_on, user_of}
 use Rattle.sg_filling.proofs.Growing.{stays}
-use Rattle.sg_levels.proofs.Walked.{can_look, looked, walk_on, nearer, walked}
-use Rattle.sg_filling.proofs.Rows.{on_below}
+use Rattle.sg_maxmin.proofs.Walked.{can_look, looked, walk_on, nearer, walked}
 use Rattle.sg_filling.proofs.Spread.{spreads_on}
+use Rattle.sg_maxmin.proofs.Users.{on_below}
 use Rattle.sg_filling.proofs.component.touch_users.Goals as goal
 
 pub look-one-requires : goal.look-one-requires

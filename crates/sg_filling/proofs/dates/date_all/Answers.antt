@@ -2,8 +2,8 @@ use Rattle.std.proofs.Common.{◌≡◌, ◌<◌, ℕ, None, Option, true≢fals
 use Rattle.std.proofs.lemmas.List.Elements.{All-get_or}
 use Rattle.sg_heap.specs.Agenda.{Key, key_at}
 use Rattle.sg_filling.specs.Dates.{key_where}
-use Rattle.sg_filling.proofs.Growing.{at_in, in_at}
 use Rattle.sg_filling.proofs.Keyed.{set_right}
+use Rattle.sg_maxmin.proofs.Listed.{at_in, in_at}
 use Rattle.sg_filling.proofs.dates.date_all.Goals as goal
 
 pub loop-c-preserved : goal.loop-c-preserved

@@ -2,7 +2,7 @@ use Rattle.std.proofs.Common.{◌≡◌, ◌+◌, ◌*◌, ℕ, length, take, sl
 use Rattle.sg_chains.specs.Chained.{times}
 use Rattle.sg_maxmin.specs.Sharing.{uses_at}
 use Rattle.sg_chains.specs.Walk.{next_of_flow, resource_of, left_from}
-use Rattle.sg_levels.proofs.Walked.{IsWalk}
+use Rattle.sg_maxmin.proofs.Walked.{IsWalk}
 use Rattle.sg_filling.proofs.filling.add_uses.Given as goal
 
 abbrev pub invariant-loop-at : goal.invariant-loop-at

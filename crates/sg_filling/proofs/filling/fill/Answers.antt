@@ -3,8 +3,8 @@ use Rattle.std.specs.Vec.{with_items}
 use Rattle.std.proofs.lemmas.List.{with_items_is}
 use Rattle.sg_base.specs.MarkSet.{is_in}
 use Rattle.sg_filling.specs.Filling.{AreCounted, fixed_at, weight_of}
-use Rattle.sg_filling.proofs.Growing.{at_in}
 use Rattle.sg_filling.proofs.Starts.{fits, nowhere, starts}
+use Rattle.sg_maxmin.proofs.Listed.{at_in}
 use Rattle.sg_filling.proofs.filling.fill.Goals as goal
 
 pub unfix-requires-clause-fits : goal.unfix-requires-clause-fits

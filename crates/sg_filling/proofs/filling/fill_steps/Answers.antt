@@ -11,22 +11,24 @@ use Rattle.sg_maxmin.proofs.Proved.{level_fixed, limited_from, steps-next}
 use Rattle.sg_filling.specs.Component.{Covers, lengths}
 use Rattle.sg_heap.specs.Agenda.{Key}
 use Rattle.sg_filling.specs.Dates.{AreDated, key_where}
-use Rattle.sg_levels.specs.Numbered.{flow_in}
+use Rattle.sg_maxmin.specs.Numbered.{flow_in}
 use Rattle.sg_filling.specs.declared.filling.Filling.{Filling}
 use Rattle.sg_filling.specs.declared.filling.Low.{Low}
-use Rattle.sg_filling.specs.Filling.{AreCounted, AreJoined, AreLevels, AreTaken, HasPlaces, IsLeast, IsLow, IsStepped, fixed_at, flows_at, limits_at, unfixed_bounds, unfixed_limits, unfixed_uses}
+use Rattle.sg_maxmin.specs.Step.{IsLeast, IsStepped}
+use Rattle.sg_filling.specs.Filling.{AreCounted, AreJoined, AreLevels, AreTaken, HasPlaces, IsLow, fixed_at, flows_at, limits_at, unfixed_bounds, unfixed_limits, unfixed_uses}
 use Rattle.sg_filling.specs.Holds.{AreNoted, AreUnder, IsAtLevel, NotesHolds, untaken}
 use Rattle.sg_filling.proofs.Floors.{floor_fewer, floor_zero}
-use Rattle.sg_filling.proofs.Growing.{at_in}
 use Rattle.sg_filling.proofs.Joined.{user_there}
 use Rattle.sg_filling.proofs.Keyed.{dated_late, idle_then}
 use Rattle.sg_filling.proofs.Last.{rest_steps}
 use Rattle.sg_filling.proofs.Noted.{above_least, fresh_at, noted_next, under_next}
 use Rattle.sg_filling.proofs.Notes.{untaken_few}
-use Rattle.sg_filling.proofs.Rows.{in_is, into, none_some, rows_once}
+use Rattle.sg_filling.proofs.Rows.{into}
 use Rattle.sg_filling.proofs.Starts.{part_limits}
 use Rattle.sg_filling.proofs.Stepped.{limits_are, next_fixed}
 use Rattle.sg_filling.proofs.Twice.{counts_twice_lem}
+use Rattle.sg_maxmin.proofs.Listed.{at_in, none_some}
+use Rattle.sg_maxmin.proofs.Users.{in_is, rows_once}
 use Rattle.sg_filling.proofs.filling.fill_steps.Goals as goal
 
 at_index : (xs : List ℕ) (x : ℕ) → In x xs → (i : ℕ) × (i < length xs) × (get_or xs i 0 ≡ x)

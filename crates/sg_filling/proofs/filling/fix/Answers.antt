@@ -5,12 +5,13 @@ use Rattle.sg_chains.specs.Chained.{times}
 use Rattle.sg_chains.specs.Walk.{next_of_flow, resource_of}
 use Rattle.sg_maxmin.specs.Fill.{bounded, share_at}
 use Rattle.sg_maxmin.specs.Sharing.{uses_at}
-use Rattle.sg_levels.specs.Numbered.{flow_in, weight_at}
+use Rattle.sg_maxmin.specs.Numbered.{flow_in, weight_at}
 use Rattle.sg_filling.specs.Component.{AllPass, Grows}
-use Rattle.sg_filling.proofs.Growing.{grows_on, grows_mark, grows_same, stays, mark_there, few_mark, pass_mark}
-use Rattle.sg_filling.proofs.Rows.{bound_is, rows_exist, take_all, weight_is}
+use Rattle.sg_filling.proofs.Growing.{grows_on, grows_mark, grows_same, stays, few_mark, pass_mark}
 use Rattle.sg_filling.proofs.Walked.{take_off}
-use Rattle.sg_levels.proofs.Walked.{can_look, looked, walk_from, walk_on, nearer, walked}
+use Rattle.sg_maxmin.proofs.Walked.{can_look, looked, walk_from, walk_on, nearer, walked}
+use Rattle.sg_maxmin.proofs.Listed.{mark_there, take_all}
+use Rattle.sg_maxmin.proofs.Users.{bound_is, rows_exist, weight_is}
 use Rattle.sg_filling.proofs.filling.fix.Goals as goal
 
 pub loop-at-init : goal.loop-at-init
@@ -102,7 +103,7 @@ loop-at-preserved g c =
     let share = share_at (flow_in s.slots c.args.flow) c.args.low in
     let told : bounded c.bound-bound.result (weight * c.args.low) ≡ share = ap (λ n. bounded c.bound-bound.result (n * c.args.low)) (weight_is s.slots c.args.flow weight c.requires.held c.weight-weight.ensures)
     ∙ ap (λ b. bounded b (weight_at s.slots c.args.flow * c.args.low)) (bound_is s.slots c.args.flow c.bound-bound.result c.requires.held c.bound-bound.ensures) in
-    let left = out.left share (c.capped_share-share.ensures ∙ ap (λ n. min n (2 ^ 64 - 1)) told) in
+    let left = out.left share (c.share_at-share.ensures.capped ∙ ap (λ n. min n (2 ^ 64 - 1)) told) in
     let r = looked next_of_flow resource_of s.uses row k c.loop-at.at inv.1.walk c.in-Some.i c.look-one.result c.in-Some.is c.look-one.ensures.there in
     let below : get_or row k 0 < length s.capacities = All-get_or (λ n. n < length s.capacities) row k 0 r.less (rows_exist s c.requires.places.sound c.args.flow) in
     let in_left : one < length f.left.items = omega (arith, below, r.is, p.left_len) in

@@ -4,10 +4,10 @@ use Rattle.sg_chains.specs.Chained.{times}
 use Rattle.sg_chains.specs.Walk.{next_of_flow, resource_of, left_from}
 use Rattle.sg_maxmin.specs.Fill.{share_at}
 use Rattle.sg_maxmin.specs.Sharing.{uses_at}
-use Rattle.sg_levels.specs.Numbered.{flow_in}
+use Rattle.sg_maxmin.specs.Numbered.{flow_in}
 use Rattle.sg_filling.specs.Component.{AllPass, RowPasses, Grows}
 use Rattle.sg_filling.specs.Filling.{HasPlaces}
-use Rattle.sg_levels.proofs.Walked.{IsWalk}
+use Rattle.sg_maxmin.proofs.Walked.{IsWalk}
 use Rattle.sg_filling.proofs.filling.fix.Given as goal
 
 abbrev pub invariant-loop-at : goal.invariant-loop-at

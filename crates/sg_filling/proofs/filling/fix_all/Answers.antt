@@ -1,10 +1,11 @@
 use Rattle.std.proofs.Common.{Some, get_or, refl, arith}
 use Rattle.sg_chains.specs.Chained.{users_on}
-use Rattle.sg_filling.specs.Filling.{IsLeast, fixed_at, limits_at}
-use Rattle.sg_filling.proofs.Growing.{in_at}
+use Rattle.sg_maxmin.specs.Step.{IsLeast}
+use Rattle.sg_filling.specs.Filling.{fixed_at, limits_at}
 use Rattle.sg_filling.proofs.Fixing.{above_still, all_at, fixed_stay, may_step, partly_on}
 use Rattle.sg_filling.proofs.Floors.{floor_partly}
 use Rattle.sg_filling.proofs.Notes.{notes_kept, untaken_same}
+use Rattle.sg_maxmin.proofs.Listed.{in_at}
 use Rattle.sg_filling.proofs.filling.fix_all.Goals as goal
 
 pub fix_all_bounded-requires : goal.fix_all_bounded-requires

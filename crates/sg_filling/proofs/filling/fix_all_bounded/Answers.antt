@@ -2,11 +2,12 @@ use Rattle.std.proofs.Common.{◌≡◌, ◌∙◌, zero, suc, inl, inr, Option,
 use Rattle.std.proofs.lemmas.List.Elements.{All-get_or}
 use Rattle.sg_base.specs.MarkSet.{is_in}
 use Rattle.sg_maxmin.specs.Sharing.{flow_at}
-use Rattle.sg_filling.specs.Filling.{IsLeast, fixed_at, limits_at}
-use Rattle.sg_filling.proofs.Growing.{in_at}
+use Rattle.sg_maxmin.specs.Step.{IsLeast}
+use Rattle.sg_filling.specs.Filling.{fixed_at, limits_at}
 use Rattle.sg_filling.proofs.Fixing.{above_still, count_same, in_one, partly_on, partly_same, some_stays}
 use Rattle.sg_filling.proofs.Floors.{over_bound}
 use Rattle.sg_maxmin.proofs.Members.{In}
+use Rattle.sg_maxmin.proofs.Listed.{in_at}
 use Rattle.sg_filling.proofs.filling.fix_all_bounded.Goals as goal
 
 unfixed_or : (o : Option ℕ) → (o ≡ None → ⊥) → IsSome o

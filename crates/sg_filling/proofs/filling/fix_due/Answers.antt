@@ -5,12 +5,11 @@ use Rattle.sg_filling.specs.declared.filling.Filling.{Filling}
 use Rattle.sg_base.specs.MarkSet.{is_in}
 use Rattle.sg_filling.specs.Filling.{AreFixed, StepsPartly, fixed_at}
 use Rattle.sg_filling.specs.Holds.{MayHold, noted_at}
-use Rattle.sg_filling.proofs.Growing.{in_at}
-use Rattle.sg_filling.proofs.Listing.{eq_cases, some_of}
 use Rattle.sg_filling.proofs.Rows.{into}
 use Rattle.sg_filling.proofs.Fixing.{above_still, fixed_stay, partly_on, partly_same}
 use Rattle.sg_filling.proofs.Keyed.{are_right, has_key, key_is, key_left, key_within, nobody_waits, none_of, partly_cleared}
 use Rattle.sg_filling.proofs.Notes.{may_keep, may_on, noted_here, noted_may, noted_other, taken_less}
+use Rattle.sg_maxmin.proofs.Listed.{eq_cases, in_at, some_of}
 use Rattle.sg_filling.proofs.filling.fix_due.Goals as goal
 
 pub loop-c-init : goal.loop-c-init

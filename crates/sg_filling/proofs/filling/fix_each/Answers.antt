@@ -4,12 +4,11 @@ use Rattle.sg_chains.specs.Chained.{users_on}
 use Rattle.sg_filling.specs.declared.filling.Filling.{Filling}
 use Rattle.sg_filling.specs.Filling.{fixed_at}
 use Rattle.sg_filling.specs.Holds.{MayHold, noted_at}
-use Rattle.sg_filling.proofs.Growing.{at_in, in_at}
 use Rattle.sg_filling.proofs.Keyed.{nobody_waits}
-use Rattle.sg_filling.proofs.Listing.{eq_cases}
 use Rattle.sg_filling.proofs.Notes.{may_keep, may_on, noted_here, noted_may, noted_other, taken_less}
 use Rattle.sg_filling.proofs.Rows.{into}
 use Rattle.sg_filling.proofs.Fixing.{above_still, fixed_stay, partly_on, partly_same}
+use Rattle.sg_maxmin.proofs.Listed.{at_in, eq_cases, in_at}
 use Rattle.sg_filling.proofs.filling.fix_each.Goals as goal
 
 pub loop-k-init : goal.loop-k-init

@@ -3,12 +3,14 @@ use Rattle.sg_base.specs.MarkSet.{is_in}
 use Rattle.sg_heap.specs.Agenda.{key_at}
 use Rattle.sg_maxmin.specs.Fill.{share_at}
 use Rattle.sg_maxmin.specs.Sharing.{uses_at}
-use Rattle.sg_levels.specs.Numbered.{flow_in, weight_at}
-use Rattle.sg_filling.specs.Filling.{AreCounted, IsLeast, MayStep, fixed_at, limits_at, unfixed_uses}
+use Rattle.sg_maxmin.specs.Numbered.{flow_in, weight_at}
+use Rattle.sg_maxmin.specs.Step.{IsLeast}
+use Rattle.sg_filling.specs.Filling.{AreCounted, MayStep, fixed_at, limits_at, unfixed_uses}
 use Rattle.sg_filling.proofs.Growing.{stays}
-use Rattle.sg_filling.proofs.Listing.{bool_cases}
-use Rattle.sg_filling.proofs.Rows.{any_default, held_below, is_in_In}
+use Rattle.sg_filling.proofs.Rows.{any_default}
 use Rattle.sg_filling.proofs.Fixing.{counted_one, fixes_same, off_stays, one_steps, unfixed_one}
+use Rattle.sg_maxmin.proofs.Listed.{bool_cases}
+use Rattle.sg_maxmin.proofs.Users.{held_below, is_in_In}
 use Rattle.sg_filling.proofs.filling.fix_flow.Goals as goal
 
 none_if : (o : Option ℕ) → is_some o ≡ false → o ≡ None

@@ -4,9 +4,7 @@ use Rattle.std.proofs.lemmas.List.{with_items_is}
 use Rattle.sg_base.specs.MarkSet.{is_in}
 use Rattle.sg_filling.specs.Filling.{fixed_at}
 use Rattle.sg_filling.specs.Holds.{MayHold}
-use Rattle.sg_filling.proofs.Growing.{at_in}
-use Rattle.sg_filling.proofs.Listing.{bool_cases}
-use Rattle.sg_filling.proofs.Rows.{none_some}
+use Rattle.sg_maxmin.proofs.Listed.{at_in, bool_cases, none_some}
 use Rattle.sg_filling.proofs.filling.fix_rest.Goals as goal
 
 pub returns : goal.returns

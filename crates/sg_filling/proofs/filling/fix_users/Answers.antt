@@ -3,11 +3,12 @@ use Rattle.sg_base.specs.MarkSet.{is_in}
 use Rattle.sg_chains.specs.Chained.{users_on}
 use Rattle.sg_chains.specs.Walk.{next_on, user_of}
 use Rattle.sg_maxmin.specs.Sharing.{uses_at}
-use Rattle.sg_filling.specs.Filling.{IsLeast, fixed_at, limits_at}
-use Rattle.sg_filling.proofs.Growing.{in_at}
-use Rattle.sg_levels.proofs.Walked.{can_look, looked, walk_from, walk_on, nearer, walked}
-use Rattle.sg_filling.proofs.Rows.{on_held, same_in}
+use Rattle.sg_maxmin.specs.Step.{IsLeast}
+use Rattle.sg_filling.specs.Filling.{fixed_at, limits_at}
+use Rattle.sg_maxmin.proofs.Walked.{can_look, looked, walk_from, walk_on, nearer, walked}
 use Rattle.sg_filling.proofs.Fixing.{above_still, level_in, partly_on, partly_same, some_stays}
+use Rattle.sg_maxmin.proofs.Listed.{in_at, same_in}
+use Rattle.sg_maxmin.proofs.Users.{on_held}
 use Rattle.sg_filling.proofs.filling.fix_users.Goals as goal
 
 pub loop-at-init : goal.loop-at-init

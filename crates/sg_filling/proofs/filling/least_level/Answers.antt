@@ -1,7 +1,8 @@
 use Rattle.std.proofs.Common.{◌<◌, Some, length, sym, subst, ◌∙◌, arith}
 use Rattle.std.proofs.lemmas.Grind.{get_or_default_zero}
 use Rattle.sg_heap.specs.Agenda.{Key}
-use Rattle.sg_filling.specs.Filling.{IsLeast, waited_levels}
+use Rattle.sg_maxmin.specs.Step.{IsLeast}
+use Rattle.sg_filling.specs.Filling.{waited_levels}
 use Rattle.sg_filling.proofs.Keyed.{are_right, first_least, key_within, there_some}
 use Rattle.sg_filling.proofs.filling.least_level.Goals as goal
 

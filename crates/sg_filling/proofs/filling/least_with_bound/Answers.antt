@@ -1,13 +1,14 @@
 use Rattle.std.proofs.Common.{◌≡◌, ◌++◌, ℕ, Option, Some, option_map, option_to_list, sym, ap, subst, ◌∙◌, arith}
 use Rattle.sg_maxmin.specs.Fill.{bound_level}
-use Rattle.sg_levels.specs.Numbered.{bound_at}
-use Rattle.sg_filling.specs.Filling.{IsLeast, bound_limit, least_with}
-use Rattle.sg_filling.proofs.Rows.{bound_is, weighs, weight_is}
-use Rattle.sg_filling.proofs.Walked.{least_push}
+use Rattle.sg_maxmin.specs.Numbered.{bound_at}
+use Rattle.sg_maxmin.specs.Step.{IsLeast, least_with}
+use Rattle.sg_filling.specs.Filling.{bound_limit}
+use Rattle.sg_maxmin.proofs.Users.{bound_is, weighs, weight_is}
+use Rattle.sg_maxmin.proofs.Least.{least_push}
 use Rattle.sg_filling.proofs.filling.least_with_bound.Goals as goal
 
-pub bound_level-requires : goal.bound_level-requires
-bound_level-requires c =
+pub level_of_bound-requires : goal.level_of_bound-requires
+level_of_bound-requires c =
     let s = c.args.system.now in
     omega (arith, weight_is s.slots c.args.flow c.weight.result c.requires.held c.weight.ensures, (weighs s c.requires.sound c.args.flow).0)
 

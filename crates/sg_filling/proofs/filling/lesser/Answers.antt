@@ -1,6 +1,7 @@
 use Rattle.std.proofs.Common.{◌≡◌, ◌++◌, ℕ, Option, List, [], Some, sym, subst, append-nil}
-use Rattle.sg_filling.specs.Filling.{IsLeast, IsLow}
-use Rattle.sg_filling.proofs.Walked.{least_join}
+use Rattle.sg_maxmin.specs.Step.{IsLeast}
+use Rattle.sg_filling.specs.Filling.{IsLow}
+use Rattle.sg_maxmin.proofs.Least.{least_join}
 use Rattle.sg_filling.proofs.filling.lesser.Goals as goal
 
 pub returns-in-Some-clause-low : goal.returns-in-Some-clause-low

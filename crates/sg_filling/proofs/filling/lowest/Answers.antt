@@ -1,6 +1,7 @@
 use Rattle.std.proofs.Common.{◌≡◌, ℕ, List, Option, None, Some, IfSome, sym, subst}
 use Rattle.sg_filling.specs.declared.filling.Low.{Low}
-use Rattle.sg_filling.specs.Filling.{AreTaken, IsFloor, IsLeast, IsUpTo, unfixed_bounds, waited_levels}
+use Rattle.sg_maxmin.specs.Step.{IsLeast}
+use Rattle.sg_filling.specs.Filling.{AreTaken, IsFloor, IsUpTo, unfixed_bounds, waited_levels}
 use Rattle.sg_filling.proofs.Floors.{low_waited, over_least}
 use Rattle.sg_filling.proofs.Scanned.{taken_among, up_to}
 use Rattle.sg_filling.proofs.filling.lowest.Goals as goal

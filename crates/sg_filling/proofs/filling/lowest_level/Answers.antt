@@ -1,8 +1,8 @@
 use Rattle.std.proofs.Common.{◌≡◌, ◌+◌, suc, inl, inr, get_or, sym, subst, arith}
-use Rattle.sg_filling.specs.Filling.{IsLeast, waited_levels}
-use Rattle.sg_filling.proofs.Listing.{eq_cases}
-use Rattle.sg_filling.proofs.Rows.{take_all}
+use Rattle.sg_maxmin.specs.Step.{IsLeast}
+use Rattle.sg_filling.specs.Filling.{waited_levels}
 use Rattle.sg_filling.proofs.Scanned.{IsScanned, scanned_all, scanned_idle, scanned_more, scanned_none}
+use Rattle.sg_maxmin.proofs.Listed.{eq_cases, take_all}
 use Rattle.sg_filling.proofs.filling.lowest_level.Goals as goal
 
 pub loop-k-init : goal.loop-k-init

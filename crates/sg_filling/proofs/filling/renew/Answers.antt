@@ -3,8 +3,7 @@ use Rattle.std.specs.Vec.{with_items}
 use Rattle.std.proofs.lemmas.List.{with_items_is}
 use Rattle.sg_base.specs.MarkSet.{is_in}
 use Rattle.sg_filling.specs.Dates.{key_where}
-use Rattle.sg_filling.proofs.Growing.{at_in}
-use Rattle.sg_filling.proofs.Listing.{bool_cases}
+use Rattle.sg_maxmin.proofs.Listed.{at_in, bool_cases}
 use Rattle.sg_filling.proofs.filling.renew.Goals as goal
 
 pub returns-clause-levels : goal.returns-clause-levels

@@ -1,10 +1,11 @@
 use Rattle.std.proofs.Common.{◌/◌, ℕ, List, Option, inl, inr, Some, get_or, ap, ap₂, sym, subst, ◌∙◌, arith}
 use Rattle.sg_base.specs.MarkSet.{is_in}
-use Rattle.sg_filling.proofs.Listing.{bool_cases}
-use Rattle.sg_filling.specs.Filling.{AreCounted, IsLeast, fixed_at, limits_at, unfixed_uses}
+use Rattle.sg_maxmin.specs.Step.{IsLeast}
+use Rattle.sg_filling.specs.Filling.{AreCounted, fixed_at, limits_at, unfixed_uses}
 use Rattle.sg_filling.proofs.Fixing.{level_stays}
 use Rattle.sg_filling.proofs.Keyed.{dated_on}
 use Rattle.sg_filling.proofs.Notes.{notes_kept, untaken_same}
+use Rattle.sg_maxmin.proofs.Listed.{bool_cases}
 use Rattle.sg_filling.proofs.filling.step.Goals as goal
 
 pub returns-clause-stepped : goal.returns-clause-stepped

@@ -2,8 +2,8 @@ use Rattle.std.proofs.Common.{◌<◌, length, get_or, arith}
 use Rattle.std.proofs.lemmas.List.Elements.{All-get_or, All-from_get_or}
 use Rattle.sg_maxmin.specs.Sharing.{uses_at}
 use Rattle.sg_filling.specs.Filling.{weight_on}
-use Rattle.sg_filling.proofs.Prefix.{part_le}
-use Rattle.sg_filling.proofs.Rows.{rows_exist}
+use Rattle.sg_maxmin.proofs.Listed.{part_le}
+use Rattle.sg_maxmin.proofs.Users.{rows_exist}
 use Rattle.sg_filling.proofs.filling.unfix.Goals as goal
 
 pub add_uses-requires-clause-exist : goal.add_uses-requires-clause-exist

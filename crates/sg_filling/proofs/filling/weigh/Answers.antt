@@ -1,9 +1,9 @@
 use Rattle.std.proofs.Common.{IsSome, eqb-true, get_or, ap, sum_by, arith}
 use Rattle.std.proofs.lemmas.List.Elements.{All-get_or}
 use Rattle.sg_maxmin.specs.Sharing.{flow_at}
-use Rattle.sg_levels.specs.Numbered.{weight_at}
-use Rattle.sg_filling.proofs.Prefix.{part_next}
-use Rattle.sg_filling.proofs.Rows.{take_all, weight_is}
+use Rattle.sg_maxmin.specs.Numbered.{weight_at}
+use Rattle.sg_maxmin.proofs.Listed.{part_next, take_all}
+use Rattle.sg_maxmin.proofs.Users.{weight_is}
 use Rattle.sg_filling.proofs.filling.weigh.Goals as goal
 
 pub loop-flow-preserved : goal.loop-flow-preserved

@@ -1,5 +1,5 @@
 use Rattle.std.proofs.Common.{◌≡◌, ◌+◌, sum_by, take}
-use Rattle.sg_levels.specs.Numbered.{weight_at}
+use Rattle.sg_maxmin.specs.Numbered.{weight_at}
 use Rattle.sg_filling.proofs.filling.weigh.Given as goal
 
 abbrev pub invariant-loop-flow : goal.invariant-loop-flow

@@ -1,10 +1,9 @@
 use Rattle.std.proofs.Common.{◌≡◌, ◌+◌, inl, inr, true, cond, None, IsSome, length, length-take, get_or, take, ap, ◌∙◌, subst, sym, arith}
 use Rattle.sg_base.specs.MarkSet.{is_in}
 use Rattle.sg_maxmin.specs.Sharing.{flow_at, uses_at, uses_in}
-use Rattle.sg_filling.proofs.Listing.{eq_cases}
-use Rattle.sg_filling.proofs.Prefix.{part_next}
 use Rattle.sg_lazy.proofs.Leveled.{notes_on}
 use Rattle.sg_lazy.proofs.Taking.{in_take_self, in_take_other, not_before}
+use Rattle.sg_maxmin.proofs.Listed.{eq_cases, part_next}
 use Rattle.sg_lazy.proofs.settle.end_all.Goals as goal
 
 pub end-requires-clause-held : goal.end-requires-clause-held

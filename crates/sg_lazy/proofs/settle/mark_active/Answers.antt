@@ -2,7 +2,8 @@ use Rattle.std.proofs.Common.{◌≡◌, ◌<◌, true, List, ℕ, length, get_o
 use Rattle.std.proofs.lemmas.List.Elements.{All-get_or}
 use Rattle.sg_base.specs.MarkSet.{MarkSet, is_in, with_mark}
 use Rattle.sg_filling.specs.Component.{AllPass, Grows}
-use Rattle.sg_filling.proofs.Growing.{grows_on, grows_mark, stays, mark_there, few_mark, pass_mark}
+use Rattle.sg_filling.proofs.Growing.{grows_on, grows_mark, stays, few_mark, pass_mark}
+use Rattle.sg_maxmin.proofs.Listed.{mark_there}
 use Rattle.sg_lazy.proofs.settle.mark_active.Goals as goal
 
 pub insert-requires : goal.insert-requires

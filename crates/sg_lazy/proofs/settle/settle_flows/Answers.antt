@@ -6,7 +6,6 @@ use Rattle.sg_maxmin.specs.Fill.{Flow}
 use Rattle.sg_maxmin.specs.Sharing.{uses_at, flow_at}
 use Rattle.sg_levels.specs.Kept.{IsWithin}
 use Rattle.sg_filling.specs.Component.{lengths}
-use Rattle.sg_filling.proofs.Rows.{held_below}
 use Rattle.sg_lazy.specs.kept.Changes.{WritesRates}
 use Rattle.sg_lazy.specs.kept.Held.{IsWithout}
 use Rattle.sg_lazy.specs.kept.Leveled.{RowsPass, rate_at}
@@ -14,6 +13,7 @@ use Rattle.sg_lazy.proofs.Idle.{leveled_none, refilled_none}
 use Rattle.sg_lazy.proofs.Leveled.{notes_on, pending_within, ready_on, still_leveled}
 use Rattle.sg_lazy.proofs.Looks.{along, close, marked_within, passes, within_work}
 use Rattle.sg_lazy.proofs.Settled.{moved_cases, moved_held, rate_fits, rate_is, refilled}
+use Rattle.sg_maxmin.proofs.Users.{held_below}
 use Rattle.sg_lazy.proofs.settle.settle_flows.Goals as goal
 
 pub end_all-requires-clause-between : goal.end_all-requires-clause-between

@@ -2,7 +2,7 @@ use Rattle.std.proofs.Common.{◌≡◌, ◌<◌, ◌≤◌, ◌+◌, suc, lengt
 use Rattle.std.proofs.lemmas.Grind.{get_or_default_zero}
 use Rattle.std.proofs.lemmas.List.Elements.{All-get_or}
 use Rattle.sg_chains.specs.Chained.{times}
-use Rattle.sg_levels.proofs.Listed.{take_all}
+use Rattle.sg_maxmin.proofs.Listed.{take_all}
 use Rattle.sg_levels.proofs.Shifting.{count_more}
 use Rattle.sg_levels.proofs.changes.count_in.Goals as goal
 

@@ -2,7 +2,7 @@ use Rattle.std.proofs.Common.{◌<◌, length, length-set, ap, subst, ◌∙◌,
 use Rattle.sg_base.specs.MarkSet.{MarkSet}
 use Rattle.sg_maxmin.specs.Sharing.{uses_at}
 use Rattle.sg_levels.specs.Kept.{Shifts}
-use Rattle.sg_levels.proofs.Users.{held_below}
+use Rattle.sg_maxmin.proofs.Users.{held_below}
 use Rattle.sg_levels.proofs.Keeping.{can_shift, moved_kept}
 use Rattle.sg_levels.proofs.changes.leave.Goals as goal
 

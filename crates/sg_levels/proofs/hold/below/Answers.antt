@@ -1,6 +1,6 @@
 use Rattle.std.proofs.Common.{refl, sym, arith}
-use Rattle.sg_levels.specs.Numbered.{when_below}
-use Rattle.sg_levels.proofs.HeldLevels.{at_yes, at_no}
+use Rattle.sg_maxmin.specs.Numbered.{when_below}
+use Rattle.sg_maxmin.proofs.HeldLevels.{at_yes, at_no}
 use Rattle.sg_levels.proofs.hold.below.Goals as goal
 
 pub returns-in-None : goal.returns-in-None

@@ -1,11 +1,11 @@
 use Rattle.std.proofs.Common.{◌≡◌, ◌+◌, ◌<◌, ◌≤◌, Option, Some, IfSome, length, slice_index, refl, sym, subst, ◌∙◌, arith}
 use Rattle.sg_chains.specs.Chained.{users_on}
-use Rattle.sg_levels.specs.Numbered.{below_at, row_level, row_waiting}
-use Rattle.sg_levels.proofs.Walked.{none_of}
+use Rattle.sg_maxmin.specs.Numbered.{below_at, row_level, row_waiting}
+use Rattle.sg_maxmin.proofs.Walked.{none_of}
 use Rattle.sg_levels.proofs.RowRise.{IsOnWay, way_starts, way_on, way_none, level_le}
 use Rattle.sg_levels.proofs.Passes.{IsNext, first_pass, next_pass, shifted}
 use Rattle.sg_levels.specs.declared.hold.Above.{Above}
-use Rattle.sg_levels.proofs.Listed.{none_some}
+use Rattle.sg_maxmin.proofs.Listed.{none_some}
 use Rattle.sg_levels.proofs.hold.hold_of.Goals as goal
 
 pub loop-next-init : goal.loop-next-init

@@ -2,11 +2,11 @@ use Rattle.std.proofs.Common.{◌-◌, suc, cond, is_none, IsSome, slice_index, 
 use Rattle.sg_chains.specs.Chained.{users_on}
 use Rattle.sg_chains.specs.Walk.{next_on, user_of}
 use Rattle.sg_maxmin.specs.Fill.{share_of_fixed}
-use Rattle.sg_levels.specs.Numbered.{below_at, flow_in, row_taken, row_waiting, weight_at}
-use Rattle.sg_levels.proofs.Listed.{in_at, take_all}
-use Rattle.sg_levels.proofs.Walked.{can_look, goes, looked, walk_from, walk_on, nearer, walked}
-use Rattle.sg_levels.proofs.Users.{on_held, flow_below}
-use Rattle.sg_levels.proofs.OnRow.{weights_fit}
+use Rattle.sg_maxmin.specs.Numbered.{below_at, flow_in, row_taken, row_waiting, weight_at}
+use Rattle.sg_maxmin.proofs.Listed.{in_at, take_all}
+use Rattle.sg_maxmin.proofs.Walked.{can_look, goes, looked, walk_from, walk_on, nearer, walked}
+use Rattle.sg_maxmin.proofs.Users.{on_held, flow_below}
+use Rattle.sg_maxmin.proofs.OnRow.{weights_fit}
 use Rattle.sg_levels.proofs.RowRise.{taken_next, waiting_next, room_next, taken_none, waiting_none}
 use Rattle.sg_levels.proofs.hold.rest_of.Goals as goal
 

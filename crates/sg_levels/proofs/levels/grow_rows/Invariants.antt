@@ -1,5 +1,5 @@
 use Rattle.std.proofs.Common.{◌≡◌, ℕ, ◌≤◌, length, slice_index}
-use Rattle.sg_levels.specs.Numbered.{level_at}
+use Rattle.sg_maxmin.specs.Numbered.{level_at}
 use Rattle.sg_levels.proofs.levels.grow_rows.Given as goal
 
 abbrev pub invariant-loop-number : goal.invariant-loop-number

@@ -1,11 +1,11 @@
 use Rattle.std.proofs.Common.{◌≡◌, true, false, IsSome, length, get_or, take, refl, ap, subst, arith}
 use Rattle.std.proofs.lemmas.List.Elements.{All-get_or}
 use Rattle.sg_maxmin.specs.Sharing.{flow_at, uses_at}
-use Rattle.sg_levels.specs.Numbered.{all_uses}
+use Rattle.sg_maxmin.specs.Numbered.{all_uses}
 use Rattle.sg_levels.specs.Kept.{AreGiven, IsGiven}
-use Rattle.sg_levels.proofs.Listed.{in_at, part_next, take_all}
+use Rattle.sg_maxmin.proofs.Listed.{in_at, part_next, take_all}
 use Rattle.sg_levels.proofs.Noted.{noted_none, noted_on}
-use Rattle.sg_levels.proofs.Users.{held_below}
+use Rattle.sg_maxmin.proofs.Users.{held_below}
 use Rattle.sg_levels.proofs.Refilling.{given_on, given_parts}
 use Rattle.sg_levels.proofs.refill.give_all.Goals as goal
 

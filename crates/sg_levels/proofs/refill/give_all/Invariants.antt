@@ -1,5 +1,5 @@
 use Rattle.std.proofs.Common.{◌≤◌, ◌+◌, take}
-use Rattle.sg_levels.specs.Numbered.{all_uses}
+use Rattle.sg_maxmin.specs.Numbered.{all_uses}
 use Rattle.sg_levels.specs.Kept.{AreGiven, FlowsStayWithin, IsKept, NotesMoved}
 use Rattle.sg_levels.proofs.refill.give_all.Given as goal
 

@@ -1,7 +1,7 @@
 use Rattle.std.proofs.Common.{◌≡◌, ◌<◌, true, false, length, get_or, set, refl, ap, subst, ◌∙◌, arith}
 use Rattle.std.proofs.lemmas.List.Elements.{All-get_or}
 use Rattle.sg_levels.specs.Kept.{AreHeldAt}
-use Rattle.sg_levels.proofs.Listed.{take_all}
+use Rattle.sg_maxmin.proofs.Listed.{take_all}
 use Rattle.sg_levels.proofs.Refilling.{held_on}
 use Rattle.sg_levels.proofs.refill.put_holds.Goals as goal
 

@@ -4,9 +4,9 @@ use Rattle.sg_chains.specs.Chained.{times}
 use Rattle.sg_maxmin.specs.Sharing.{uses_at}
 use Rattle.sg_chains.specs.Walk.{next_of_flow, resource_of}
 use Rattle.sg_levels.specs.Kept.{Shifts}
-use Rattle.sg_levels.proofs.Listed.{take_all}
-use Rattle.sg_levels.proofs.Users.{rows_exist}
-use Rattle.sg_levels.proofs.Walked.{can_look, looked, walk_from, walk_on, nearer, walked}
+use Rattle.sg_maxmin.proofs.Listed.{take_all}
+use Rattle.sg_maxmin.proofs.Users.{rows_exist}
+use Rattle.sg_maxmin.proofs.Walked.{can_look, looked, walk_from, walk_on, nearer, walked}
 use Rattle.sg_levels.proofs.Shifting.{shift_fits, shift_more, shift_some}
 use Rattle.sg_levels.proofs.refill.shift_uses.Goals as goal
 

@@ -1,9 +1,9 @@
 use Rattle.std.proofs.Common.{◌≡◌, ◌<◌, ◌≤◌, ◌^◌, inl, inr, true, IsTrue, length, length-set, set, refl, sym, ap, subst, ◌∙◌, arith}
 use Rattle.sg_base.specs.MarkSet.{MarkSet, is_in}
 use Rattle.sg_maxmin.specs.Sharing.{uses_at}
-use Rattle.sg_levels.specs.Numbered.{flow_in}
+use Rattle.sg_maxmin.specs.Numbered.{flow_in}
 use Rattle.sg_levels.specs.Kept.{Shifts}
-use Rattle.sg_levels.proofs.Users.{held_below, weighs}
+use Rattle.sg_maxmin.proofs.Users.{held_below, weighs}
 use Rattle.sg_levels.proofs.Demand.{part_le}
 use Rattle.sg_levels.proofs.Keeping.{can_shift, moved_kept}
 use Rattle.sg_levels.proofs.Noted.{noted_one}

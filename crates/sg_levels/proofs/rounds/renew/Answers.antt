@@ -1,8 +1,8 @@
 use Rattle.std.proofs.Common.{◌≡◌, true, sym, subst, arith}
 use Rattle.sg_base.specs.MarkSet.{MarkSet, is_in}
-use Rattle.sg_levels.proofs.Listed.{mark_there}
+use Rattle.sg_maxmin.proofs.Listed.{mark_there}
 use Rattle.sg_levels.specs.Kept.{IsMoved}
-use Rattle.sg_levels.proofs.Users.{held_below}
+use Rattle.sg_maxmin.proofs.Users.{held_below}
 use Rattle.sg_levels.proofs.Renewing.{renewed_between}
 use Rattle.sg_levels.proofs.Within.{moved_within}
 use Rattle.sg_levels.proofs.Moving.{moved_notes}

@@ -2,7 +2,7 @@ use Rattle.std.proofs.Common.{◌≡◌, ◌≢◌, AllPairs, ◌+◌, ◌<◌, 
 use Rattle.sg_base.specs.MarkSet.{MarkSet, is_in}
 use Rattle.sg_maxmin.specs.Sharing.{uses_at}
 use Rattle.sg_levels.specs.Kept.{IsBetweenBut}
-use Rattle.sg_levels.proofs.Listed.{part_next, in_at, take_all}
+use Rattle.sg_maxmin.proofs.Listed.{part_next, in_at, take_all}
 use Rattle.sg_levels.proofs.Refilling.{in_take}
 use Rattle.sg_levels.proofs.Noted.{noted_on}
 use Rattle.sg_levels.proofs.Steps.{drop_end, drop_step}

@@ -1,7 +1,7 @@
 use Rattle.std.proofs.Common.{◌≡◌, ◌+◌, ◌≤◌, ℕ, true, IsSome, drop, take}
 use Rattle.sg_base.specs.MarkSet.{is_in}
 use Rattle.sg_maxmin.specs.Sharing.{flow_at}
-use Rattle.sg_levels.specs.Numbered.{all_uses}
+use Rattle.sg_maxmin.specs.Numbered.{all_uses}
 use Rattle.sg_levels.specs.Kept.{IsBetweenBut, NotesMoved, StaysWithin}
 use Rattle.sg_levels.proofs.rounds.renew_all.Given as goal
 

@@ -3,9 +3,9 @@ use Rattle.std.proofs.lemmas.List.Elements.{All-get_or}
 use Rattle.sg_maxmin.specs.Sharing.{uses_at}
 use Rattle.sg_chains.specs.Walk.{next_of_flow, resource_of}
 use Rattle.sg_levels.specs.Settling.{at_hold}
-use Rattle.sg_levels.proofs.Listed.{in_at}
-use Rattle.sg_levels.proofs.Users.{rows_exist}
-use Rattle.sg_levels.proofs.Walked.{can_look, looked, walk_on, nearer}
+use Rattle.sg_maxmin.proofs.Listed.{in_at}
+use Rattle.sg_maxmin.proofs.Users.{rows_exist}
+use Rattle.sg_maxmin.proofs.Walked.{can_look, looked, walk_on, nearer}
 use Rattle.sg_levels.proofs.settling.has_cause.Goals as goal
 
 pub bound_of-requires : goal.bound_of-requires

@@ -1,7 +1,7 @@
 use Rattle.std.proofs.Common.{◌≡◌, ◌+◌, ℕ, length}
 use Rattle.sg_maxmin.specs.Sharing.{uses_at}
 use Rattle.sg_chains.specs.Walk.{next_of_flow, resource_of, left_from}
-use Rattle.sg_levels.proofs.Walked.{IsWalk}
+use Rattle.sg_maxmin.proofs.Walked.{IsWalk}
 use Rattle.sg_levels.proofs.settling.has_cause.Given as goal
 
 abbrev pub invariant-loop-at : goal.invariant-loop-at

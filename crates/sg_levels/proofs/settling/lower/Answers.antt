@@ -1,6 +1,6 @@
 use Rattle.std.proofs.Common.{inl, inr, true≢false, IsSome, refl, subst, sym, ap, ◌∙◌}
 use Rattle.sg_levels.specs.Settling.{is_active}
-use Rattle.sg_levels.proofs.Listed.{eq_cases}
+use Rattle.sg_maxmin.proofs.Listed.{eq_cases}
 use Rattle.sg_levels.proofs.Steps.{held_user}
 use Rattle.sg_levels.proofs.settling.lower.Goals as goal
 

@@ -1,8 +1,8 @@
 use Rattle.std.proofs.Common.{◌<◌, ◌≤◌, ◌^◌, length, length-set, set, ap, subst, ◌∙◌, arith}
 use Rattle.sg_base.specs.MarkSet.{MarkSet}
 use Rattle.sg_maxmin.specs.Sharing.{uses_at}
-use Rattle.sg_levels.specs.Numbered.{flow_in}
-use Rattle.sg_levels.proofs.Users.{held_below, weighs}
+use Rattle.sg_maxmin.specs.Numbered.{flow_in}
+use Rattle.sg_maxmin.proofs.Users.{held_below, weighs}
 use Rattle.sg_levels.specs.Kept.{Shifts}
 use Rattle.sg_levels.proofs.Demand.{part_le}
 use Rattle.sg_levels.proofs.Keeping.{can_shift, moved_kept}

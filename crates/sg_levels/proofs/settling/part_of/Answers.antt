@@ -1,8 +1,8 @@
 use Rattle.std.proofs.Common.{◌≡◌, ◌+◌, ◌-◌, ◌*◌, ◌^◌, min, sym, ap, ap₂, ◌∙◌, arith}
 use Rattle.sg_maxmin.specs.Fill.{bounded, share_at}
-use Rattle.sg_levels.specs.Numbered.{flow_in}
+use Rattle.sg_maxmin.specs.Numbered.{flow_in}
 use Rattle.sg_levels.specs.Demand.{demand_of}
-use Rattle.sg_levels.proofs.Users.{bound_is, weight_is}
+use Rattle.sg_maxmin.proofs.Users.{bound_is, weight_is}
 use Rattle.sg_levels.proofs.settling.part_of.Goals as goal
 
 pub returns-in-None : goal.returns-in-None
@@ -17,5 +17,5 @@ returns-in-Some c =
     let l = c.in-Some.level in
     let w = weight_is slots c.args.flow c.weight-weight.result c.requires c.weight-weight.ensures in
     let b = bound_is slots c.args.flow c.bound.result c.requires c.bound.ensures in
-    ap₂ (λ a x. a + 2 * x) (c.from-in-Some.ensures ∙ c.capped_share.ensures ∙ ap₂ (λ o n. min (bounded o (n * l)) (2 ^ 64 - 1)) b w) (c.from-in-Some-2.ensures ∙ w)
+    ap₂ (λ a x. a + 2 * x) (c.from-in-Some.ensures ∙ c.share_at.ensures.capped ∙ ap₂ (λ o n. min (bounded o (n * l)) (2 ^ 64 - 1)) b w) (c.from-in-Some-2.ensures ∙ w)
     ∙ ap (demand_of (flow_in slots c.args.flow)) (sym c.in-Some.is)

@@ -1,5 +1,5 @@
 use Rattle.std.proofs.Common.{IsSome, length, refl, sym, subst, ◌∙◌, arith}
-use Rattle.sg_levels.specs.Numbered.{flow_in}
+use Rattle.sg_maxmin.specs.Numbered.{flow_in}
 use Rattle.sg_levels.specs.Settling.{HasCause, at_hold}
 use Rattle.sg_levels.specs.Kept.{IsMoved}
 use Rattle.sg_levels.proofs.Steps.{held_user, user_below}

@@ -1,6 +1,6 @@
 use Rattle.std.proofs.Common.{◌≡◌, Some, IfSome, true≢false, length, sym, subst, ◌∙◌, arith}
-use Rattle.sg_levels.specs.Numbered.{level_at}
-use Rattle.sg_levels.specs.Held.{IsAtMost, IsUnder}
+use Rattle.sg_maxmin.specs.Numbered.{level_at}
+use Rattle.sg_maxmin.specs.Held.{IsAtMost, IsUnder}
 use Rattle.sg_levels.proofs.Steps.{user_below}
 use Rattle.sg_levels.proofs.Moving.{lowered, moved_notes, skipped, stays_put}
 use Rattle.sg_levels.proofs.Within.{moved_within}

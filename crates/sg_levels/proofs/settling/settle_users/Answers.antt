@@ -2,8 +2,8 @@ use Rattle.std.proofs.Common.{◌≡◌, ◌∷◌, ◌+◌, ◌*◌, ◌≤◌,
 use Rattle.sg_chains.specs.Chained.{users_on}
 use Rattle.sg_chains.specs.Walk.{next_on, user_of}
 use Rattle.sg_levels.specs.Kept.{IsSettlingOn}
-use Rattle.sg_levels.proofs.Listed.{in_at}
-use Rattle.sg_levels.proofs.Walked.{can_look, looked, walk_from, walk_on, nearer, walked}
+use Rattle.sg_maxmin.proofs.Listed.{in_at}
+use Rattle.sg_maxmin.proofs.Walked.{can_look, looked, walk_from, walk_on, nearer, walked}
 use Rattle.sg_levels.proofs.Joined.{row_few}
 use Rattle.sg_levels.proofs.Noted.{noted_none, noted_on}
 use Rattle.sg_levels.proofs.Steps.{drop_step, drop_end}

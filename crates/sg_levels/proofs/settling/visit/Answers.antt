@@ -1,6 +1,6 @@
 use Rattle.std.proofs.Common.{◌≡◌, inl, inr, true, false, subst}
 use Rattle.sg_base.specs.MarkSet.{MarkSet, is_in}
-use Rattle.sg_levels.proofs.Listed.{off_mark, off_one, one_off}
+use Rattle.sg_maxmin.proofs.Listed.{off_mark, off_one, one_off}
 use Rattle.sg_levels.proofs.Within.{marked_or}
 use Rattle.sg_levels.proofs.settling.visit.Goals as goal
 

@@ -6,9 +6,9 @@ use Rattle.sg_maxmin.specs.Sharing.{uses_at}
 use Rattle.sg_chains.specs.Walk.{next_of_flow, resource_of}
 use Rattle.sg_levels.specs.Settling.{is_active}
 use Rattle.sg_levels.specs.Kept.{Lessens, Shifts}
-use Rattle.sg_levels.proofs.Listed.{at_in, bool_cases, off_one, take_all, in_at, one_off}
-use Rattle.sg_levels.proofs.Users.{rows_exist}
-use Rattle.sg_levels.proofs.Walked.{can_look, looked, walk_from, walk_on, nearer, walked}
+use Rattle.sg_maxmin.proofs.Listed.{at_in, bool_cases, off_one, take_all, in_at, one_off}
+use Rattle.sg_maxmin.proofs.Users.{rows_exist}
+use Rattle.sg_maxmin.proofs.Walked.{can_look, looked, walk_from, walk_on, nearer, walked}
 use Rattle.sg_levels.proofs.Shifting.{less_more, shift_fits, shift_more, shift_some}
 use Rattle.sg_levels.proofs.settling.visit_uses.Goals as goal
 

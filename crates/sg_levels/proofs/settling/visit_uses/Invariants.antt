@@ -4,7 +4,7 @@ use Rattle.sg_maxmin.specs.Sharing.{uses_at}
 use Rattle.sg_chains.specs.Walk.{next_of_flow, resource_of, left_from}
 use Rattle.sg_levels.specs.Settling.{is_active}
 use Rattle.sg_levels.specs.Kept.{KeepsLevels, Lessens, Shifts}
-use Rattle.sg_levels.proofs.Walked.{IsWalk}
+use Rattle.sg_maxmin.proofs.Walked.{IsWalk}
 use Rattle.sg_levels.proofs.settling.visit_uses.Given as goal
 
 abbrev pub invariant-loop-at : goal.invariant-loop-at

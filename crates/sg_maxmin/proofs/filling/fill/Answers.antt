@@ -3,9 +3,10 @@ use Rattle.sg_maxmin.specs.Fill.{steps_from, step, unfixed}
 use Rattle.sg_maxmin.specs.Laws.{HaveLimits}
 use Rattle.sg_maxmin.specs.Sharing.{held}
 use Rattle.sg_maxmin.specs.kept.Uses.{flows_of}
-use Rattle.sg_maxmin.specs.kept.Counting.{AreFixed, IsLeast, all_limits, count_of}
+use Rattle.sg_maxmin.specs.kept.Counting.{AreFixed, all_limits, count_of}
+use Rattle.sg_maxmin.specs.Step.{IsLeast}
 use Rattle.sg_maxmin.proofs.Counts.{rows_same}
-use Rattle.sg_maxmin.proofs.Filled.{same_flows, unfix_same, unfix_fixed, length-held, levels_early, levels_end, step_is, same_trans, count_same, count_none}
+use Rattle.sg_maxmin.proofs.FilledRows.{same_flows, unfix_same, unfix_fixed, length-held, levels_early, levels_end, step_is, same_trans, count_same, count_none}
 use Rattle.sg_maxmin.proofs.Proved.{steps-next}
 use Rattle.sg_maxmin.proofs.filling.fill.Goals as goal
 

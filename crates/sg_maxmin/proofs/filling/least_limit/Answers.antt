@@ -2,7 +2,7 @@ use Rattle.std.proofs.Common.{◌≡◌, ℕ, ◌+◌, ◌-◌, ◌/◌, ◌<◌
 use Rattle.std.proofs.lemmas.List.Elements.{All-same, All-tail}
 use Rattle.sg_maxmin.specs.Fill.{bound_level}
 use Rattle.sg_chains.specs.Chain.{resources}
-use Rattle.sg_maxmin.specs.kept.Counting.{IsLeast, least_with}
+use Rattle.sg_maxmin.specs.Step.{IsLeast, least_with}
 use Rattle.sg_chains.proofs.ChainLemmas.{length-resources}
 use Rattle.sg_maxmin.proofs.Counts.{limits_more, step_on}
 use Rattle.sg_maxmin.proofs.filling.least_limit.Goals as goal

@@ -49,7 +49,7 @@ returns-clause-counts g c = λ r.
     let none : resources (c.args.row.count - c.loop-done.done) c.args.uses.now.uses c.loop-done.at ≡ [] = resources_none (c.args.row.count - c.loop-done.done) c.args.uses.now.uses c.loop-done.at (omega arith) in
     let share = c.share_at-share.result in
     minus_none (get_or c.loop-done.left r 0) share ∙ ap (λ list. get_or c.loop-done.left r 0 - times r list * share) (sym none) ∙ c.loop-done.invariant.counts r
-    ∙ ap (λ s. get_or c.args.left.now r 0 - times r all * s) c.share_at-share.ensures
+    ∙ ap (λ s. get_or c.args.left.now r 0 - times r all * s) c.share_at-share.ensures.capped
     ∙ cut_times (get_or c.args.left.now r 0) (times r all) (bounded c.args.row.bound (c.args.row.weight * c.args.level)) (c.loop-done.invariant.fit r)
   where
     minus_none : (a s : ℕ) → a ≡ a - 0 * s

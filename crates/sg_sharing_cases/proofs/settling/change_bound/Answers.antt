@@ -2,9 +2,9 @@ use Rattle.std.proofs.Common.{◌≡◌, ℕ, Bool, true, false, cond, Option, I
 use Rattle.sg_maxmin.specs.Sharing.{Sharing, flow_at}
 use Rattle.sg_lazy.specs.RunningFlow.{RunningFlow, bounded_by, has_bound, running_at}
 use Rattle.sg_lazy.specs.Lazily.{Lazily, with_other_bound}
-use Rattle.sg_filling.proofs.Listing.{some_of}
 use Rattle.sg_sharing_cases.proofs.Pairs.{pairs_stay, still_there}
 use Rattle.sg_lazy.proofs.Starting.{bound_told}
+use Rattle.sg_maxmin.proofs.Listed.{some_of}
 use Rattle.sg_sharing_cases.proofs.settling.change_bound.Goals as goal
 
 bounded_runs : (bound : ℕ) (o : Option RunningFlow) → IsSome o → IsSome (option_map (bounded_by bound) o)

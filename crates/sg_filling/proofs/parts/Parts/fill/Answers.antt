@@ -2,11 +2,12 @@ use Rattle.std.proofs.Common.{◌≡◌, ◌*◌, ℕ, Bool, true≢false, [], g
 use Rattle.sg_base.specs.MarkSet.{MarkSet, is_in}
 use Rattle.sg_chains.specs.Chained.{users_on}
 use Rattle.sg_maxmin.specs.Sharing.{Sharing, uses_at}
-use Rattle.sg_levels.specs.Kept.{PassAlong}
+use Rattle.sg_maxmin.specs.Found.{PassAlong}
 use Rattle.sg_filling.specs.declared.component.Component.{Component}
 use Rattle.sg_filling.specs.Component.{PassAlong as PassRows, lengths}
-use Rattle.sg_filling.proofs.Growing.{in_at, stays}
+use Rattle.sg_filling.proofs.Growing.{stays}
 use Rattle.sg_filling.proofs.Rows.{into}
+use Rattle.sg_maxmin.proofs.Listed.{in_at}
 use Rattle.sg_filling.proofs.parts.Parts.fill.Goals as goal
 
 -- tests that hold along with each other, row by row

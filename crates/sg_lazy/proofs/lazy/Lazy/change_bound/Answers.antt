@@ -6,8 +6,8 @@ use Rattle.sg_lazy.specs.Lazily.{Lazily, with_other_bound}
 use Rattle.sg_lazy.specs.kept.Held.{IsLazy, running_in, ended_in}
 use Rattle.sg_lazy.specs.kept.Leveled.{AreLeveled}
 use Rattle.sg_lazy.proofs.Leveled.{bound_leveled, ready_on}
-use Rattle.sg_filling.proofs.Listing.{some_of}
 use Rattle.sg_lazy.proofs.Starting.{bound_lazy, bound_slots, bound_told, ended_same, is_here, written}
+use Rattle.sg_maxmin.proofs.Listed.{some_of}
 use Rattle.sg_lazy.proofs.lazy.Lazy.change_bound.Goals as goal
 
 pub set_bound-requires-clause-held : goal.set_bound-requires-clause-held

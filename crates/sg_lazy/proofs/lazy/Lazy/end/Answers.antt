@@ -3,8 +3,8 @@ use Rattle.sg_base.specs.MarkSet.{MarkSet}
 use Rattle.sg_lazy.specs.RunningFlow.{RunningFlow, running_at}
 use Rattle.sg_lazy.specs.Lazily.{Lazily, without_flow}
 use Rattle.sg_lazy.specs.kept.Held.{IsLazy, running_in, ended_in}
-use Rattle.sg_filling.proofs.Listing.{some_of}
 use Rattle.sg_lazy.proofs.Starting.{is_here, end_slots, end_lazy, ended_more}
+use Rattle.sg_maxmin.proofs.Listed.{some_of}
 use Rattle.sg_lazy.proofs.lazy.Lazy.end.Goals as goal
 
 pub insert-requires : goal.insert-requires

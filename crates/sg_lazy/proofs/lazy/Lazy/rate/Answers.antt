@@ -2,8 +2,8 @@ use Rattle.std.proofs.Common.{◌≡◌, IfSome, sym, ap, subst, ◌∙◌, arit
 use Rattle.std.proofs.lemmas.Grind.{get_or_default_zero}
 use Rattle.sg_lazy.specs.RunningFlow.{RunningFlow, running_at}
 use Rattle.sg_lazy.specs.Lazily.{Lazily}
-use Rattle.sg_filling.proofs.Listing.{some_of}
 use Rattle.sg_lazy.proofs.Starting.{is_here}
+use Rattle.sg_maxmin.proofs.Listed.{some_of}
 use Rattle.sg_lazy.proofs.lazy.Lazy.rate.Goals as goal
 
 pub index-requires : goal.index-requires

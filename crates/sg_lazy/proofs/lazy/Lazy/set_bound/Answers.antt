@@ -3,8 +3,8 @@ use Rattle.std.specs.Option.{IfSome}
 use Rattle.sg_maxmin.specs.Fill.{Flow}
 use Rattle.sg_lazy.specs.RunningFlow.{has_bound, is_same_bound, running_at}
 use Rattle.sg_lazy.specs.Lazily.{Lazily, with_other_bound}
-use Rattle.sg_filling.proofs.Listing.{some_of}
 use Rattle.sg_lazy.proofs.Starting.{is_here}
+use Rattle.sg_maxmin.proofs.Listed.{some_of}
 use Rattle.sg_lazy.proofs.lazy.Lazy.set_bound.Goals as goal
 
 pub bound-requires : goal.bound-requires

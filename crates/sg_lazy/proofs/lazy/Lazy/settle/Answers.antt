@@ -5,8 +5,8 @@ use Rattle.sg_lazy.specs.Lazily.{IsSettled}
 use Rattle.sg_lazy.specs.kept.Held.{running_in, ended_in}
 use Rattle.sg_lazy.specs.kept.Leveled.{AreLeveled}
 use Rattle.sg_lazy.proofs.Leveled.{no_marks}
-use Rattle.sg_filling.proofs.Growing.{in_at}
 use Rattle.sg_lazy.proofs.Whole.{is_settled, settled_lazy}
+use Rattle.sg_maxmin.proofs.Listed.{in_at}
 use Rattle.sg_lazy.proofs.lazy.Lazy.settle.Goals as goal
 
 pub invariant_of-self : goal.invariant_of-self

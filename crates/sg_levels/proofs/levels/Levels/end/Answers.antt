@@ -1,12 +1,12 @@
 use Rattle.std.proofs.Common.{◌≡◌, inl, inr, true, true≢false, sym, ap, subst, ◌∙◌, arith}
-use Rattle.sg_levels.proofs.Users.{held_below}
+use Rattle.sg_maxmin.proofs.Users.{held_below}
 use Rattle.sg_levels.proofs.Changed.{ended_between}
 use Rattle.sg_base.specs.MarkSet.{MarkSet, is_in}
 use Rattle.sg_maxmin.specs.Sharing.{uses_at}
-use Rattle.sg_levels.proofs.Listed.{bool_cases, eq_cases}
+use Rattle.sg_maxmin.proofs.Listed.{bool_cases, eq_cases}
 use Rattle.sg_levels.proofs.Between.{notes_gone}
 use Rattle.sg_levels.proofs.Renewing.{told_between}
-use Rattle.sg_levels.specs.Numbered.{level_at}
+use Rattle.sg_maxmin.specs.Numbered.{level_at}
 use Rattle.sg_levels.proofs.levels.Levels.end.Goals as goal
 
 pub returns-clause-keeps : goal.returns-clause-keeps

@@ -1,6 +1,6 @@
 use Rattle.std.proofs.Common.{slice_index, subst, arith}
 use Rattle.sg_chains.specs.Chained.{users_on}
-use Rattle.sg_levels.specs.Held.{IsHold}
+use Rattle.sg_maxmin.specs.Held.{IsHold}
 use Rattle.sg_levels.proofs.levels.Levels.look_at.Goals as goal
 
 pub put_to_rest-requires-clause-none : goal.put_to_rest-requires-clause-none

@@ -2,7 +2,7 @@ use Rattle.std.proofs.Common.{◌≡◌, ◌≢◌, ℕ, ◌+◌, ◌-◌, ◌<�
 use Rattle.sg_chains.specs.Chained.{users_on}
 use Rattle.sg_levels.specs.Joined.{spare_looks}
 use Rattle.sg_levels.specs.Allowed.{SparesLooks}
-use Rattle.sg_levels.proofs.Walked.{none_of}
+use Rattle.sg_maxmin.proofs.Walked.{none_of}
 use Rattle.sg_levels.proofs.Noted.{noted_on}
 use Rattle.sg_levels.proofs.Renewing.{filled_from}
 use Rattle.sg_levels.proofs.Joined.{spare_more}

@@ -2,7 +2,7 @@ use Rattle.std.proofs.Common.{◌≡◌, ◌<◌, true, get_or, refl, subst, ◌
 use Rattle.std.proofs.lemmas.Grind.{get_or_default_zero}
 use Rattle.std.proofs.lemmas.List.Elements.{All-get_or}
 use Rattle.sg_base.specs.MarkSet.{is_in}
-use Rattle.sg_levels.proofs.Listed.{in_at}
+use Rattle.sg_maxmin.proofs.Listed.{in_at}
 use Rattle.sg_levels.proofs.levels.Levels.most_users.Goals as goal
 
 pub loop-resource-preserved : goal.loop-resource-preserved

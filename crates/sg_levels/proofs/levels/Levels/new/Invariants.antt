@@ -1,5 +1,5 @@
 use Rattle.std.proofs.Common.{◌≡◌, ℕ, None, length, slice_index}
-use Rattle.sg_levels.specs.Numbered.{level_at}
+use Rattle.sg_maxmin.specs.Numbered.{level_at}
 use Rattle.sg_levels.proofs.levels.Levels.new.Given as goal
 
 abbrev pub invariant-loop-resource : goal.invariant-loop-resource

@@ -1,7 +1,7 @@
 use Rattle.std.proofs.Common.{◌+◌, ◌≤◌, length, max, refl, sym, subst, arith}
 use Rattle.sg_chains.specs.Chained.{users_on}
 use Rattle.sg_levels.specs.Kept.{IsLevelAbove}
-use Rattle.sg_levels.specs.Numbered.{flow_in}
+use Rattle.sg_maxmin.specs.Numbered.{flow_in}
 use Rattle.sg_levels.proofs.Demand.{demand_holds_none_lem, parts_demand}
 use Rattle.sg_levels.proofs.Steps.{held_user}
 use Rattle.sg_levels.specs.Joined.{spare_looks}

@@ -1,7 +1,7 @@
 use Rattle.std.proofs.Common.{◌≡◌, Some, IsSome, IfSome, length, slice_index, refl, sym, ap, subst, ◌∙◌, arith, inl, inr, true, IsTrue}
 use Rattle.sg_base.specs.MarkSet.{MarkSet, is_in}
 use Rattle.sg_maxmin.specs.Fill.{Flow}
-use Rattle.sg_levels.proofs.Users.{uses_held}
+use Rattle.sg_maxmin.proofs.Users.{uses_held}
 use Rattle.sg_levels.proofs.Between.{between_extended, notes_one, notes_same}
 use Rattle.sg_levels.proofs.Changed.{bounded_between, rebound, same_flow}
 use Rattle.sg_levels.proofs.Within.{marked_or}

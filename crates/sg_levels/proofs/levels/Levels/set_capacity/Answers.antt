@@ -2,7 +2,7 @@ use Rattle.std.proofs.Common.{◌≡◌, inl, inr, true, length, length-set, get
 use Rattle.sg_base.specs.MarkSet.{MarkSet, is_in}
 use Rattle.sg_maxmin.specs.Sharing.{Sharing, flow_at}
 use Rattle.sg_levels.proofs.Within.{marked_or}
-use Rattle.sg_levels.proofs.Listed.{eq_cases}
+use Rattle.sg_maxmin.proofs.Listed.{eq_cases}
 use Rattle.sg_levels.proofs.Between.{between_extended, notes_same}
 use Rattle.sg_levels.proofs.Changed.{offered_between}
 use Rattle.sg_levels.proofs.levels.Levels.set_capacity.Goals as goal

@@ -3,7 +3,7 @@ use Rattle.sg_maxmin.specs.Sharing.{flow_at}
 use Rattle.sg_maxmin.specs.kept.Uses.{flow_of, flows_of, share_in, IsKept}
 use Rattle.sg_maxmin.specs.kept.Numbers.{free_count}
 use Rattle.sg_maxmin.proofs.Rows.{with_bound, kept_bound, flow_held, flows_bound, shares_bound}
-use Rattle.sg_maxmin.proofs.Filled.{sharing_same}
+use Rattle.sg_maxmin.proofs.FilledRows.{sharing_same}
 use Rattle.sg_maxmin.proofs.system.System.set_bound.Goals as goal
 
 pub invariant_of-self : goal.invariant_of-self

@@ -6,7 +6,7 @@ use Rattle.sg_maxmin.specs.kept.Uses.{flows_of, share_in}
 use Rattle.sg_maxmin.specs.kept.Numbers.{free_count}
 use Rattle.sg_maxmin.specs.kept.Counting.{SameRows, AreRowLevels}
 use Rattle.sg_maxmin.proofs.Counts.{rows_same}
-use Rattle.sg_maxmin.proofs.Filled.{same_flows, same_trans, put_same, put_row_levels, put_row_shares, have_limits, shares_shown, count_is, len_same, sharing_same}
+use Rattle.sg_maxmin.proofs.FilledRows.{same_flows, same_trans, put_same, put_row_levels, put_row_shares, have_limits, shares_shown, count_is, len_same, sharing_same}
 use Rattle.sg_maxmin.proofs.system.System.solve.Goals as goal
 
 pub fill-requires-clause-limits : goal.fill-requires-clause-limits

@@ -1,5 +1,0 @@
-use Rattle.sg_levels.proofs.Balance.{balance_is_filling_lem}
-use Rattle.sg_levels.proofs.laws.balance_is_filling.Goals as goal
-
-pub returns : goal.returns
-returns c = balance_is_filling_lem

@@ -1,5 +1,0 @@
-use Rattle.sg_levels.proofs.Balance.{filling_balances_lem}
-use Rattle.sg_levels.proofs.laws.filling_balances.Goals as goal
-
-pub returns : goal.returns
-returns c = filling_balances_lem

@@ -1,5 +1,0 @@
-use Rattle.sg_levels.proofs.OnRow.{row_tells_lem}
-use Rattle.sg_levels.proofs.laws.row_tells.Goals as goal
-
-pub returns : goal.returns
-returns c = row_tells_lem
