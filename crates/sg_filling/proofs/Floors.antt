@@ -5,7 +5,7 @@ use Rattle.sg_base.specs.MarkSet.{is_in}
 use Rattle.sg_maxmin.specs.Sharing.{Sharing}
 use Rattle.sg_maxmin.proofs.Members.{In, In-from_contains, contains_from_In, In-flat_map, In-flat_map_back}
 use Rattle.sg_filling.specs.declared.filling.Filling.{Filling}
-use Rattle.sg_filling.specs.declared.filling.Low.{Low}
+use Rattle.sg_filling.specs.declared.limits.Low.{Low}
 use Rattle.sg_maxmin.specs.Step.{IsLeast}
 use Rattle.sg_filling.specs.Filling.{AreCounted, AreJoined, IsFloor, IsLow, IsOver, StepsPartly, bound_limit, fixed_at, limits_at, unfixed_bounds, unfixed_limits, waited_levels}
 use Rattle.sg_filling.proofs.Fixing.{was_none}

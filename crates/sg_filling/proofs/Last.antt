@@ -8,7 +8,7 @@ use Rattle.sg_maxmin.specs.Sharing.{Sharing, uses_at}
 use Rattle.sg_maxmin.proofs.Members.{In}
 use Rattle.sg_maxmin.specs.Numbered.{flow_in, weight_at}
 use Rattle.sg_filling.specs.declared.filling.Filling.{Filling}
-use Rattle.sg_filling.specs.declared.filling.Low.{Low}
+use Rattle.sg_filling.specs.declared.limits.Low.{Low}
 use Rattle.sg_filling.specs.Dates.{HaveNone}
 use Rattle.sg_maxmin.specs.Step.{IsLeast, IsStepped}
 use Rattle.sg_filling.specs.Filling.{AreCounted, ArePart, fixed_at, limits_at, waits_with}

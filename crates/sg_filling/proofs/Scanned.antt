@@ -3,9 +3,9 @@ use Rattle.std.proofs.Common.{◌≡◌, ℕ, suc, ◌+◌, ◌<◌, ◌≤◌, 
 use Rattle.std.proofs.lemmas.Grind.{flat_map-append}
 use Rattle.std.proofs.lemmas.List.{take_more}
 use Rattle.sg_filling.specs.declared.filling.Filling.{Filling}
-use Rattle.sg_filling.specs.declared.filling.Least.{Least}
-use Rattle.sg_filling.specs.declared.filling.Low.{Low}
-use Rattle.sg_filling.specs.declared.filling.Span.{Span}
+use Rattle.sg_filling.specs.declared.limits.Least.{Least}
+use Rattle.sg_filling.specs.declared.limits.Low.{Low}
+use Rattle.sg_filling.specs.declared.limits.Span.{Span}
 use Rattle.sg_maxmin.specs.Step.{IsLeast, least_with}
 use Rattle.sg_filling.specs.Filling.{AreAmong, AreTaken, IsNext, IsNextOf, IsUpTo, level_where, waited_levels}
 use Rattle.sg_filling.proofs.Waited.{level_more}

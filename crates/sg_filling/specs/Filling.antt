@@ -9,9 +9,9 @@ use Rattle.sg_chains.specs.Chained.{users_on}
 use Rattle.sg_maxmin.specs.Numbered.{bound_of, flow_in, weight_at}
 use Rattle.sg_maxmin.specs.Step.{IsLeast, IsStepped}
 use Rattle.sg_filling.specs.declared.filling.Filling.{Filling}
-use Rattle.sg_filling.specs.declared.filling.Least.{Least}
-use Rattle.sg_filling.specs.declared.filling.Low.{Low}
-use Rattle.sg_filling.specs.declared.filling.Span.{Span}
+use Rattle.sg_filling.specs.declared.limits.Least.{Least}
+use Rattle.sg_filling.specs.declared.limits.Low.{Low}
+use Rattle.sg_filling.specs.declared.limits.Span.{Span}
 use Rattle.sg_filling.specs.Component.{IsClosure, MarksRow}
 use Rattle.sg_filling.specs.Dates.{IsIdle}
 

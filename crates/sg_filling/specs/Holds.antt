@@ -6,7 +6,7 @@ use Rattle.sg_maxmin.specs.Fill.{Flow}
 use Rattle.sg_maxmin.specs.Sharing.{Sharing}
 use Rattle.sg_maxmin.specs.Numbered.{below_at, row_level}
 use Rattle.sg_filling.specs.declared.filling.Filling.{Filling}
-use Rattle.sg_filling.specs.declared.filling.Low.{Low}
+use Rattle.sg_filling.specs.declared.limits.Low.{Low}
 use Rattle.sg_filling.specs.Dates.{AreDated, HaveNone, IsIdle}
 use Rattle.sg_maxmin.specs.Step.{IsLeast}
 use Rattle.sg_filling.specs.Filling.{AreAbove, AreCounted, AreFixed, AreJoined, AreLeveled, AreLevels, AreTaken, HasPlaces, IsFloor, KeepsFixed, KeepsHolds, KeepsOthers, StepsPartly, fixed_at, limits_at, unfixed_bounds, unfixed_limits, unfixed_uses}

@@ -9,6 +9,10 @@ mod by_part;
 mod component;
 mod dates;
 mod filling;
+mod fixes;
+mod last_step;
+mod limits;
 mod parts;
+mod steps;
 
 pub use parts::Parts;
