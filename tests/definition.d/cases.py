@@ -1,4 +1,4 @@
-"""The cases that the definition is asked: those of tests/cases.d, and the rows of the tables of crates/."""
+"""The cases that the definition is asked: those of tests/cases.d, and the rows of the tables of sg_job_cases."""
 
 import importlib.machinery
 import importlib.util
@@ -7,19 +7,19 @@ import re
 import sys
 
 TOP = pathlib.Path(__file__).resolve().parents[2]
-TABLES = ("sg_job_tables", "sg_change_tables")
+TABLES = TOP / "crates/sg_job_cases/src"
 CONTEXTS = 4096
 # Keys of the tables that no reader of them needs, or of what isn't the definition's: how parts and streams take and give.
-UNSEEN = {"need", "calls", "writes", "--", ""}
+UNSEEN = {"need", "calls", "writes", "--"}
 NOT_ASKED = {"failing_call": "a call of a part that fails", "failing_write": "a write that fails", "meeting": "actors that count each other"}
 
 
 class Case:
-    """Words and files, and both streams and the status that are expected. Out may begin and end only as expected."""
+    """Words and files, and both streams and the status that are expected."""
 
-    def __init__(self, name, words, files, out, err, status, contexts=CONTEXTS, back=b""):
+    def __init__(self, name, words, files, out, err, status, contexts=CONTEXTS):
         self.name, self.words, self.files, self.contexts = name, words, files, contexts
-        self.out, self.err, self.back, self.status = out, err, back, status
+        self.out, self.err, self.status = out, err, status
 
     def __str__(self):
         return self.name
@@ -37,8 +37,8 @@ class Case:
             yield f"status {' or '.join(map(str, sorted(answer.statuses)))}, and {self.status} is expected"
         if answer.out is None:
             return
-        if not (answer.out.startswith(self.out) and answer.out.endswith(self.back) if self.back else answer.out == self.out):
-            yield f"out: {answer.out[-600:]!r}, and {self.out[-600:] + self.back!r} is expected"
+        if answer.out != self.out:
+            yield f"out: {answer.out[-600:]!r}, and {self.out[-600:]!r} is expected"
         if answer.err != self.err:
             yield f"err: {answer.err[-600:]!r}, and {self.err[-600:]!r} is expected"
 
@@ -81,10 +81,15 @@ def lines(text):
 
 
 def constants(file):
-    """The text constants of a file of Rattle."""
-    text = file.read_text(encoding="utf-8")
-    found = re.findall(r'const (\w+): &str = "(.*?)(?<!\\)";', text, re.S)
-    return {name: re.sub(r"\\\n\s*", "", value).replace('\\"', '"').replace("\\\\", "\\") for name, value in found}
+    """The text constants of a file of Rattle that are public."""
+    return dict(re.findall(r'^pub const (\w+): &str = "\\\n(.*?)";$', file.read_text(encoding="utf-8"), re.S | re.M))
+
+
+def named_texts():
+    """The platforms and deployments of texts.rt, by their names."""
+    table = re.search(r'const TEXTS: &str = "\\\n(.*?)";$', (TABLES / "texts.rt").read_text(encoding="utf-8"), re.S | re.M)[1]
+    heads = (section.partition("\n") for section in table.split("== ")[1:])
+    return {head.split()[0]: text for head, _, text in heads}
 
 
 class Row:
@@ -92,7 +97,7 @@ class Row:
 
     def __init__(self, texts):
         self.texts, self.files, self.contexts = texts, {"p": b"", "d": b"", "s": b""}, 20
-        self.words, self.out, self.err, self.back, self.why = [], b"", b"", b"", None
+        self.words, self.out, self.err, self.status, self.why = ["simgrid_replay", "replay", "p", "d", "s"], b"", b"", 0, None
 
     def take(self, key, text):
         parts = {"platform": "p", "deployment": "d", "with": "p", "script": "s", "unended": "s", "lines": "s",
@@ -116,36 +121,41 @@ class Row:
             self.files[parts[key]] = self.files[parts[key]][:int(size)].ljust(int(size), b" " if byte in ("", "_") else byte[:1].encode())
         elif key == "crew":
             self.contexts = int(text.split()[1])
-        elif key in ("out", "err", "back", "front"):
+        elif key in ("out", "err", "front"):
             name = "out" if key == "front" else key
             setattr(self, name, getattr(self, name) + literal(text) + (b"" if key == "front" else b"\n"))
+        elif key == "status":
+            self.status = int(text)
         elif key in NOT_ASKED:
             self.why = NOT_ASKED[key]
         elif key not in UNSEEN:
             raise ValueError(f"no such key: {key}")
 
+    def case(self, place, number):
+        """The case of this row, and why it isn't asked."""
+        named = [word for word in self.words[2:] if word in ("p", "d", "s", "-")]
+        why = None if named == ["p", "d", "s"][:len(named)] else "a part that stands in memory under another name"
+        name = f"{place} {number}: {' '.join(self.words)}"
+        return Case(name, self.words[1:], dict(self.files), self.out, self.err, self.status, self.contexts), self.why or why
+
 
 def rows():
-    """The rows of the tables of crates/, and for each that isn't asked why."""
-    texts = constants(TOP / "crates/sg_job_cases/src/texts.rt")
-    for crate in TABLES:
-        for file in sorted((TOP / "crates" / crate / "src").glob("*.rt")):
-            for name, table in constants(file).items():
-                yield from rows_of(f"{crate}/{file.name} {name}", table, texts)
+    """The rows of the tables, and for each that isn't asked why."""
+    texts = named_texts()
+    for file in sorted(TABLES.glob("*.rt")):
+        for name, table in constants(file).items():
+            yield from rows_of(f"sg_job_cases/{file.name} {name}", table, texts)
 
 
 def rows_of(place, table, texts):
+    """The rows of a table: a blank line ends a row, and `same` begins one that differs in what stands behind it."""
     row, number = Row(texts), 0
     for line in table.splitlines():
-        key, _, text = line.partition(" ")
-        if key != "ends":
+        if line in ("", "same"):
+            number += 1
+            yield row.case(place, number)
+        if line == "":
+            row = Row(texts)
+        elif line != "same":
+            key, _, text = line.partition(" ")
             row.take(key, text)
-            continue
-        number += 1
-        name = f"{place} {number}: {' '.join(row.words)}"
-        parts = [word for word in row.words[2:] if word in ("p", "d", "s", "-")]
-        if parts != ["p", "d", "s"][:len(parts)]:
-            row.why = "a part that stands in memory under another name"
-        if row.words:
-            yield Case(name, row.words[1:], row.files, row.out, row.err, int(text), row.contexts, row.back), row.why
-        row = Row(texts)

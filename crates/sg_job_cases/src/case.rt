@@ -12,9 +12,9 @@ use sg_edge::{MemFiles, MemSinks, Part};
 use std::alloc::Global;
 use std::test::Fail;
 
-/// A job with its command line, its three texts, and so many contexts; and what it is to write.
+/// A job with its command line, its three texts, and so many contexts; and what it writes, and its exit status.
 pub struct Case {
-    pub words: String,
+    words: String,
     pub platform: Vec<u8>,
     pub deployment: Vec<u8>,
     pub script: Vec<u8>,
@@ -29,8 +29,7 @@ pub struct Case {
     pub takes: usize,
     pub out: Vec<u8>,
     pub err: Vec<u8>,
-    /// If it isn't empty, Out begins with `out` and ends with this.
-    pub back: Vec<u8>,
+    pub status: u8,
     /// How many bytes of the script its fetches need, if that is compared.
     pub need: Option<usize>,
     /// How many calls of its parts it makes: of each the begin, a read of all bytes, and if the end is met another.
@@ -67,7 +66,7 @@ impl Drop for Case {
             takes: _,
             out: _,
             err: _,
-            back: _,
+            status: _,
             need: _,
             calls: _,
             writes: _,
@@ -76,10 +75,10 @@ impl Drop for Case {
 }
 
 impl Case {
-    /// Makes a job without words and texts.
+    /// Makes a replay of empty texts.
     pub fn new(alloc: Global) -> Result<Case, Memory> {
         Ok(Case {
-            words: String::new(alloc),
+            words: String::from_str(alloc, "simgrid_replay replay p d s")?,
             platform: Vec::new(alloc),
             deployment: Vec::new(alloc),
             script: Vec::new(alloc),
@@ -92,7 +91,7 @@ impl Case {
             takes: 7,
             out: Vec::new(alloc),
             err: Vec::new(alloc),
-            back: Vec::new(alloc),
+            status: 0,
             need: None,
             calls: 0,
             writes: 0,
@@ -143,7 +142,7 @@ impl Case {
         Ok(())
     }
 
-    /// Takes a line of a table that isn't the end of a case.
+    /// Takes what a line of a table says: a key, and the text after it.
     pub fn take(&mut self, alloc: Global, key: &str, text: &str) -> Result<(), Fail> {
         match key {
             "job" => self.words = String::from_str(alloc, text)?,
@@ -169,15 +168,21 @@ impl Case {
             "failing_write" => self.failing_write = text.parse()?,
             "out" => push_line(alloc, &mut self.out, text)?,
             "front" => push_text(alloc, &mut self.out, text)?,
-            "back" => push_line(alloc, &mut self.back, text)?,
             "err" => push_line(alloc, &mut self.err, text)?,
+            "status" => self.status = text.parse()?,
             "need" => self.need = Some(text.parse()?),
             "calls" => self.calls = text.parse()?,
             "writes" => self.writes = text.parse()?,
-            "" | "--" => {}
+            "--" => {}
             _ => return Err(Fail::new("no such key")),
         }
         Ok(())
+    }
+
+    /// Takes a line of a table that isn't the end of a case.
+    pub fn take_line(&mut self, alloc: Global, line: &str) -> Result<(), Fail> {
+        let (key, text) = line.split_once(" ").unwrap_or((line, ""));
+        self.take(alloc, key, text)
     }
 
     /// Returns the words of the command line.

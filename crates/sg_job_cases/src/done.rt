@@ -29,11 +29,11 @@ impl Done {
         }
     }
 
-    /// Returns whether all of the case was written, with this status.
-    pub fn is_whole(&self, case: &Case, status: u8) -> bool {
+    /// Returns whether all of the case was written, with its status.
+    pub fn is_whole(&self, case: &Case) -> bool {
         self.out.held(Stream::Out) == case.out.as_slice()
             && self.out.held(Stream::Err) == case.err.as_slice()
-            && self.status == status
+            && self.status == case.status
     }
 
     /// Returns whether prefixes of what the case writes were written, and of Err something only after all of Out.
@@ -57,15 +57,6 @@ impl Done {
             && case.out.starts_with(self.out.held(Stream::Out))
     }
 
-    // Returns whether Out has what the case writes.
-    fn has_out(&self, case: &Case) -> bool {
-        let out = self.out.held(Stream::Out);
-        if !case.back.is_empty() {
-            return out.starts_with(&case.out) && out.ends_with(&case.back);
-        }
-        out == case.out.as_slice()
-    }
-
     // Returns whether no more of the script was taken than the case allows: less than a piece more than is needed.
     fn is_frugal(&self, case: &Case) -> bool {
         let taken = case.script.len().saturating_sub(self.left);
@@ -76,14 +67,14 @@ impl Done {
     }
 
     /// Returns what differs from the expected result of the case, if anything does.
-    pub fn difference(&self, case: &Case, status: u8) -> Option<&'static str> {
-        if !self.has_out(case) {
+    pub fn difference(&self, case: &Case) -> Option<&'static str> {
+        if self.out.held(Stream::Out) != case.out.as_slice() {
             return Some("Out");
         }
         if self.out.held(Stream::Err) != case.err.as_slice() {
             return Some("Err");
         }
-        if self.status != status {
+        if self.status != case.status {
             return Some("the status");
         }
         if case.meeting.counts() != (case.meeting.wanted, 0) {

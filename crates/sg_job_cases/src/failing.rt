@@ -8,7 +8,6 @@ use std::test::Fail;
 fn fail_calls<F: Fn(Global, &Case) -> Result<Done, Fail>>(
     alloc: Global,
     case: &mut Case,
-    status: u8,
     does: &F,
 ) -> Result<(), Fail>
     requires { F.IsAlwaysCallable does.now }
@@ -18,7 +17,7 @@ fn fail_calls<F: Fn(Global, &Case) -> Result<Done, Fail>>(
         let done = does(alloc, case)?;
         let is_right = match done.broken {
             Some(part) => call <= case.calls && done.tells_unread(case, part),
-            None => call > case.calls && done.is_whole(case, status),
+            None => call > case.calls && done.is_whole(case),
         };
         if !is_right {
             return Err(case.failure(alloc, "this call failed", call));
@@ -35,7 +34,6 @@ fn fail_calls<F: Fn(Global, &Case) -> Result<Done, Fail>>(
 fn fail_writes<F: Fn(Global, &Case) -> Result<Done, Fail>>(
     alloc: Global,
     case: &mut Case,
-    status: u8,
     writes: (usize, u64, u64),
     does: &F,
 ) -> Result<(), Fail>
@@ -50,7 +48,7 @@ fn fail_writes<F: Fn(Global, &Case) -> Result<Done, Fail>>(
         let is_right = if is_cut {
             write <= most && done.is_cut_off(case)
         } else {
-            write > least && done.is_whole(case, status)
+            write > least && done.is_whole(case)
         };
         if !is_right {
             return Err(case.failure(alloc, "this write failed", write));
@@ -67,21 +65,20 @@ fn fail_writes<F: Fn(Global, &Case) -> Result<Done, Fail>>(
 fn fail_all<F: Fn(Global, &Case) -> Result<Done, Fail>>(
     alloc: Global,
     case: &mut Case,
-    status: u8,
     does: &F,
 ) -> Result<(), Fail>
     requires { F.IsAlwaysCallable does.now }
 {
     case.takes = 4096;
-    fail_calls(alloc, case, status, does)?;
+    fail_calls(alloc, case, does)?;
     let bytes = case.out.len().saturating_add(case.err.len()) as u64;
-    fail_writes(alloc, case, status, (1, bytes, bytes), does)?;
-    fail_writes(alloc, case, status, (7, bytes.div_ceil(7), bytes), does)?;
+    fail_writes(alloc, case, (1, bytes, bytes), does)?;
+    fail_writes(alloc, case, (7, bytes.div_ceil(7), bytes), does)?;
     // What is written at once takes one write.
     let writes = case.writes;
-    fail_writes(alloc, case, status, (4096, writes, writes), does)?;
+    fail_writes(alloc, case, (4096, writes, writes), does)?;
     case.gives = 1;
-    if !does(alloc, case)?.is_whole(case, status) {
+    if !does(alloc, case)?.is_whole(case) {
         return Err(case.failure(alloc, "reads of a byte", 1));
     }
     case.gives = 4096;
@@ -98,15 +95,16 @@ pub fn hold_failing<F: Fn(Global, &Case) -> Result<Done, Fail>>(
 ) -> Result<(), Fail>
     requires { F.IsAlwaysCallable does }
 {
+    if !table.ends_with("\n\n") {
+        return Err(Fail::new("no blank line ends the last case"));
+    }
     let mut case = Case::new(alloc)?;
     for line in table.lines() {
-        let (key, text) = line.split_once(" ").unwrap_or((line, ""));
-        if key == "ends" {
-            let status: u8 = text.parse()?;
-            fail_all(alloc, &mut case, status, &does)?;
+        if line.is_empty() {
+            fail_all(alloc, &mut case, &does)?;
             case = Case::new(alloc)?;
         } else {
-            case.take(alloc, key, text)?;
+            case.take_line(alloc, line)?;
         }
     }
     Ok(())

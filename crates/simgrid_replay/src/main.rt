@@ -2,7 +2,7 @@
 //! One enters by `simgrid`, the whole call, over any files and streams: it reads the command line, reads or makes the
 //! input of the job, and runs it. `main` calls it over the real ones.
 //! It stands on `sg_words` for the job, `sg_platform`, `sg_zones` and `sg_churn` for its input, `sg_engine` for the
-//! run; and for its tests on `sg_job_cases`, `sg_job_tables` and `sg_change_tables`.
+//! run; and for its tests on `sg_job_cases`.
 #![tactic(auto)]
 
 mod churn_setup;

@@ -1,4 +1,4 @@
-//! Jobs over parts and streams in memory: the tables of `sg_job_tables` and `sg_change_tables`.
+//! Jobs over parts and streams in memory: the tables of `sg_job_cases`.
 ghost use Rattle.std.specs.Prelude.{◌≡◌, ◌<◌, All, None, IfOk};
 ghost use Rattle.sg_edge.specs.declared.files.Part.{Part};
 ghost use Rattle.sg_edge.specs.declared.files.Stage.TheVariants.{Fresh};
@@ -7,12 +7,10 @@ use crate::host::Host;
 use crate::whole_call::simgrid;
 use sg_actor::{Actor, PlainContext, Role, TapeContext, all_blank};
 use sg_base::{Answer, Call, Memory, Steps};
-use sg_change_tables::{ENERGY, LIVES, OUTAGES, PROFILES};
 use sg_edge::{Files, MemFiles, MemSinks, Sinks, SureFiles, SureSinks};
-use sg_job_cases::{Case, Done, Kind, hold, hold_failing};
-use sg_job_tables::{
-    BY_HAND, COLLECTIVES, COMPUTATIONS, EACH_FAILURE, FAILURES, FAULTS, JOBS, LIMITS, LONG,
-    MEETINGS, RUNS,
+use sg_job_cases::{
+    CHANGES, COMPUTATIONS, Case, Done, EACH_FAILURE, FAILURES, FAULTS, JOBS, Kind, LIMITS, LONG,
+    MEETINGS, RUNS, hold, hold_failing,
 };
 use sg_platform::{read_deployment, read_platform};
 use std::alloc::Global;
@@ -122,16 +120,7 @@ fn over_sure_parts<R: Threads + Sync>(rt: &R, alloc: Global, case: &Case) -> Res
 
 #[test]
 fn writes_the_lines_of_runs(rt: HostRuntime) -> Result<(), Fail> {
-    for table in [
-        RUNS,
-        COMPUTATIONS,
-        BY_HAND,
-        COLLECTIVES,
-        PROFILES,
-        OUTAGES,
-        LIVES,
-        ENERGY,
-    ] {
+    for table in [COMPUTATIONS, RUNS, CHANGES] {
         hold(rt.alloc(), table, |alloc, case| done(&rt, alloc, case))?;
     }
     Ok(())
