@@ -1,5 +1,5 @@
 //! The first rule that a key of a row breaks.
-ghost use Rattle.std.specs.Prelude.{◌≡◌, IfOk, ◌≤◌, ◌+◌, ◌++◌, ◌∷◌, [], codes, false, is_none, is_some, length, map, nat_lt, not, option_and_then};
+ghost use Rattle.std.specs.Prelude.{◌≡◌, IfOk, IfSome, Some, ◌≤◌, ◌+◌, ◌++◌, ◌∷◌, [], codes, false, is_none, is_some, length, map, nat_lt, not, option_and_then};
 ghost use Rattle.std.specs.HashMap.{get_by, get_by_text};
 ghost use Rattle.std.specs.List.{list_all, list_any};
 ghost use Rattle.std.specs.Option.{option_map_or};
@@ -154,12 +154,38 @@ fn end_fault(names: &Names, name: &str) -> Option<Kind>
     }
 }
 
+/// Returns the number of the row that gave the pair first, if the entry at this index is that of the pair.
+fn first_at(pairs: &IndexMap<(u32, u32), u32>, index: usize, pair: (u32, u32)) -> Option<u32>
+    ensures { IfSome result (λ first. get_by (pair_eq pair) pairs.now ≡ Some first) }
+{
+    match pairs.get_index(index) {
+        Some((there, first)) if there.0 == pair.0 && there.1 == pair.1 => Some(*first),
+        _ => None,
+    }
+}
+
+/// Returns the number of the row that gave the pair first, which may be the row of this number.
+fn first_row(pairs: &IndexMap<(u32, u32), u32>, number: usize, pair: (u32, u32)) -> Option<u32>
+    ensures { result ≡ get_by (pair_eq pair) pairs.now }
+{
+    // Most rows give two pairs that no other row gives. Then theirs are the entries at twice their number and the next
+    // one, and a walk over rows finds them in order. Anywhere else a hash finds them, far apart.
+    let index = number.wrapping_mul(2);
+    if let Some(first) = first_at(pairs, index, pair) {
+        return Some(first);
+    }
+    match first_at(pairs, index.wrapping_add(1), pair) {
+        Some(first) => Some(first),
+        None => pairs.get(&pair).copied(),
+    }
+}
+
 /// Returns whether an earlier row than this gave the pair.
 pub fn is_given_pair(pairs: &IndexMap<(u32, u32), u32>, number: usize, pair: (u32, u32)) -> bool
     ensures { result ≡ is_taken (get_by (pair_eq pair) pairs.now) number }
 {
-    match pairs.get(&pair) {
-        Some(earlier) => (*earlier as usize) < number,
+    match first_row(pairs, number, pair) {
+        Some(first) => (first as usize) < number,
         None => false,
     }
 }
