@@ -160,7 +160,7 @@ fn links_at(alloc: Global, names: &Names, row: &Value, key: &str) -> Result<Link
         (λ links. links ≡ links_at (names_view names.now) key.now (view row.now)) }
 {
     let items = items_at(row, key);
-    let mut made = Vec::new(alloc);
+    let mut made = Vec::with_capacity(alloc, items.len())?;
     for item in items {
         made.push(link_id(names, text_of(item)))?;
     }
@@ -271,7 +271,8 @@ fn read_rows<R: Row + Drop>(
         (λ made. made.items
         ≡ map (R.row_of (names_view names.now) ends.now) (map view rows.items)) }
 {
-    let mut made = Vec::new(alloc);
+    // All room at once: a list that grows amid the pieces that rows leave has the allocator look through them.
+    let mut made = Vec::with_capacity(alloc, rows.len())?;
     for row in rows {
         made.push(R::read(alloc, names, ends, &row)?)?;
     }
