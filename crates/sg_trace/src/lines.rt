@@ -1,19 +1,17 @@
 //! The lines on standard output.
 ghost use Rattle.std.specs.Prelude.{◌≡◌, ◌≤◌, ◌++◌, codes, length};
-ghost use Rattle.sg_base.specs.Limits.{IsActorIn};
-ghost use Rattle.sg_rows.specs.Deployment.{IsDeployedOn, extent_of};
+ghost use Rattle.sg_rows.specs.Deployment.{IsDeployedOn};
 ghost use Rattle.sg_trace.specs.Ending.{IsLastOf, ending_of, last_text};
 ghost use Rattle.sg_trace.specs.Line.{IsDate, IsOfDeployment, line_of};
-ghost use Rattle.sg_trace.specs.Names.{actor_label};
 ghost use Rattle.sg_units.specs.Date.{date_of};
 ghost use Rattle.sg_trace.specs.kept.Room.{HasRoom, GrowsBy};
 
 use crate::calls::push_call;
 use crate::last::Last;
-use crate::names::{push_actor, push_host_name};
+use crate::names::{host_name, push_actor, push_name};
 use crate::pieces::{push_date, push_end, push_energy, push_number};
 use arrayvec::ArrayString;
-use sg_base::{ActorId, Record};
+use sg_base::Record;
 use sg_rows::{Deployment, PlatformText};
 
 /// Appends the trace line of a record, with its newline. It takes no memory.
@@ -54,33 +52,12 @@ pub fn line(answered: &Record, platform: &PlatformText, deployment: &Deployment)
 fn push_dated<const N: usize>(lines: &mut ArrayString<N>, text: &str, date: u128)
     requires date { IsDate date }
     requires text { length text.now ≤ 40 }
-    requires room { HasRoom N lines.old 112 }
+    requires room { HasRoom N lines.old 104 }
     ensures bytes { lines.new.bytes ≡ lines.old.bytes ++ (text.now ++ date_of date) }
     ensures len { GrowsBy lines.old lines.new 104 }
 {
     lines.push_str(text);
     push_date(lines, date);
-}
-
-// Adds a text that ends in an opening bracket, the actor and the closing one.
-fn push_in_brackets<const N: usize>(
-    lines: &mut ArrayString<N>,
-    text: &str,
-    platform: &PlatformText,
-    deployment: &Deployment,
-    actor: ActorId,
-)
-    requires actor { IsActorIn (extent_of deployment.now) actor }
-    requires deployed { IsDeployedOn platform.now deployment.now }
-    requires text { length text.now ≤ 11 }
-    requires room { HasRoom N lines.old 228 }
-    ensures bytes { lines.new.bytes ≡ lines.old.bytes
-        ++ (text.now ++ actor_label platform.now deployment.now actor ++ codes "]") }
-    ensures len { GrowsBy lines.old lines.new 164 }
-{
-    lines.push_str(text);
-    push_actor(lines, platform, deployment, actor);
-    lines.push_str("]");
 }
 
 fn push_last<const N: usize>(
@@ -106,12 +83,15 @@ fn push_last<const N: usize>(
             push_dated(lines, " events used at ", date);
         }
         Last::Blocked(actor, call) => {
-            push_in_brackets(lines, "blocked [", platform, deployment, actor);
-            lines.push_str(" ");
+            lines.push_str("blocked [");
+            push_actor(lines, platform, deployment, actor);
+            lines.push_str("] ");
             push_call(lines, deployment, call, None);
         }
         Last::Suspended(actor) => {
-            push_in_brackets(lines, "suspended [", platform, deployment, actor);
+            lines.push_str("suspended [");
+            push_actor(lines, platform, deployment, actor);
+            lines.push_str("]");
         }
         Last::Summary(actors, events) => {
             push_number(lines, actors);
@@ -121,7 +101,7 @@ fn push_last<const N: usize>(
         }
         Last::Energy(host, joules, rest) => {
             lines.push_str("energy ");
-            push_host_name(lines, platform, host);
+            push_name(lines, host_name(platform, host));
             lines.push_str(" ");
             push_energy(lines, joules, rest);
         }

@@ -10,55 +10,63 @@ use arrayvec::ArrayString;
 use sg_base::{ActorId, PointId, Text};
 use sg_rows::{Deployment, PlatformText};
 
-fn push_name<const N: usize>(lines: &mut ArrayString<N>, name: &Text)
-    requires short { length name.now ≤ 64 }
-    requires room { HasRoom N lines.old 64 }
-    ensures bytes { lines.new.bytes ≡ lines.old.bytes ++ name.now }
-    ensures len { GrowsBy lines.old lines.new 64 }
-{
-    lines.push_str(name.as_str());
+/// A name that a platform or a deployment declares.
+#[derive(Clone, Copy)]
+pub struct Name<'a> {
+    text: &'a Text,
+    ghost short: { length text.now ≤ 64 },
 }
 
-pub fn push_host_name<const N: usize>(
-    lines: &mut ArrayString<N>,
-    platform: &PlatformText,
-    host: PointId,
-)
-    requires host { host.0 < length platform.now.hosts }
+pub fn push_name<const N: usize>(lines: &mut ArrayString<N>, name: Name<'_>)
     requires room { HasRoom N lines.old 64 }
-    ensures bytes { lines.new.bytes ≡ lines.old.bytes ++ host_name platform.now host }
+    ensures bytes { lines.new.bytes ≡ lines.old.bytes ++ name.entry.text.now }
     ensures len { GrowsBy lines.old lines.new 64 }
 {
-    push_name(lines, &platform.hosts()[host.0 as usize].id);
+    lines.push_str(name.text.as_str());
 }
 
-fn push_actor_host<const N: usize>(
-    lines: &mut ArrayString<N>,
-    platform: &PlatformText,
-    deployment: &Deployment,
-    actor: ActorId,
-)
+pub fn host_name(platform: &PlatformText, host: PointId) -> Name<'_>
+    requires { host.0 < length platform.now.hosts }
+    ensures { result.text.now ≡ host_name platform.now host }
+{
+    Name {
+        text: &platform.hosts()[host.0 as usize].id,
+    }
+}
+
+fn actor_host<'a>(platform: &'a PlatformText, deployment: &Deployment, actor: ActorId) -> Name<'a>
     requires actor { IsActorIn (extent_of deployment.now) actor }
     requires deployed { IsDeployedOn platform.now deployment.now }
-    requires room { HasRoom N lines.old 64 }
-    ensures bytes { lines.new.bytes
-        ≡ lines.old.bytes ++ actor_host platform.now deployment.now actor }
-    ensures len { GrowsBy lines.old lines.new 64 }
+    ensures { result.text.now ≡ actor_host platform.now deployment.now actor }
 {
-    push_host_name(lines, platform, deployment.actors()[actor.index()].host);
+    host_name(platform, deployment.actors()[actor.index()].host)
 }
 
-pub fn push_actor_name<const N: usize>(
-    lines: &mut ArrayString<N>,
-    deployment: &Deployment,
-    actor: ActorId,
-)
-    requires actor { IsActorIn (extent_of deployment.now) actor }
-    requires room { HasRoom N lines.old 64 }
-    ensures bytes { lines.new.bytes ≡ lines.old.bytes ++ actor_name deployment.now actor }
-    ensures len { GrowsBy lines.old lines.new 64 }
+pub fn actor_name(deployment: &Deployment, actor: ActorId) -> Name<'_>
+    requires { IsActorIn (extent_of deployment.now) actor }
+    ensures { result.text.now ≡ actor_name deployment.now actor }
 {
-    push_name(lines, &deployment.actors()[actor.index()].name);
+    Name {
+        text: &deployment.actors()[actor.index()].name,
+    }
+}
+
+pub fn mutex_name(deployment: &Deployment, mutex: u32) -> Name<'_>
+    requires { IsMutexIn (extent_of deployment.now) mutex }
+    ensures { result.text.now ≡ mutex_id deployment.now mutex }
+{
+    Name {
+        text: &deployment.mutexes()[mutex as usize].id,
+    }
+}
+
+pub fn semaphore_name(deployment: &Deployment, semaphore: u32) -> Name<'_>
+    requires { IsSemaphoreIn (extent_of deployment.now) semaphore }
+    ensures { result.text.now ≡ semaphore_id deployment.now semaphore }
+{
+    Name {
+        text: &deployment.semaphores()[semaphore as usize].id,
+    }
 }
 
 /// Adds the actor with its host and its identifier.
@@ -75,32 +83,10 @@ pub fn push_actor<const N: usize>(
         ≡ lines.old.bytes ++ actor_label platform.now deployment.now actor }
     ensures len { GrowsBy lines.old lines.new 152 }
 {
-    push_actor_host(lines, platform, deployment, actor);
+    push_name(lines, actor_host(platform, deployment, actor));
     lines.push_str(":");
-    push_actor_name(lines, deployment, actor);
+    push_name(lines, actor_name(deployment, actor));
     lines.push_str(":(");
     push_number(lines, u64::from(actor.0));
     lines.push_str(")");
-}
-
-pub fn push_mutex<const N: usize>(lines: &mut ArrayString<N>, deployment: &Deployment, mutex: u32)
-    requires mutex { IsMutexIn (extent_of deployment.now) mutex }
-    requires room { HasRoom N lines.old 64 }
-    ensures bytes { lines.new.bytes ≡ lines.old.bytes ++ mutex_id deployment.now mutex }
-    ensures len { GrowsBy lines.old lines.new 64 }
-{
-    push_name(lines, &deployment.mutexes()[mutex as usize].id);
-}
-
-pub fn push_semaphore<const N: usize>(
-    lines: &mut ArrayString<N>,
-    deployment: &Deployment,
-    semaphore: u32,
-)
-    requires semaphore { IsSemaphoreIn (extent_of deployment.now) semaphore }
-    requires room { HasRoom N lines.old 64 }
-    ensures bytes { lines.new.bytes ≡ lines.old.bytes ++ semaphore_id deployment.now semaphore }
-    ensures len { GrowsBy lines.old lines.new 64 }
-{
-    push_name(lines, &deployment.semaphores()[semaphore as usize].id);
 }

@@ -54,7 +54,7 @@ fn push_twelve_digits<const N: usize>(lines: &mut ArrayString<N>, number: u64)
 /// Adds an energy: whole joules, and the rest in units of 10^-12 J.
 pub fn push_energy<const N: usize>(lines: &mut ArrayString<N>, joules: u128, rest: u64)
     requires rest { rest < 10 ^ 12 }
-    requires room { HasRoom N lines.old 64 }
+    requires room { HasRoom N lines.old 52 }
     ensures bytes { lines.new.bytes ≡ lines.old.bytes ++ energy_of joules rest }
     ensures len { GrowsBy lines.old lines.new 52 }
 {
