@@ -14,7 +14,7 @@ use Rattle.sg_kernel.specs.Passes.{pass_of}
 use Rattle.sg_setup.specs.Setup.{Setup}
 use Rattle.sg_calls.specs.World.{state_of}
 use Rattle.sg_states.specs.Actors.{is_ended}
-use Rattle.sg_script.specs.Stands.{one_more}
+use Rattle.sg_script.specs.Fetched.{fetches_of, one_more}
 use Rattle.sg_script.specs.declared.fault.ScriptFault.{ScriptFault}
 use Rattle.sg_script.specs.declared.fault.ScriptFault.TheVariants as fault
 use Rattle.sg_collective_laws.specs.Alike.{AnswerAlike, unnumbered_answer, unnumbered_end}
@@ -74,11 +74,11 @@ answered_alike setup actor one other world e =
 module _ (at : Scene) (one other : Answering) (alike : AnswerAlike one other) where
   asked : (actor : ℕ) (world : World) → Alike (ask_step at.setup one actor world) (ask_step at.setup other actor world)
   asked actor world =
-      let next : World = record world { asks = one_more actor world.asks } in
-      let said : Answering → Progress = λ answers. answer_step at.setup actor (answers actor (world.asks actor)) next in
+      let next : World = record world { fetched = one_more actor world.fetched } in
+      let said : Answering → Progress = λ answers. answer_step at.setup actor (answers actor (fetches_of world.fetched actor)) next in
       let over : Progress = at_world (Some ended.Budget) world in
       either (world.core.events == at.setup.budget) over (said one) over (said other) (same over)
-      (answered_alike at.setup actor (one actor (world.asks actor)) (other actor (world.asks actor)) next (alike actor (world.asks actor)))
+      (answered_alike at.setup actor (one actor (fetches_of world.fetched actor)) (other actor (fetches_of world.fetched actor)) next (alike actor (fetches_of world.fetched actor)))
 
   answered_by : (actor : ℕ) (what : Call) (world : World) → Alike (other_call at one actor what world) (other_call at other actor what world)
   answered_by actor what world =

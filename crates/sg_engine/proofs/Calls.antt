@@ -15,13 +15,15 @@ use Rattle.sg_calls.specs.Steps.{Step}
 use Rattle.sg_calls.specs.Known.{Known, after}
 use Rattle.sg_rows.specs.Deployment.{Deployed}
 use Rattle.sg_route.specs.Roads.{Roads}
+use Rattle.sg_script.specs.Fetched.{fetches_of, one_more}
 use Rattle.sg_script.specs.Answer.{answer_of}
 use Rattle.sg_script.specs.Known.{ScriptNames as Names}
 use Rattle.sg_script.specs.declared.script.Script.{Script}
 use Rattle.sg_script.specs.Rest.{GoesOn}
-use Rattle.sg_script.specs.Stands.{Kept, kept_of, IsAsked, IsCut, IsEnough, IsWithinNeed, one_more}
+use Rattle.sg_script.specs.Stands.{Kept, kept_of, IsFetched, IsCut, IsEnough, IsWithinNeed}
 use Rattle.sg_script.specs.declared.fault.ScriptFault.{ScriptFault}
-use Rattle.sg_script.proofs.AllNeeds.{add_up, one_more_made, within_more}
+use Rattle.sg_script.proofs.AllNeeds.{add_up, within_more}
+use Rattle.sg_script.proofs.Counting.{one_more_made}
 use Rattle.sg_script.proofs.Chains.{reads_none, reads_then}
 use Rattle.sg_engine.specs.declared.actor_call.ActorCall.{ActorCall}
 use Rattle.sg_engine.specs.declared.ended.Ended.{Ended}
@@ -29,7 +31,7 @@ use Rattle.sg_engine.specs.declared.ended.Ended.TheVariants as ended
 use Rattle.sg_engine.specs.kept.CallList.{calls_of}
 use Rattle.sg_engine.specs.Run.{Scene, scene, Answering, Progress, at_world, then_unless_ended, ended_by, in_world, with_front, ask_step, answer_step, unless_killed}
 use Rattle.sg_engine.specs.kept.Moments.{Cast, Moment, moment, moment_of, Fits, StandsFor, StaysOpen, IsStretch, LacksMemory, ending, script_part}
-use Rattle.sg_engine.proofs.Asked.{ask_made, asks_rise}
+use Rattle.sg_engine.proofs.Fetches.{fetch_made, fetches_rise}
 use Rattle.sg_engine.proofs.Runs.{ask_keeps, calls_keep_behind, contexts_fall}
 use Rattle.sg_engine.proofs.Reaching.{goes_back, matched_as, open_then, reached_then, reached_as, reached_spent, rest_as, goes_on_to, ends_at, stands_as}
 
@@ -73,30 +75,30 @@ used_up names taken cast part kept known world actor begun stands used = record 
   records = sym (append-nil known.records);
   is = λ source goes.
       let here : (world.core.events == known.setup.budget) ≡ true = ap (λ (core : Core). core.events == known.setup.budget) (sym stands.core) ∙ used in
-      ap (λ (b : Bool). cond b (at_world (Some ended.Budget) world) (answer_step known.setup actor (answer_of names source actor (world.asks actor)) (record world { asks = one_more actor world.asks }))) here;
+      ap (λ (b : Bool). cond b (at_world (Some ended.Budget) world) (answer_step known.setup actor (answer_of names source actor (fetches_of world.fetched actor)) (record world { fetched = one_more actor world.fetched }))) here;
 }
 
 -- the fetch is among those that were made
 pub ask_last : (names : Names) (taken piece : List ℕ) (part part' : PartView) (kept : Kept) (cast : Cast) (known : Known) (world : World) (actor : ℕ) → StandsFor names taken cast (moment part kept known) world → (known.core.events == known.setup.budget) ≡ false →
-    (IsEnough names (taken ++ piece) actor (world.asks actor) → part'.stage ≡ part.stage) → StaysOpen names (λ answers. ask_step known.setup answers actor world) (taken ++ piece) part.stage part'.stage
+    (IsEnough names (taken ++ piece) actor (fetches_of world.fetched actor) → part'.stage ≡ part.stage) → StaysOpen names (λ answers. ask_step known.setup answers actor world) (taken ++ piece) part.stage part'.stage
 ask_last names taken piece part part' kept cast known world actor stands unused last all =
     let here : (world.core.events == known.setup.budget) ≡ false = ap (λ (core : Core). core.events == known.setup.budget) (sym stands.core) ∙ unused in
     last (λ rest broken.
     let answers = answer_of names (record { bytes = (taken ++ piece) ++ rest; broken = broken }) in
-    all rest broken actor (world.asks actor) (subst (λ (asks : ℕ → ℕ). world.asks actor < asks actor) (sym (ask_made known.setup answers actor world here)) (one_more_made actor world.asks)))
+    all rest broken actor (fetches_of world.fetched actor) (subst (λ (fetched : List ℕ). fetches_of world.fetched actor < fetches_of fetched actor) (sym (fetch_made known.setup answers actor world here)) (one_more_made actor world.fetched)))
 
 -- the script has answered a fetch
 abbrev pub asked_to : (names : Names) (taken : List ℕ) (cast : Cast) (part part' : PartView) (kept kept' : Kept) (known : Known) (world : World) (actor : ℕ) (answer : Result (Option Action) ScriptFault) →
-    StandsFor names taken cast (moment part kept known) world → (known.core.events == known.setup.budget) ≡ false → IsAsked names taken world.asks actor answer part part' kept' →
+    StandsFor names taken cast (moment part kept known) world → (known.core.events == known.setup.budget) ≡ false → IsFetched names taken world.fetched actor answer part part' kept' →
     IsStretch world.work names (λ answers. ask_step known.setup answers actor world) (λ answers w. answer_step known.setup actor answer w) taken cast (moment part kept known) (moment part' kept' known)
-asked_to names taken cast part part' kept kept' known world actor answer stands unused is_asked = record {
-  piece = is_asked.piece;
-  reads = is_asked.reads;
-  last = ask_last names taken is_asked.piece part part' kept cast known world actor stands unused is_asked.last;
+asked_to names taken cast part part' kept kept' known world actor answer stands unused is_fetched = record {
+  piece = is_fetched.piece;
+  reads = is_fetched.reads;
+  last = ask_last names taken is_fetched.piece part part' kept cast known world actor stands unused is_fetched.last;
   setup = refl;
-  world = record world { asks = one_more actor world.asks };
+  world = record world { fetched = one_more actor world.fetched };
   stands = record {
-    script = record { stands = is_asked.stands; needed = add_up names taken is_asked.piece world.asks actor part part' is_asked.reads stands.script.needed is_asked.near };
+    script = record { stands = is_fetched.stands; needed = add_up names taken is_fetched.piece world.fetched actor part part' is_fetched.reads stands.script.needed is_fetched.near };
     core = stands.core;
     cast = stands.cast;
   };
@@ -105,26 +107,26 @@ asked_to names taken cast part part' kept kept' known world actor answer stands 
   records = sym (append-nil known.records);
   is = λ source goes.
       let here : (world.core.events == known.setup.budget) ≡ false = ap (λ (core : Core). core.events == known.setup.budget) (sym stands.core) ∙ unused in
-      let next : World = record world { asks = one_more actor world.asks } in
-      let said : answer_of names source actor (world.asks actor) ≡ answer = ap (λ (b : List ℕ). answer_of names (record { bytes = b; broken = source.broken }) actor (world.asks actor)) goes.bytes ∙ is_asked.answer_is goes.rest source.broken goes.may in
-      ap (λ (b : Bool). cond b (at_world (Some ended.Budget) world) (answer_step known.setup actor (answer_of names source actor (world.asks actor)) next)) here
+      let next : World = record world { fetched = one_more actor world.fetched } in
+      let said : answer_of names source actor (fetches_of world.fetched actor) ≡ answer = ap (λ (b : List ℕ). answer_of names (record { bytes = b; broken = source.broken }) actor (fetches_of world.fetched actor)) goes.bytes ∙ is_fetched.answer_is goes.rest source.broken goes.may in
+      ap (λ (b : Bool). cond b (at_world (Some ended.Budget) world) (answer_step known.setup actor (answer_of names source actor (fetches_of world.fetched actor)) next)) here
       ∙ ap (λ (a : Result (Option Action) ScriptFault). answer_step known.setup actor a next) said;
 }
 
 -- and the kernel has passed it to the actor
 pub told_to : (names : Names) (taken : List ℕ) (cast : Cast) (part part' : PartView) (kept kept' : Kept) (old new : Known) (room : ℕ) (world : World) (actor : ℕ) (action : Option Action) (how : Option Ended) →
-    StandsFor names taken cast (moment part kept old) world → (old.core.events == old.setup.budget) ≡ false → IsAsked names taken world.asks actor (Ok action) part part' kept' →
+    StandsFor names taken cast (moment part kept old) world → (old.core.events == old.setup.budget) ≡ false → IsFetched names taken world.fetched actor (Ok action) part part' kept' →
     new ≡ record (after (told old.setup old.core actor action) old) { room = room } → how ≡ option_map ended_by (told old.setup old.core actor action).stop →
     IsStretch world.work names (λ answers. ask_step old.setup answers actor world) (ending how) taken cast (moment part kept old) (moment part' kept' new)
-told_to names taken cast part part' kept kept' old new room world actor action how stands unused is_asked is ends =
-    let first = asked_to names taken cast part part' kept kept' old world actor (Ok action) stands unused is_asked in
+told_to names taken cast part part' kept kept' old new room world actor action how stands unused is_fetched is ends =
+    let first = asked_to names taken cast part part' kept kept' old world actor (Ok action) stands unused is_fetched in
     let step : Core → Step = λ c. told old.setup c actor action in
     reached_then names (λ answers. ask_step old.setup answers actor world) (λ answers w. answer_step old.setup actor (Ok action) w) (ending how) taken cast cast (moment part kept old) (moment part' kept' old) (moment part' kept' new) first
-    (stepped names (taken ++ is_asked.piece) cast part' kept' old new room (record world { asks = one_more actor world.asks }) step how is_asked.reads.begun first.stands is ends)
+    (stepped names (taken ++ is_fetched.piece) cast part' kept' old new room (record world { fetched = one_more actor world.fetched }) step how is_fetched.reads.begun first.stands is ends)
 
 -- or memory ran out for it
 pub cut_asked : (names : Names) (taken : List ℕ) (cast : Cast) (part part' : PartView) (kept kept' : Kept) (known : Known) (world : World) (actor : ℕ) →
-    StandsFor names taken cast (moment part kept known) world → (known.core.events == known.setup.budget) ≡ false → IsCut names taken world.asks actor part part' kept' →
+    StandsFor names taken cast (moment part kept known) world → (known.core.events == known.setup.budget) ≡ false → IsCut names taken world.fetched actor part part' kept' →
     LacksMemory names (λ answers. ask_step known.setup answers actor world) taken cast.contexts part part'
 cut_asked names taken cast part part' kept kept' known world actor stands unused cut = record {
   piece = cut.piece;
@@ -132,8 +134,8 @@ cut_asked names taken cast part part' kept kept' known world actor stands unused
   last = ask_last names taken cut.piece part part' kept cast known world actor stands unused cut.last;
   needed = λ source goes.
       let here : (world.core.events == known.setup.budget) ≡ false = ap (λ (core : Core). core.events == known.setup.budget) (sym stands.core) ∙ unused in
-      subst (λ (asks : ℕ → ℕ). IsWithinNeed names source asks (length (taken ++ cut.piece))) (sym (ask_made known.setup (answer_of names source) actor world here))
-      (add_up names taken cut.piece world.asks actor part part' cut.reads stands.script.needed cut.near source goes);
+      subst (λ (fetched : List ℕ). IsWithinNeed names source fetched (length (taken ++ cut.piece))) (sym (fetch_made known.setup (answer_of names source) actor world here))
+      (add_up names taken cut.piece world.fetched actor part part' cut.reads stands.script.needed cut.near source goes);
   contexts = λ source goes. omega (arith, ask_keeps contexts_fall known.setup (answer_of names source) actor world, ap (λ (c : Cast). c.contexts) stands.cast);
 }
 
@@ -190,7 +192,7 @@ one_more_call {spent} names whole roads setup firsts script calls i d taken cast
     (reached_then names whole (rest_from (scene roads setup firsts script) calls i) (rest_from (scene roads setup firsts script) calls (i + 1)) taken cast cast' old mid new first
     (reached_as names _ (λ answers. rest_from (scene roads setup firsts script) calls i answers first.world) (rest_from (scene roads setup firsts script) calls (i + 1)) (taken ++ first.piece) cast' mid new (λ answers. calls_more (scene roads setup firsts script) answers calls i d first.world within)
     (goes_on_to names (at_place (scene roads setup firsts script) (get_or calls i d) first.world) (rest_from (scene roads setup firsts script) calls (i + 1)) (taken ++ first.piece) cast' mid new
-    (λ answers. calls_keep_behind asks_rise (at_place (scene roads setup firsts script) (get_or calls i d) first.world answers) (scene roads setup firsts script) answers (drop (i + 1) calls)) here)))
+    (λ answers. calls_keep_behind fetches_rise (at_place (scene roads setup firsts script) (get_or calls i d) first.world answers) (scene roads setup firsts script) answers (drop (i + 1) calls)) here)))
 
 -- one more call was answered, and the run has ended
 pub last_call : {spent : ℕ} (names : Names) (whole : Answering → Progress) (roads : Roads) (setup : Setup) (firsts : List Mind) (script : Bool) (calls : List ActorCall) (i : ℕ) (d : ActorCall) (how : Ended) (taken : List ℕ) (cast cast' : Cast) (old mid new : Moment) → i < length calls → mid.kernel.setup ≡ setup →
@@ -203,7 +205,7 @@ last_call {spent} names whole roads setup firsts script calls i d how taken cast
     (reached_then names whole (rest_from (scene roads setup firsts script) calls i) (ending (Some how)) taken cast cast' old mid new first
     (reached_as names _ (λ answers. rest_from (scene roads setup firsts script) calls i answers first.world) (ending (Some how)) (taken ++ first.piece) cast' mid new (λ answers. calls_more (scene roads setup firsts script) answers calls i d first.world within)
     (ends_at names (at_place (scene roads setup firsts script) (get_or calls i d) first.world) (rest_from (scene roads setup firsts script) calls (i + 1)) how (taken ++ first.piece) cast' mid new
-    (λ answers. calls_keep_behind asks_rise (at_place (scene roads setup firsts script) (get_or calls i d) first.world answers) (scene roads setup firsts script) answers (drop (i + 1) calls)) here)))
+    (λ answers. calls_keep_behind fetches_rise (at_place (scene roads setup firsts script) (get_or calls i d) first.world answers) (scene roads setup firsts script) answers (drop (i + 1) calls)) here)))
 
 -- no call is left
 pub all_called : {spent : ℕ} (names : Names) (whole : Answering → Progress) (at : Scene) (calls : List ActorCall) (i : ℕ) (taken : List ℕ) (cast : Cast) (old new : Moment) → length calls ≤ i →
@@ -224,22 +226,22 @@ cut_later names whole roads setup firsts script calls i d taken cast left old mi
           let at : Scene = scene roads setup firsts script in
           let answers = answer_of names source in
           let call : Progress = at_place at (get_or calls i d) first.world answers in
-          let here : (at_place (scene roads mid.kernel.setup firsts script) (get_or calls i d) first.world answers).world.asks x ≡ call.world.asks x = ap (λ (s : Setup). (at_place (scene roads s firsts script) (get_or calls i d) first.world answers).world.asks x) same in
+          let here : fetches_of (at_place (scene roads mid.kernel.setup firsts script) (get_or calls i d) first.world answers).world.fetched x ≡ fetches_of call.world.fetched x = ap (λ (s : Setup). fetches_of (at_place (scene roads s firsts script) (get_or calls i d) first.world answers).world.fetched x) same in
           let all : whole answers ≡ with_front first.made (then_unless_ended call (calls_of at answers (drop (i + 1) calls))) = first.is source goes ∙ ap (with_front first.made) (calls_more at answers calls i d first.world within) in
-          omega (arith, here, ap (λ (p : Progress). p.world.asks x) all, calls_keep_behind asks_rise call at answers (drop (i + 1) calls) x))
+          omega (arith, here, ap (λ (p : Progress). fetches_of p.world.fetched x) all, calls_keep_behind fetches_rise call at answers (drop (i + 1) calls) x))
           first.last cut.last;
       needed = λ source goes.
           let at : Scene = scene roads setup firsts script in
           let answers = answer_of names source in
           let there : GoesOn ((taken ++ first.piece) ++ cut.piece) new.stage source = subst (λ (t : List ℕ). GoesOn t new.stage source) (sym joined) goes in
           let call : Progress = at_place at (get_or calls i d) first.world answers in
-          let here : IsWithinNeed names source call.world.asks (length ((taken ++ first.piece) ++ cut.piece)) = subst (λ (s : Setup). IsWithinNeed names source (at_place (scene roads s firsts script) (get_or calls i d) first.world answers).world.asks (length ((taken ++ first.piece) ++ cut.piece))) same (cut.needed source there) in
+          let here : IsWithinNeed names source call.world.fetched (length ((taken ++ first.piece) ++ cut.piece)) = subst (λ (s : Setup). IsWithinNeed names source (at_place (scene roads s firsts script) (get_or calls i d) first.world answers).world.fetched (length ((taken ++ first.piece) ++ cut.piece))) same (cut.needed source there) in
           let all : whole answers ≡ with_front first.made (then_unless_ended call (calls_of at answers (drop (i + 1) calls))) =
           first.is source (goes_back (taken ++ first.piece) cut.piece mid.part new source cut.reads there) ∙ ap (with_front first.made) (calls_more at answers calls i d first.world within) in
-          let behind : IsWithinNeed names source (then_unless_ended call (calls_of at answers (drop (i + 1) calls))).world.asks (length ((taken ++ first.piece) ++ cut.piece)) =
-          within_more names source call.world.asks _ _ (calls_keep_behind asks_rise call at answers (drop (i + 1) calls)) here in
-          subst (λ (t : List ℕ). IsWithinNeed names source (whole answers).world.asks (length t)) joined
-          (subst (λ (p : Progress). IsWithinNeed names source p.world.asks (length ((taken ++ first.piece) ++ cut.piece))) (sym all) behind);
+          let behind : IsWithinNeed names source (then_unless_ended call (calls_of at answers (drop (i + 1) calls))).world.fetched (length ((taken ++ first.piece) ++ cut.piece)) =
+          within_more names source call.world.fetched _ _ (calls_keep_behind fetches_rise call at answers (drop (i + 1) calls)) here in
+          subst (λ (t : List ℕ). IsWithinNeed names source (whole answers).world.fetched (length t)) joined
+          (subst (λ (p : Progress). IsWithinNeed names source p.world.fetched (length ((taken ++ first.piece) ++ cut.piece))) (sym all) behind);
       contexts = λ source goes.
           let at : Scene = scene roads setup firsts script in
           let answers = answer_of names source in

@@ -34,7 +34,7 @@ use Rattle.sg_engine.specs.Run.{Scene, Answering, Progress, ask_step, at_world, 
 use Rattle.sg_engine.specs.kept.Invariant.{unstarted, AreSeatsOf}
 use Rattle.sg_engine.specs.kept.Moments.{Cast, moment, IsFree, IsStretch, LacksMemory, StandsFor, ending}
 use Rattle.sg_engine.specs.kept.SeatRules.{mind_in, minds_of, IsSeated}
-use Rattle.sg_engine.proofs.Asked.{asks_rise}
+use Rattle.sg_engine.proofs.Fetches.{fetches_rise}
 use Rattle.sg_engine.proofs.Calls.{stepped}
 use Rattle.sg_engine.proofs.Leaving.{created_begun, created_same, some_unstarted}
 use Rattle.sg_engine.proofs.Merging.{all_placed}
@@ -114,8 +114,8 @@ created_short names taken cast left part kept old world firsts actor target give
   needed = λ source goes.
       let same : taken ++ [] ≡ taken = append-nil taken in
       let there : GoesOn taken part.stage source = subst (λ (t : List ℕ). GoesOn t part.stage source) same goes in
-      subst (λ (t : List ℕ). IsWithinNeed names source (creates firsts old.setup.budget actor target world).world.asks (length t)) (sym same)
-      (within_more names source world.asks _ _ (creates_keep asks_rise firsts old.setup.budget actor target world) (stands.script.needed source there));
+      subst (λ (t : List ℕ). IsWithinNeed names source (creates firsts old.setup.budget actor target world).world.fetched (length t)) (sym same)
+      (within_more names source world.fetched _ _ (creates_keep fetches_rise firsts old.setup.budget actor target world) (stands.script.needed source there));
   contexts = λ source goes.
       omega (arith, ap (λ (p : Progress). p.world.contexts) (same_create names taken cast part kept old world firsts actor target given stands unused is), ap (λ (c : Cast). c.contexts - cond given 1 0) stands.cast, left_is);
 }

@@ -1,5 +1,5 @@
 -- From what a run has come to, to what it has written in all.
-use Rattle.std.proofs.Common.{◌≡◌, ◌≢◌, ◌<◌, ◌≤◌, ◌+◌, ◌-◌, ◌∙◌, arith, ap, sym, subst, refl, ℕ, List, [], ◌++◌, length, Bool, true, false, IsTrue, Option, None, Some}
+use Rattle.std.proofs.Common.{◌≡◌, ◌≢◌, ◌≤◌, ◌+◌, ◌-◌, ◌∙◌, arith, ap, sym, subst, refl, ℕ, List, [], ◌++◌, length, Bool, true, false, IsTrue, Option, None, Some}
 use Rattle.std.proofs.lemmas.List.{append-nil}
 use Rattle.std.specs.Prelude.{MatchBool, IsSome}
 use Rattle.sg_edge.specs.declared.sinks.Stream.{Stream}
@@ -27,7 +27,6 @@ use Rattle.sg_engine.specs.Output.{first_of, trace_of, last_lines, fault_line, w
 use Rattle.sg_engine.specs.kept.Moments.{AnswersAll, AreNeededBy, StaysOpen, script_part}
 use Rattle.sg_engine.specs.Run.{Answering, Progress, run_of}
 use Rattle.sg_engine.specs.kept.Stretches.{CutsOff, IsOver}
-use Rattle.sg_engine.proofs.Asked.{only_actors}
 use Rattle.sg_engine.proofs.Runs.{contexts_fall, run_keeps}
 use Rattle.sg_engine.proofs.Fronts.{front_more, fronts_out, fronts_behind, all_behind, written_whole}
 
@@ -121,17 +120,16 @@ pub run_needed : (platform : Platform) (deployed : Deployed) (script : Bool) (bu
     AreNeededBy (known_in deployed) (run_of (scene_of platform deployed script budget) (first_of platform deployed budget crew)) piece (script_part script new).stage → TakesUpTo ((run_output platform deployed script budget crew show source).need + 4095) old new
 run_needed platform deployed script budget crew show piece old new source going reads same needed =
     let names = known_in deployed in
-    let asks = (run_of (scene_of platform deployed script budget) (first_of platform deployed budget crew) (answer_of names source)).world.asks in
-    takes_up script piece old new (needed_by names source (length deployed.actors) asks + 4095) reads same
-    (most names source (length deployed.actors) asks (length piece) (only_actors platform deployed script budget crew (answer_of names source)) (needed source (going piece reads)))
+    let fetched = (run_of (scene_of platform deployed script budget) (first_of platform deployed budget crew) (answer_of names source)).world.fetched in
+    takes_up script piece old new (needed_by names source fetched + 4095) reads same
+    (most names source fetched (length piece) (needed source (going piece reads)))
 
 -- what is enough for the fetches of a whole answers all of them
-pub answers_all : (names : Names) (actors : ℕ) (whole : Answering → Progress) (taken : List ℕ) → ((answers : Answering) (x : ℕ) → actors < x → (whole answers).world.asks x ≡ 0) →
-    AreEnough (λ source. needed_by names source actors (whole (answer_of names source)).world.asks) taken → AnswersAll names whole taken
-answers_all names actors whole taken none enough rest broken actor earlier made =
+pub answers_all : (names : Names) (whole : Answering → Progress) (taken : List ℕ) → AreEnough (λ source. needed_by names source (whole (answer_of names source)).world.fetched) taken → AnswersAll names whole taken
+answers_all names whole taken enough rest broken actor earlier made =
     let source : Source = record { bytes = taken ++ rest; broken = broken } in
-    let few : needed_by names source actors (whole (answer_of names source)).world.asks ≤ length taken = enough rest broken in
-    omega (arith, few, one_needs names source actors (whole (answer_of names source)).world.asks (none (answer_of names source)) actor earlier made)
+    let few : needed_by names source (whole (answer_of names source)).world.fetched ≤ length taken = enough rest broken in
+    omega (arith, few, one_needs names source (whole (answer_of names source)).world.fetched actor earlier made)
 
 -- a part that is as it was is as open as it was
 pub ends_none : (need : Source → ℕ) (old new : PartView) → new ≡ old → EndsOnDemand need old new
@@ -148,7 +146,7 @@ run_last platform deployed script budget crew show piece old new reads same stay
     let names = known_in deployed in
     let whole = run_of (scene_of platform deployed script budget) (first_of platform deployed budget crew) in
     ends_up script piece old new (λ source. (run_output platform deployed script budget crew show source).need) reads same
-    (λ enough. stays (answers_all names (length deployed.actors) whole piece (only_actors platform deployed script budget crew) enough))
+    (λ enough. stays (answers_all names whole piece enough))
 
 left_told : (piece : List ℕ) (a b : Option (List ℕ)) → a ≡ before piece b → IsSome a → IsSome b
 left_told piece a None is some = subst IsSome is some

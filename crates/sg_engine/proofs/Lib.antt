@@ -1,4 +1,4 @@
-pub mod Asked
+pub mod Fetches
 pub mod Calls
 pub mod Castings
 pub mod Creating

@@ -16,6 +16,7 @@ use Rattle.sg_edge.proofs.Writing.{gain-nil, gain-gain}
 use Rattle.sg_states.specs.Actors.{is_over}
 use Rattle.sg_rows.specs.Deployment.{Deployed}
 use Rattle.sg_rows.specs.Platform.{Platform}
+use Rattle.sg_script.specs.Fetched.{fetches_of}
 use Rattle.sg_script.specs.Answer.{answer_of}
 use Rattle.sg_script.specs.Known.{ScriptNames as Names, known_in}
 use Rattle.sg_script.specs.Needed.{needed_by}
@@ -37,7 +38,7 @@ use Rattle.sg_engine.specs.Pace.{IsInPace, first_parts, pace_of}
 use Rattle.sg_engine.specs.Run.{Scene, Answering, Progress, are_completed, at_world, then_unless_ended, and_then_by, round_or_pass, with_front}
 use Rattle.sg_engine.specs.kept.Moments.{AreNeededBy, StaysOpen, Cast, moment, script_part}
 use Rattle.sg_engine.specs.kept.Stretches.{Trace, Advances, CutsOff, IsPaced}
-use Rattle.sg_engine.proofs.Asked.{asks_rise, only_actors_by}
+use Rattle.sg_engine.proofs.Fetches.{fetches_rise}
 use Rattle.sg_engine.proofs.Endings.{Going, answers_all, ends_none, ends_up, takes_none, takes_up}
 use Rattle.sg_engine.proofs.Reaching.{answers_fewer, goes_back, open_then, reached_needed}
 use Rattle.sg_engine.proofs.Runs.{parts_keep, then_keeps}
@@ -98,11 +99,11 @@ part_next n m at answers first world made more some here =
     ∙ ap (with_front made) (one_part at answers world some)
 
 -- the fetches of the parts so far are among those with one more
-pub part_rises : (n m : ℕ) (at : Scene) (answers : Answering) (first : World) → m ≡ suc n → (x : ℕ) → (parts_from n at answers first).world.asks x ≤ (parts_from m at answers first).world.asks x
+pub part_rises : (n m : ℕ) (at : Scene) (answers : Answering) (first : World) → m ≡ suc n → (x : ℕ) → fetches_of (parts_from n at answers first).world.fetched x ≤ fetches_of (parts_from m at answers first).world.fetched x
 part_rises n m at answers first more x =
     let here = parts_from n at answers first in
-    subst (λ (p : Progress). here.world.asks x ≤ p.world.asks x) (sym (ap (λ (k : ℕ). parts_from k at answers first) more ∙ parts_more n at answers first))
-    (then_keeps asks_rise here (parts_from 1 at answers) here.world (asks_rise.same here.world) (λ mid. parts_keep asks_rise 1 at answers mid) x)
+    subst (λ (p : Progress). fetches_of here.world.fetched x ≤ fetches_of p.world.fetched x) (sym (ap (λ (k : ℕ). parts_from k at answers first) more ∙ parts_more n at answers first))
+    (then_keeps fetches_rise here (parts_from 1 at answers) here.world (fetches_rise.same here.world) (λ mid. parts_keep fetches_rise 1 at answers mid) x)
 
 -- ---- the lines by then
 -- a run that has ended before its next part
@@ -119,8 +120,8 @@ paced_here names trace whole rest n at first cast p0 p1 q0 q1 k0 k1 start before
   );
   needed = λ source goes.
       let answers = answer_of names source in
-      within_more names source (parts_from n at answers first).world.asks _ _ (part_rises n (n + 1) at answers first (omega arith))
-      (subst (λ (p : Progress). IsWithinNeed names source p.world.asks (length far.reached.piece)) (sym (far.counted source goes)) (far.reached.stands.script.needed source goes));
+      within_more names source (parts_from n at answers first).world.fetched _ _ (part_rises n (n + 1) at answers first (omega arith))
+      (subst (λ (p : Progress). IsWithinNeed names source p.world.fetched (length far.reached.piece)) (sym (far.counted source goes)) (far.reached.stands.script.needed source goes));
 }
 
 -- what was written of a part, whatever that was
@@ -135,7 +136,7 @@ paced_on names trace whole rest n at first cast p0 p1 p2 q0 q1 k0 k1 start befor
       (λ source goes x.
       let answers = answer_of names source in
       let some_here : list_all is_over far.reached.world.core.actors ≡ false = ap (λ (c : Core). list_all is_over c.actors) (sym far.reached.stands.core) ∙ some in
-      omega (arith, ap (λ (p : Progress). p.world.asks x) (part_next n (n + 1) at answers first far.reached.world far.reached.made (omega arith) some_here (far.counted source goes))))
+      omega (arith, ap (λ (p : Progress). fetches_of p.world.fetched x) (part_next n (n + 1) at answers first far.reached.world far.reached.made (omega arith) some_here (far.counted source goes))))
       (λ all. far.stays (answers_fewer names (λ answers. parts_from (n + 1) at answers first) (λ answers. parts_from n at answers first) far.reached.piece (λ source goes. part_rises n (n + 1) at (answer_of names source) first (omega arith)) all)) stays;
   number = n;
   written = λ source goes.
@@ -149,7 +150,7 @@ paced_on names trace whole rest n at first cast p0 p1 p2 q0 q1 k0 k1 start befor
       let here = far.counted source (goes_back far.reached.piece piece p1 p2 source reads goes) in
       let some_here : list_all is_over far.reached.world.core.actors ≡ false = ap (λ (c : Core). list_all is_over c.actors) (sym far.reached.stands.core) ∙ some in
       let next : parts_from (n + 1) at answers first ≡ with_front far.reached.made (round_or_pass at answers far.reached.world) = part_next n (n + 1) at answers first far.reached.world far.reached.made (omega arith) some_here here in
-      subst (λ (p : Progress). IsWithinNeed names source p.world.asks (length (far.reached.piece ++ piece))) (sym next) (needed source goes);
+      subst (λ (p : Progress). IsWithinNeed names source p.world.fetched (length (far.reached.piece ++ piece))) (sym next) (needed source goes);
 }
 
 -- a part that ended the run or cut it off
@@ -186,10 +187,10 @@ run_paced platform deployed script budget crew show old new mid text before afte
       parts = paced.number;
       behind = wrote.0 ++ text;
       written = more ∙ ap (λ (h : Option (List ℕ)). gain h text) wrote.1 ∙ gain-gain (old Out) (made ++ wrote.0) text ∙ ap (gain (old Out)) (append_assoc made wrote.0 text);
-      read = takes_up script paced.piece (before Script) (after Script) (needed_by names source (length deployed.actors) next.world.asks + 4095) paced.reads same
-          (most names source (length deployed.actors) next.world.asks (length paced.piece) (only_actors_by platform deployed script budget crew (paced.number + 1) (answer_of names source)) (paced.needed source goes));
+      read = takes_up script paced.piece (before Script) (after Script) (needed_by names source next.world.fetched + 4095) paced.reads same
+          (most names source next.world.fetched (length paced.piece) (paced.needed source goes));
       last = ends_up script paced.piece (before Script) (after Script) (λ other. (pace_of platform deployed script budget crew show other (paced.number + 1)).need) paced.reads same
-          (λ enough. paced.last (answers_all names (length deployed.actors) (first_parts platform deployed script budget crew (paced.number + 1)) paced.piece (only_actors_by platform deployed script budget crew (paced.number + 1)) enough));
+          (λ enough. paced.last (answers_all names (first_parts platform deployed script budget crew (paced.number + 1)) paced.piece enough));
     }
 
 -- if nothing was done

@@ -7,6 +7,7 @@ use Rattle.sg_edge.specs.Sources.{Source}
 use Rattle.sg_edge.specs.Files.{PartView}
 use Rattle.sg_edge.specs.declared.files.Stage.TheVariants.{Begun}
 use Rattle.sg_engine.specs.World.{World}
+use Rattle.sg_script.specs.Fetched.{fetches_of}
 use Rattle.sg_script.specs.Answer.{answer_of}
 use Rattle.sg_script.specs.Known.{ScriptNames as Names}
 use Rattle.sg_script.specs.Stands.{IsWithinNeed, Reads}
@@ -33,7 +34,7 @@ stands_as names taken other cast now world same stands = subst (λ (t : List ℕ
 
 -- ---- what was taken answers all fetches
 -- what answers all fetches of the whole answers those of what makes no more
-pub answers_fewer : (names : Names) (whole fewer : Answering → Progress) (taken : List ℕ) → ((source : Source) → GoesOn taken Begun source → (x : ℕ) → (fewer (answer_of names source)).world.asks x ≤ (whole (answer_of names source)).world.asks x) →
+pub answers_fewer : (names : Names) (whole fewer : Answering → Progress) (taken : List ℕ) → ((source : Source) → GoesOn taken Begun source → (x : ℕ) → fetches_of (fewer (answer_of names source)).world.fetched x ≤ fetches_of (whole (answer_of names source)).world.fetched x) →
     AnswersAll names whole taken → AnswersAll names fewer taken
 answers_fewer names whole fewer taken rises all rest broken actor earlier made =
     let source : Source = record { bytes = taken ++ rest; broken = broken } in
@@ -41,10 +42,10 @@ answers_fewer names whole fewer taken rises all rest broken actor earlier made =
 
 -- so it is of a whole in other words
 pub answers_as : (names : Names) (whole other : Answering → Progress) (taken : List ℕ) → ((answers : Answering) → other answers ≡ whole answers) → AnswersAll names other taken → AnswersAll names whole taken
-answers_as names whole other taken same all = answers_fewer names other whole taken (λ source goes x. omega (arith, ap (λ (p : Progress). p.world.asks x) (same (answer_of names source)))) all
+answers_as names whole other taken same all = answers_fewer names other whole taken (λ source goes x. omega (arith, ap (λ (p : Progress). fetches_of p.world.fetched x) (same (answer_of names source)))) all
 
 -- what is open after a first piece is so after a second, if the fetches behind it are among those of the whole
-pub open_then : (names : Names) (whole next : Answering → Progress) (taken p q : List ℕ) (u v w : PartView) → Reads p u v → Reads q v w → ((source : Source) → GoesOn (taken ++ p) v.stage source → (x : ℕ) → (next (answer_of names source)).world.asks x ≤ (whole (answer_of names source)).world.asks x) →
+pub open_then : (names : Names) (whole next : Answering → Progress) (taken p q : List ℕ) (u v w : PartView) → Reads p u v → Reads q v w → ((source : Source) → GoesOn (taken ++ p) v.stage source → (x : ℕ) → fetches_of (next (answer_of names source)).world.fetched x ≤ fetches_of (whole (answer_of names source)).world.fetched x) →
     StaysOpen names whole (taken ++ p) u.stage v.stage → StaysOpen names next ((taken ++ p) ++ q) v.stage w.stage → StaysOpen names whole (taken ++ (p ++ q)) u.stage w.stage
 open_then names whole next taken p q u v w reads reads' rises first second all = elim (begun_or_not v.stage) [
   | inl is ↦
@@ -74,7 +75,7 @@ reached_then names whole middle rest taken cast then_cast old mid new first seco
       piece = first.piece ++ second.piece;
       reads = reads_then first.piece second.piece old.part mid.part new.part first.reads second.reads;
       last = open_then names whole (λ answers. middle answers first.world) taken first.piece second.piece old.part mid.part new.part first.reads second.reads
-          (λ source goes x. omega (arith, ap (λ (p : Progress). p.world.asks x) (first.is source goes))) first.last second.last;
+          (λ source goes x. omega (arith, ap (λ (p : Progress). fetches_of p.world.fetched x) (first.is source goes))) first.last second.last;
       setup = second.setup ∙ first.setup;
       world = second.world;
       stands = stands_as names _ _ then_cast new second.world joined second.stands;
@@ -112,7 +113,7 @@ lacks_as names whole other taken left old new same cut = record {
   reads = cut.reads;
   last = λ all. cut.last (answers_as names whole other (taken ++ cut.piece) same all);
   needed = λ source goes.
-      let within : Progress → Type 0 = λ p. IsWithinNeed names source p.world.asks (length (taken ++ cut.piece)) in
+      let within : Progress → Type 0 = λ p. IsWithinNeed names source p.world.fetched (length (taken ++ cut.piece)) in
       subst within (sym (same (answer_of names source))) (cut.needed source goes);
   contexts = λ source goes. subst (λ (p : Progress). p.world.contexts ≤ left) (sym (same (answer_of names source))) (cut.contexts source goes);
 }
@@ -140,7 +141,7 @@ rest_as names whole rest other taken cast old new same reached = record {
 
 -- what follows a first stretch makes no fetch unmade
 abbrev pub Rises : (Answering → Progress) → (Answering → World → Progress) → Type 0
-Rises first next = (answers : Answering) (x : ℕ) → (first answers).world.asks x ≤ (then_unless_ended (first answers) (next answers)).world.asks x
+Rises first next = (answers : Answering) (x : ℕ) → fetches_of (first answers).world.fetched x ≤ fetches_of (then_unless_ended (first answers) (next answers)).world.fetched x
 
 -- a first stretch that doesn't end the run
 abbrev pub goes_on_to : {spent : ℕ} (names : Names) (first : Answering → Progress) (next : Answering → World → Progress) (taken : List ℕ) (cast : Cast) (old new : Moment) → Rises first next →
@@ -199,7 +200,7 @@ reached_spent spent other names whole rest taken cast old new same reached = sub
 -- what was taken up to an end is needed
 pub reached_needed : {spent : ℕ} (names : Names) (whole : Answering → Progress) (how : Option Ended) (taken : List ℕ) (cast : Cast) (old new : Moment) → (reached : IsStretch spent names whole (ending how) taken cast old new) → AreNeededBy names whole (taken ++ reached.piece) new.part.stage
 reached_needed names whole how taken cast old new reached source goes =
-    let within : Progress → Type 0 = λ p. IsWithinNeed names source p.world.asks (length (taken ++ reached.piece)) in
+    let within : Progress → Type 0 = λ p. IsWithinNeed names source p.world.fetched (length (taken ++ reached.piece)) in
     subst within (sym (reached.is source goes)) (reached.stands.script.needed source goes)
 
 -- no fewer contexts are left then than the whole leaves

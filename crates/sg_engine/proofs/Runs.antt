@@ -12,7 +12,7 @@ use Rattle.sg_calls.specs.Lives.{created}
 use Rattle.sg_kernel.specs.Passes.{pass_of}
 use Rattle.sg_calls.specs.World.{Core, state_of}
 use Rattle.sg_setup.specs.Setup.{Setup}
-use Rattle.sg_script.specs.Stands.{one_more}
+use Rattle.sg_script.specs.Fetched.{fetches_of, one_more}
 use Rattle.sg_script.specs.declared.fault.ScriptFault.{ScriptFault}
 use Rattle.sg_states.specs.Actors.{is_ended}
 use Rattle.sg_engine.specs.World.{World}
@@ -27,7 +27,7 @@ use Rattle.sg_engine.specs.Run.{Scene, Answering, Progress, at_world, then_unles
 pub record Keeps (R : World → World → Type 0) : Type 0 where
   pub same : (world : World) → R world world
   pub then : (old mid new : World) → R old mid → R mid new → R old new
-  pub asks : (world : World) (actor : ℕ) → R world (record world { asks = one_more actor world.asks })
+  pub fetches : (world : World) (actor : ℕ) → R world (record world { fetched = one_more actor world.fetched })
   pub turns : (world : World) (minds : List (Option Mind)) → R world (record world { minds = minds })
   pub begins : (world : World) (minds : List (Option Mind)) (n : ℕ) → R world (record world { minds = minds; contexts = world.contexts - n })
   pub steps : (world : World) (core : Core) → R world (record world { core = core })
@@ -52,10 +52,10 @@ answer_keeps keeps setup actor (Err why) world = keeps.same world
 
 pub ask_keeps : {R : World → World → Type 0} → Keeps R → (setup : Setup) (answers : Answering) (actor : ℕ) (world : World) → R world (ask_step setup answers actor world).world
 ask_keeps {R} keeps setup answers actor world =
-    let next : World = record world { asks = one_more actor world.asks } in
-    let answer = answer_step setup actor (answers actor (world.asks actor)) next in
+    let next : World = record world { fetched = one_more actor world.fetched } in
+    let answer = answer_step setup actor (answers actor (fetches_of world.fetched actor)) next in
     by_test (R world) (world.core.events == setup.budget) (at_world (Some ended.Budget) world) answer (keeps.same world)
-    (keeps.then world next answer.world (keeps.asks world actor) (answer_keeps keeps setup actor (answers actor (world.asks actor)) next))
+    (keeps.then world next answer.world (keeps.fetches world actor) (answer_keeps keeps setup actor (answers actor (fetches_of world.fetched actor)) next))
 
 pub creates_keep : {R : World → World → Type 0} → Keeps R → (firsts : List Mind) (budget actor : ℕ) (target : ActorId) (world : World) → R world (creates firsts budget actor target world).world
 creates_keep {R} keeps firsts budget actor target world =
@@ -137,7 +137,7 @@ pub contexts_fall : Keeps LeavesNoMore
 contexts_fall = record {
   same = λ world. omega arith;
   then = λ old mid new first second. omega (arith, first, second);
-  asks = λ world actor. omega arith;
+  fetches = λ world actor. omega arith;
   turns = λ world minds. omega arith;
   begins = λ world minds n. omega arith;
   steps = λ world core. omega arith;

@@ -21,6 +21,7 @@ use Rattle.sg_engine.specs.World.{World}
 use Rattle.sg_route.specs.Roads.{Roads}
 use Rattle.sg_rows.specs.Deployment.{Deployed}
 use Rattle.sg_rows.specs.Platform.{Platform}
+use Rattle.sg_script.specs.Fetched.{fetches_of}
 use Rattle.sg_script.specs.Answer.{answer_of}
 use Rattle.sg_script.specs.Known.{ScriptNames as Names}
 use Rattle.sg_script.specs.Rest.{GoesOn}
@@ -42,7 +43,7 @@ use Rattle.sg_engine.specs.kept.Invariant.{places_in, AreBlank, IsKept, Holds, P
 use Rattle.sg_engine.specs.kept.SeatRules.{IsSeated}
 use Rattle.sg_engine.specs.kept.Stretches.{Trace, Advances, CutsOff, IsCutOff, IsOver}
 use Rattle.sg_engine.proofs.Fronts.{front_more}
-use Rattle.sg_engine.proofs.Asked.{asks_rise}
+use Rattle.sg_engine.proofs.Fetches.{fetches_rise}
 use Rattle.sg_engine.proofs.Reaching.{answers_fewer, goes_back, open_then, reached_left, reached_needed, reached_then, reached_as, goes_on_to, ends_at}
 use Rattle.sg_engine.proofs.Runs.{contexts_fall, part_keeps, run_keeps_behind}
 use Rattle.sg_engine.proofs.Waiting.{front_behind, gains_then}
@@ -118,8 +119,8 @@ lacks_room names at taken cast now world begun stands = record {
   needed = λ source goes.
       let same : taken ++ [] ≡ taken = append-nil taken in
       let there : GoesOn taken now.part.stage source = subst (λ (t : List ℕ). GoesOn t now.part.stage source) same goes in
-      subst (λ (t : List ℕ). IsWithinNeed names source (round_or_pass at (answer_of names source) world).world.asks (length t)) (sym same)
-      (within_more names source world.asks _ _ (part_keeps asks_rise at (answer_of names source) world) (stands.script.needed source there));
+      subst (λ (t : List ℕ). IsWithinNeed names source (round_or_pass at (answer_of names source) world).world.fetched (length t)) (sym same)
+      (within_more names source world.fetched _ _ (part_keeps fetches_rise at (answer_of names source) world) (stands.script.needed source there));
   contexts = λ source goes. omega (arith, part_keeps contexts_fall at (answer_of names source) world, ap (λ (c : Cast). c.contexts) stands.cast);
 }
 
@@ -259,7 +260,7 @@ part_on {next} names trace whole n m at cast cast' p0 p1 p2 q0 q1 q2 k0 k1 k1' k
     (reached_as names (λ answers. then_unless_ended (round_or_pass at answers reached.world) (rest_of m at answers)) (λ answers. rest_of n at answers reached.world) (rest_of m at) reached.piece cast' (moment p1 q1 k1') (moment p2 q2 (record k2 { records = reached.made ++ part.records }))
     (λ answers. run_goes n m at answers reached.world more some_here)
     (goes_on_to names (λ answers. round_or_pass at answers reached.world) (rest_of m at) reached.piece cast' (moment p1 q1 k1') (moment p2 q2 (record k2 { records = reached.made ++ part.records }))
-    (λ answers. run_keeps_behind asks_rise m (round_or_pass at answers reached.world) at answers) shifted))
+    (λ answers. run_keeps_behind fetches_rise m (round_or_pass at answers reached.world) at answers) shifted))
 
 -- one part more, which has ended the run
 abbrev pub part_last : {spent next : ℕ} (names : Names) (trace : Trace) (whole : Answering → Progress) (how : Ended) (n m : ℕ) (at : Scene) (cast cast' : Cast) (p0 p1 p2 : PartView) (q0 q1 q2 : Kept) (k0 k1 k1' k2 : Known) (before after : Option (List ℕ)) →
@@ -276,7 +277,7 @@ part_last {next} names trace whole how n m at cast cast' p0 p1 p2 q0 q1 q2 k0 k1
     (reached_as names (λ answers. then_unless_ended (round_or_pass at answers reached.world) (rest_of m at answers)) (λ answers. rest_of n at answers reached.world) (ending (Some how)) reached.piece cast' (moment p1 q1 k1') (moment p2 q2 (record k2 { records = reached.made ++ part.records }))
     (λ answers. run_goes n m at answers reached.world more some_here)
     (ends_at names (λ answers. round_or_pass at answers reached.world) (rest_of m at) how reached.piece cast' (moment p1 q1 k1') (moment p2 q2 (record k2 { records = reached.made ++ part.records }))
-    (λ answers. run_keeps_behind asks_rise m (round_or_pass at answers reached.world) at answers) shifted))
+    (λ answers. run_keeps_behind fetches_rise m (round_or_pass at answers reached.world) at answers) shifted))
 
 -- ---- the lines of records
 -- the trace of records and then of others
@@ -312,7 +313,7 @@ part_cut names trace appends whole n m at cast left p0 p1 p2 q0 q1 k0 k1 start b
       let first = round_or_pass at answers reached.world in
       let some_here : list_all is_over reached.world.core.actors ≡ false = ap (λ (c : Core). list_all is_over c.actors) (sym reached.stands.core) ∙ some in
       let all : whole answers ≡ with_front reached.made (then_unless_ended first (rest_of m at answers)) = reached.is source goes ∙ ap (with_front reached.made) (run_goes n m at answers reached.world more some_here) in
-      omega (arith, ap (λ (p : Progress). p.world.asks x) all, run_keeps_behind asks_rise m first at answers x))
+      omega (arith, ap (λ (p : Progress). fetches_of p.world.fetched x) all, run_keeps_behind fetches_rise m first at answers x))
       reached.last cut.last;
   needed = λ source goes.
       let answers = answer_of names source in
@@ -320,8 +321,8 @@ part_cut names trace appends whole n m at cast left p0 p1 p2 q0 q1 k0 k1 start b
       let some_here : list_all is_over reached.world.core.actors ≡ false = ap (λ (c : Core). list_all is_over c.actors) (sym reached.stands.core) ∙ some in
       let all : whole answers ≡ with_front reached.made (then_unless_ended first (rest_of m at answers)) =
       reached.is source (goes_back reached.piece cut.piece p1 p2 source cut.reads goes) ∙ ap (with_front reached.made) (run_goes n m at answers reached.world more some_here) in
-      subst (λ (p : Progress). IsWithinNeed names source p.world.asks (length (reached.piece ++ cut.piece))) (sym all)
-      (within_more names source first.world.asks _ _ (run_keeps_behind asks_rise m first at answers) (cut.needed source goes));
+      subst (λ (p : Progress). IsWithinNeed names source p.world.fetched (length (reached.piece ++ cut.piece))) (sym all)
+      (within_more names source first.world.fetched _ _ (run_keeps_behind fetches_rise m first at answers) (cut.needed source goes));
   contexts = λ source goes.
       let answers = answer_of names source in
       let first = round_or_pass at answers reached.world in
@@ -403,7 +404,7 @@ pub far_on : {next : ℕ} (from count later : ℕ) (names : Names) (trace : Trac
     (far : SoFar from count names trace whole (rest_of n at) parts cast p0 p1 q0 q1 k0 k1 start before) → n ≡ suc m → list_all is_over k1.core.actors ≡ false → k0.records ≡ [] → k1.records ≡ [] →
     Advances next names trace (λ answers. round_or_pass at answers far.reached.world) None far.reached.piece cast' (moment p1 q1 k1) (moment p2 q2 k2) before after → later ≤ from + next →
     (list_all is_over far.reached.world.core.actors ≡ false → (answers : Answering) → parts answers ≡ record { world = far.reached.world; made = far.reached.made; ended = None } → parts' answers ≡ with_front far.reached.made (round_or_pass at answers far.reached.world)) →
-    ((answers : Answering) (x : ℕ) → (parts answers).world.asks x ≤ (parts' answers).world.asks x) → SoFar from later names trace whole (rest_of m at) parts' cast' p0 p2 q0 q2 k0 k2 start after
+    ((answers : Answering) (x : ℕ) → fetches_of (parts answers).world.fetched x ≤ fetches_of (parts' answers).world.fetched x) → SoFar from later names trace whole (rest_of m at) parts' cast' p0 p2 q0 q2 k0 k2 start after
 far_on {next} from count later names trace appends whole n m at parts parts' cast cast' p0 p1 p2 q0 q1 q2 k0 k1 k2 start before after far more some first cleared part worked one_more rises =
     let some_here : list_all is_over far.reached.world.core.actors ≡ false = ap (λ (c : Core). list_all is_over c.actors) (sym far.reached.stands.core) ∙ some in
     let made : part.records ≡ part.reached.made = part.reached.records ∙ ap (λ (l : List Record). l ++ part.reached.made) cleared in
@@ -413,7 +414,7 @@ far_on {next} from count later names trace appends whole n m at parts parts' cas
       worked = worked;
       reached = part_on names trace whole n m at cast cast' p0 p1 p2 q0 q1 q2 k0 k1 (record k1 { records = far.records }) k2 before after far.reached more refl refl some first part cleared;
       stays = open_then names parts' (λ answers. round_or_pass at answers far.reached.world) [] far.reached.piece part.reached.piece p0 p1 p2 far.reached.reads part.reached.reads
-          (λ source goes x. omega (arith, ap (λ (p : Progress). p.world.asks x) (one_more some_here (answer_of names source) (far.counted source goes))))
+          (λ source goes x. omega (arith, ap (λ (p : Progress). fetches_of p.world.fetched x) (one_more some_here (answer_of names source) (far.counted source goes))))
           (λ all. far.stays (answers_fewer names parts' parts far.reached.piece (λ source goes. rises (answer_of names source)) all)) part.reached.last;
       printed = far_printed trace appends far.reached.made part.records part.reached.made start before after made far.printed part.printed;
       counted = λ source goes.

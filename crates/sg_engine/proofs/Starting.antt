@@ -87,7 +87,7 @@ first_kept mind platform deployed budget part sim new fits minds seated calls fe
 
 -- the simulation at its beginning
 pub is_first : {A : Type 0} (mind : A → Option Mind) (platform : Platform) (deployed : Deployed) (budget crew : ℕ) (part : PartView) (sim : Simulation A) → sim.kernel ≡ first_known (capacities_in platform) (setup_of platform deployed budget) → actors_of sim.script ≡ length deployed.actors →
-    part.stage ≢ Fresh → AreLimited (extent_of deployed) (kept_of sim.script) → Stands (known_in deployed) [] part.stage (λ _. 0) (kept_of sim.script) →
+    part.stage ≢ Fresh → AreLimited (extent_of deployed) (kept_of sim.script) → Stands (known_in deployed) [] part.stage [] (kept_of sim.script) →
     minds_in mind sim ≡ first_minds deployed → length sim.crew.items + started_number deployed ≡ crew → All (IsSeated (extent_of deployed)) (places_in mind sim) → AreBlank mind sim.crew.items →
     length deployed.actors ≤ vec_capacity sim.calls → length deployed.actors ≤ 65536 → sim.buffer ≡ [] → IsFirst mind platform deployed budget crew part sim
 is_first mind platform deployed budget crew part sim new queues begun waiting stands minds left seated blank calls few empty =
@@ -96,7 +96,7 @@ is_first mind platform deployed budget crew part sim new queues begun waiting st
       kept = first_kept mind platform deployed budget part sim new (first_fits platform deployed budget part sim new queues begun waiting) minds seated calls few blank empty;
       setup = ap (λ (k : Known). k.setup) new;
       stands = record {
-        script = record { stands = stands; needed = needed_none (known_in deployed) part.stage (λ _. 0) };
+        script = record { stands = stands; needed = needed_none (known_in deployed) part.stage [] };
         core = ap (λ (k : Known). k.core) new;
         cast = ap₂ (λ (m : List (Option Mind)) (n : ℕ). record { minds = m; contexts = n }) minds contexts;
       };

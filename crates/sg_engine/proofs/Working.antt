@@ -13,7 +13,7 @@ use Rattle.sg_kernel.specs.Passes.{pass_of}
 use Rattle.sg_setup.specs.Setup.{Setup}
 use Rattle.sg_calls.specs.World.{state_of}
 use Rattle.sg_states.specs.Actors.{is_ended}
-use Rattle.sg_script.specs.Stands.{one_more}
+use Rattle.sg_script.specs.Fetched.{fetches_of, one_more}
 use Rattle.sg_script.specs.declared.fault.ScriptFault.{ScriptFault}
 use Rattle.sg_engine.specs.World.{World}
 use Rattle.sg_engine.specs.declared.ended.Ended.{Ended}
@@ -35,8 +35,8 @@ answer_work setup actor (Err why) world = refl
 
 ask_work : (setup : Setup) (answers : Answering) (actor : ℕ) (world : World) → (ask_step setup answers actor world).world.work ≡ world.work
 ask_work setup answers actor world =
-    let next : World = record world { asks = one_more actor world.asks } in
-    work_by (world.core.events == setup.budget) (at_world (Some ended.Budget) world) (answer_step setup actor (answers actor (world.asks actor)) next) world.work refl (answer_work setup actor (answers actor (world.asks actor)) next)
+    let next : World = record world { fetched = one_more actor world.fetched } in
+    work_by (world.core.events == setup.budget) (at_world (Some ended.Budget) world) (answer_step setup actor (answers actor (fetches_of world.fetched actor)) next) world.work refl (answer_work setup actor (answers actor (fetches_of world.fetched actor)) next)
 
 creates_work : (firsts : List Mind) (budget actor : ℕ) (target : ActorId) (world : World) → (creates firsts budget actor target world).world.work ≡ world.work
 creates_work firsts budget actor target world =

@@ -126,7 +126,7 @@ written_of show platform deployed budget crew source progress = record {
   ended = end_of progress;
   contexts = crew - progress.world.contexts;
   work = progress.world.work;
-  need = needed_by (known_in deployed) source (length deployed.actors) progress.world.asks;
+  need = needed_by (known_in deployed) source progress.world.fetched;
 }
 
 -- what a run writes and how it ends, with so many contexts in the pool, with or without a script, by what that gives

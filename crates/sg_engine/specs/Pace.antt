@@ -1,5 +1,5 @@
 -- How soon a run writes its lines, beside how far it reads its script.
-use Rattle.std.specs.Prelude.{◌≡◌, ◌+◌, ℕ, Bool, Option, List, ◌++◌, length}
+use Rattle.std.specs.Prelude.{◌≡◌, ◌+◌, ℕ, Bool, Option, List, ◌++◌}
 use Rattle.sg_edge.specs.declared.files.Part.{Part}
 use Rattle.sg_edge.specs.declared.files.Part.TheVariants.{Script}
 use Rattle.sg_edge.specs.declared.sinks.Stream.{Stream}
@@ -27,7 +27,7 @@ pub record Pace : Type 0 where
 abbrev pub pace_at : Platform → Deployed → Show → Source → Progress → Pace
 pace_at platform deployed show source progress = record {
   out = trace_of show platform deployed progress.made;
-  need = needed_by (known_in deployed) source (length deployed.actors) progress.world.asks;
+  need = needed_by (known_in deployed) source progress.world.fetched;
 }
 
 -- the first so many scheduling rounds and time advances of a run with so many contexts, by what its script answers

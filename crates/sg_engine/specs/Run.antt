@@ -27,7 +27,7 @@ use Rattle.sg_route.specs.Roads.{Roads}
 use Rattle.sg_kernel.specs.Passes.{pass_of}
 use Rattle.sg_script.specs.declared.fault.ScriptFault.{ScriptFault}
 use Rattle.sg_script.specs.declared.fault.ScriptFault.TheVariants as fault
-use Rattle.sg_script.specs.Stands.{one_more}
+use Rattle.sg_script.specs.Fetched.{fetches_of, one_more}
 use Rattle.sg_engine.specs.declared.ended.Ended.{Ended}
 use Rattle.sg_engine.specs.declared.ended.Ended.TheVariants as ended
 
@@ -126,7 +126,7 @@ answer_step setup actor (Err why) world = at_world (Some (ended_at why)) world
 abbrev pub ask_step : Setup → Answering → ℕ → World → Progress
 ask_step setup answers actor world =
     if world.core.events == setup.budget then at_world (Some ended.Budget) world
-    else answer_step setup actor (answers actor (world.asks actor)) (record world { asks = one_more actor world.asks })
+    else answer_step setup actor (answers actor (fetches_of world.fetched actor)) (record world { fetched = one_more actor world.fetched })
 
 -- whether a call fetches the next line of the script
 abbrev pub is_ask : Call → Bool
@@ -214,7 +214,7 @@ run_from (suc n) at answers world =
 -- ---- the whole run
 -- at first the actors have this in mind, and those that start are ready with the answer Start; so many contexts are left
 abbrev pub first_world : List (Option Mind) → ℕ → Capacities → Setup → World
-first_world minds contexts capacities setup = record { minds = minds; asks = λ _. 0; contexts = contexts; core = first_core capacities setup; work = 0 }
+first_world minds contexts capacities setup = record { minds = minds; fetched = []; contexts = contexts; core = first_core capacities setup; work = 0 }
 
 -- from this world on
 abbrev pub run_of : Scene → World → Answering → Progress

@@ -8,7 +8,7 @@ use Rattle.sg_calls.specs.World.{Core}
 -- its steps make, one after another.
 pub record World : Type 0 where
   pub minds : List (Option Mind)
-  pub asks : ℕ → ℕ
+  pub fetched : List ℕ
   pub contexts : ℕ
   pub core : Core
   pub work : ℕ

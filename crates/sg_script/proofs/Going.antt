@@ -10,7 +10,7 @@ use Rattle.sg_script.specs.declared.fault.ScriptFault.TheVariants.{Line, Read, M
 use Rattle.sg_script.specs.Rest.{May}
 use Rattle.sg_script.specs.Stands.{Kept, answer_from}
 use Rattle.sg_script.specs.kept.Queues.{waits}
-use Rattle.sg_script.specs.kept.Steps.{Moves, Tells, Goes, Answers, Ends, no_ask, one_ask}
+use Rattle.sg_script.specs.kept.Steps.{Moves, Tells, Goes, Answers, Ends, no_fetch, one_fetch}
 use Rattle.sg_script.proofs.Chains.{may_back, reads_none, reads_then}
 use Rattle.sg_script.proofs.Spending.{spends_none, spends_then, thrifty_none, thrifty_then}
 
@@ -36,7 +36,7 @@ goes_then known actor u v w a b c empty empty' first second = record {
   piece = first.piece ++ second.piece;
   reads = reads_then first.piece second.piece u v w first.reads second.reads;
   thrifty = thrifty_then known actor u.stage v.stage w.stage first.piece second.piece a b empty empty' first.reads.stayed second.reads.stayed first.spends first.thrifty second.thrifty;
-  spends = spends_then known v.stage w.stage first.piece second.piece no_ask a b c second.reads.stayed first.spends second.spends;
+  spends = spends_then known v.stage w.stage first.piece second.piece no_fetch a b c second.reads.stayed first.spends second.spends;
   moves = moves_then known v.stage w.stage first.piece second.piece a b c second.reads.stayed first.moves second.moves;
   queues = second.queues ∙ first.queues;
 }
@@ -46,7 +46,7 @@ answers_then known actor answer u v w a b c empty empty' first second = record {
   piece = first.piece ++ second.piece;
   reads = reads_then first.piece second.piece u v w first.reads second.reads;
   thrifty = thrifty_then known actor u.stage v.stage w.stage first.piece second.piece a b empty empty' first.reads.stayed second.reads.stayed first.spends first.thrifty second.thrifty;
-  spends = spends_then known v.stage w.stage first.piece second.piece (one_ask actor) a b c second.reads.stayed first.spends second.spends;
+  spends = spends_then known v.stage w.stage first.piece second.piece (one_fetch actor) a b c second.reads.stayed first.spends second.spends;
   tells = tells_then known actor answer v.stage w.stage first.piece second.piece a b c second.reads.stayed first.moves second.tells;
   queues = second.queues ∙ first.queues;
 }

@@ -1,6 +1,7 @@
 pub mod AllNeeds
 pub mod Asking
 pub mod Chains
+pub mod Counting
 pub mod Deciding
 pub mod FrontLemmas
 pub mod Going

@@ -18,7 +18,7 @@ use Rattle.sg_script.specs.Needed.{need_from, own_actions}
 use Rattle.sg_script.specs.Operation.{line_actions}
 use Rattle.sg_script.specs.kept.Queues.{waits}
 use Rattle.sg_script.specs.Stands.{Kept}
-use Rattle.sg_script.specs.kept.Steps.{Ends, HasQueue, ReadIs, no_ask, one_ask, queues_with}
+use Rattle.sg_script.specs.kept.Steps.{Ends, HasQueue, ReadIs, no_fetch, one_fetch, queues_with}
 use Rattle.sg_script.specs.Frugal.{cost_from, IsNear, Frugal, Suffices}
 use Rattle.sg_script.specs.kept.Spending.{IsThrifty, Spends}
 use Rattle.sg_script.proofs.Chains.{may_back}
@@ -45,26 +45,26 @@ later_same known broken actor lines bytes n later none =
     let same : n + later ≡ later = omega (arith, none) in
     ap (λ (k : ℕ). need_from known broken actor lines bytes k) same
 
-pub spends_none : (known : ScriptNames) (stage : Stage) (kept : Kept) → Spends known stage [] no_ask kept kept
+pub spends_none : (known : ScriptNames) (stage : Stage) (kept : Kept) → Spends known stage [] no_fetch kept kept
 spends_none known stage kept = record {
-  own = no_ask;
+  own = no_fetch;
   queued = λ x. omega arith;
   cost = λ rest broken may x later. omega (arith, later_same known broken x kept.lines (kept.pending ++ rest) 0 later refl);
 }
 
 -- a fetch that gets no action, if each fetch needs the same
 pub spends_stuck : (known : ScriptNames) (stage : Stage) (actor : ℕ) (kept : Kept) → ((rest : List ℕ) (broken : Bool) → May stage rest broken → (x i j : ℕ) → need_from known broken x kept.lines (kept.pending ++ rest) i ≡ need_from known broken x kept.lines (kept.pending ++ rest) j)
-    → Spends known stage [] (one_ask actor) kept kept
+    → Spends known stage [] (one_fetch actor) kept kept
 spends_stuck known stage actor kept same = record {
-  own = one_ask actor;
+  own = one_fetch actor;
   queued = λ x. omega arith;
-  cost = λ rest broken may x later. omega (arith, same rest broken may x (one_ask actor x + later) later);
+  cost = λ rest broken may x later. omega (arith, same rest broken may x (one_fetch actor x + later) later);
 }
 
 -- a piece was read
-pub spends_piece : (known : ScriptNames) (v w : PartView) (old new : Kept) → (read : ReadIs v w old new) → Spends known w.stage read.piece no_ask old new
+pub spends_piece : (known : ScriptNames) (v w : PartView) (old new : Kept) → (read : ReadIs v w old new) → Spends known w.stage read.piece no_fetch old new
 spends_piece known v w old new read = record {
-  own = no_ask;
+  own = no_fetch;
   queued = λ x. omega (arith, ap (λ (qs : List (List Waiting)). length (waits known.members qs x)) read.queues);
   cost = λ rest broken may x later.
       let after : need_from known broken x old.lines (old.pending ++ (read.piece ++ rest)) later ≡ need_from known broken x new.lines (new.pending ++ rest) later = rw (read.lines, read.pending) (ap (λ (bytes : List ℕ). need_from known broken x old.lines bytes later) (sym (append_assoc old.pending read.piece rest))) in
@@ -112,11 +112,11 @@ spends_line known stage asked old new len end said fits leads is queued lines pe
 }
 
 -- what it gives each actor waits
-pub said_queued : (known : ScriptNames) (queues : List (List Waiting)) (said : Option Entry) (x : ℕ) → HasQueue (length queues) said → no_ask x + length (waits known.members (queues_with said queues) x) ≡ length (waits known.members queues x) + own_actions known x said
+pub said_queued : (known : ScriptNames) (queues : List (List Waiting)) (said : Option Entry) (x : ℕ) → HasQueue (length queues) said → no_fetch x + length (waits known.members (queues_with said queues) x) ≡ length (waits known.members queues x) + own_actions known x said
 said_queued known queues said x within = omega (arith, ap length (said_waits known queues said x within), length-append (waits known.members queues x) (line_actions known x said))
 
 -- ---- several
-pub spends_then : (known : ScriptNames) (s t : Stage) (p q : List ℕ) (asked : ℕ → ℕ) (a b c : Kept) → (s ≢ Begun → (q ≡ []) × (t ≡ s)) → Spends known s p no_ask a b → Spends known t q asked b c → Spends known t (p ++ q) asked a c
+pub spends_then : (known : ScriptNames) (s t : Stage) (p q : List ℕ) (asked : ℕ → ℕ) (a b c : Kept) → (s ≢ Begun → (q ≡ []) × (t ≡ s)) → Spends known s p no_fetch a b → Spends known t q asked b c → Spends known t (p ++ q) asked a c
 spends_then known s t p q asked a b c stayed first second = record {
   own = λ x. first.own x + second.own x;
   queued = λ x. omega (arith, first.queued x, second.queued x);
@@ -136,7 +136,7 @@ near_then known actor a b p q rest broken one first second = elim second [
 ]
 
 -- what an actor without a queue needs after a piece is less by what was taken off the front
-cost_then : (known : ScriptNames) (actor : ℕ) (s : Stage) (p : List ℕ) (a b : Kept) → waits known.members a.queues actor ≡ [] → waits known.members b.queues actor ≡ [] → Spends known s p no_ask a b → (rest : List ℕ) (broken : Bool) → May s rest broken
+cost_then : (known : ScriptNames) (actor : ℕ) (s : Stage) (p : List ℕ) (a b : Kept) → waits known.members a.queues actor ≡ [] → waits known.members b.queues actor ≡ [] → Spends known s p no_fetch a b → (rest : List ℕ) (broken : Bool) → May s rest broken
     → cost_from known a (p ++ rest) broken actor + length b.pending ≡ length a.pending + length p + cost_from known b rest broken actor
 cost_then known actor s p a b empty empty' spends rest broken may =
     let none : spends.own actor ≡ 0 = omega (arith, spends.queued actor, ap length empty, ap length empty') in
@@ -152,14 +152,14 @@ pub all_may : (s : Stage) (rest : List ℕ) (broken : Bool) → s ≡ Begun → 
 all_may s rest broken is = rw is tt
 
 -- what suffices with two pieces suffices with the second, if the first was read
-suffices_then : (known : ScriptNames) (actor : ℕ) (s : Stage) (p q : List ℕ) (a b : Kept) → s ≡ Begun → waits known.members a.queues actor ≡ [] → waits known.members b.queues actor ≡ [] → Spends known s p no_ask a b → Suffices known actor a (p ++ q) → Suffices known actor b q
+suffices_then : (known : ScriptNames) (actor : ℕ) (s : Stage) (p q : List ℕ) (a b : Kept) → s ≡ Begun → waits known.members a.queues actor ≡ [] → waits known.members b.queues actor ≡ [] → Spends known s p no_fetch a b → Suffices known actor a (p ++ q) → Suffices known actor b q
 suffices_then known actor s p q a b is empty empty' spends suffices rest broken =
     let whole : cost_from known a (p ++ (q ++ rest)) broken actor ≤ length a.pending + length (p ++ q) = subst (λ (bytes : List ℕ). cost_from known a bytes broken actor ≤ length a.pending + length (p ++ q)) (append_assoc p q rest) (suffices rest broken) in
     omega (arith, whole, cost_then known actor s p a b empty empty' spends (q ++ rest) broken (all_may s (q ++ rest) broken is), length-append p q)
 
 -- if the first piece suffices nothing is read after it
 enough_then : (known : ScriptNames) (actor : ℕ) (u s t : Stage) (p q : List ℕ) (a b : Kept) → waits known.members a.queues actor ≡ [] → waits known.members b.queues actor ≡ [] → (s ≢ Begun → (q ≡ []) × (t ≡ s))
-    → Spends known s p no_ask a b → IsThrifty known actor u s p a → IsThrifty known actor s t q b → Suffices known actor a [] → p ++ q ≡ []
+    → Spends known s p no_fetch a b → IsThrifty known actor u s p a → IsThrifty known actor s t q b → Suffices known actor a [] → p ++ q ≡ []
 enough_then known actor u s t p q a b empty empty' stayed spends first second suffices =
     let none : p ≡ [] = first.enough suffices in
     let none' : q ≡ [] = elim (begun_or_not s) [
@@ -172,7 +172,7 @@ enough_then known actor u s t p q a b empty empty' stayed spends first second su
 
 -- if both pieces suffice the part is as open as before them
 last_then : (known : ScriptNames) (actor : ℕ) (u s t : Stage) (p q : List ℕ) (a b : Kept) → waits known.members a.queues actor ≡ [] → waits known.members b.queues actor ≡ [] → (u ≢ Begun → (p ≡ []) × (s ≡ u)) → (s ≢ Begun → (q ≡ []) × (t ≡ s))
-    → Spends known s p no_ask a b → IsThrifty known actor u s p a → IsThrifty known actor s t q b → Suffices known actor a (p ++ q) → t ≡ u
+    → Spends known s p no_fetch a b → IsThrifty known actor u s p a → IsThrifty known actor s t q b → Suffices known actor a (p ++ q) → t ≡ u
 last_then known actor u s t p q a b empty empty' stayed stayed' spends first second suffices = elim (begun_or_not s) [
   | inl is ↦
       let here : t ≡ s = second.last (suffices_then known actor s p q a b is empty empty' spends suffices) in
@@ -187,7 +187,7 @@ last_then known actor u s t p q a b empty empty' stayed stayed' spends first sec
 ]
 
 pub thrifty_then : (known : ScriptNames) (actor : ℕ) (u s t : Stage) (p q : List ℕ) (a b : Kept) → waits known.members a.queues actor ≡ [] → waits known.members b.queues actor ≡ [] → (u ≢ Begun → (p ≡ []) × (s ≡ u)) → (s ≢ Begun → (q ≡ []) × (t ≡ s))
-    → Spends known s p no_ask a b → IsThrifty known actor u s p a → IsThrifty known actor s t q b → IsThrifty known actor u t (p ++ q) a
+    → Spends known s p no_fetch a b → IsThrifty known actor u s p a → IsThrifty known actor s t q b → IsThrifty known actor u t (p ++ q) a
 thrifty_then known actor u s t p q a b empty empty' stayed stayed' spends first second = record {
   near = λ rest broken may.
       let may' : May s (q ++ rest) broken = may_back s t q rest broken stayed' may in

@@ -22,7 +22,7 @@ use Rattle.sg_script.specs.Rest.{May}
 use Rattle.sg_script.specs.kept.Front.{Leads, IsOpen}
 use Rattle.sg_script.specs.kept.Queues.{left_of, queue_at, waits}
 use Rattle.sg_script.specs.kept.Spending.{Spends}
-use Rattle.sg_script.specs.kept.Steps.{HasQueue, Moves, no_ask, one_ask, Passes, Pops, queues_with, Tells}
+use Rattle.sg_script.specs.kept.Steps.{HasQueue, Moves, no_fetch, one_fetch, Passes, Pops, queues_with, Tells}
 use Rattle.sg_script.specs.Needed.{need_from}
 use Rattle.sg_script.specs.Operation.{line_actions}
 use Rattle.sg_script.specs.Stands.{Kept, answer_from}
@@ -85,10 +85,10 @@ tells_pop known stage actor action old new pops =
     }
 
 -- a queue is shorter by what was taken
-queued_none : (known : ScriptNames) (actor x : ℕ) (old new : Kept) → Pops known actor None old new → no_ask x + length (waits known.members new.queues x) ≡ length (waits known.members old.queues x) + no_ask x
+queued_none : (known : ScriptNames) (actor x : ℕ) (old new : Kept) → Pops known actor None old new → no_fetch x + length (waits known.members new.queues x) ≡ length (waits known.members old.queues x) + no_fetch x
 queued_none known actor x old new pops = omega (arith, ap length (none_waits known actor x old new pops))
 
-queued_some : (known : ScriptNames) (actor x : ℕ) (action : Action) (old new : Kept) → Pops known actor (Some action) old new → one_ask actor x + length (waits known.members new.queues x) ≡ length (waits known.members old.queues x) + no_ask x
+queued_some : (known : ScriptNames) (actor x : ℕ) (action : Action) (old new : Kept) → Pops known actor (Some action) old new → one_fetch actor x + length (waits known.members new.queues x) ≡ length (waits known.members old.queues x) + no_fetch x
 queued_some known actor x action old new pops = elim (cases_Bool (eqb x actor)) [
   | inl is ↦
       let same : x ≡ actor = grind (arith, nat_tests) in
@@ -100,19 +100,19 @@ queued_some known actor x action old new pops = elim (cases_Bool (eqb x actor)) 
 ]
 
 pops_cost : (known : ScriptNames) (actor : ℕ) (first : Option Action) (old new : Kept) → Pops known actor first old new → (rest : List ℕ) (broken : Bool) (x later : ℕ) →
-    need_from known broken x old.lines (old.pending ++ rest) (no_ask x + later) + length new.pending ≡ length old.pending + 0 + need_from known broken x new.lines (new.pending ++ rest) later
+    need_from known broken x old.lines (old.pending ++ rest) (no_fetch x + later) + length new.pending ≡ length old.pending + 0 + need_from known broken x new.lines (new.pending ++ rest) later
 pops_cost known actor first old new pops rest broken x later = rw (pops.lines, pops.pending) (omega (arith, later_same known broken x old.lines (old.pending ++ rest) 0 later refl))
 
-pub spends_none_waits : (known : ScriptNames) (stage : Stage) (actor : ℕ) (old new : Kept) → Pops known actor None old new → Spends known stage [] no_ask old new
+pub spends_none_waits : (known : ScriptNames) (stage : Stage) (actor : ℕ) (old new : Kept) → Pops known actor None old new → Spends known stage [] no_fetch old new
 spends_none_waits known stage actor old new pops = record {
-  own = no_ask;
+  own = no_fetch;
   queued = λ x. queued_none known actor x old new pops;
   cost = λ rest broken may x later. pops_cost known actor None old new pops rest broken x later;
 }
 
-pub spends_pop : (known : ScriptNames) (stage : Stage) (actor : ℕ) (action : Action) (old new : Kept) → Pops known actor (Some action) old new → Spends known stage [] (one_ask actor) old new
+pub spends_pop : (known : ScriptNames) (stage : Stage) (actor : ℕ) (action : Action) (old new : Kept) → Pops known actor (Some action) old new → Spends known stage [] (one_fetch actor) old new
 spends_pop known stage actor action old new pops = record {
-  own = no_ask;
+  own = no_fetch;
   queued = λ x. queued_some known actor x action old new pops;
   cost = λ rest broken may x later. pops_cost known actor (Some action) old new pops rest broken x later;
 }

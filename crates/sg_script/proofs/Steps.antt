@@ -19,7 +19,7 @@ use Rattle.sg_script.specs.Rest.{May}
 use Rattle.sg_script.specs.kept.Front.{Leads, IsOpen}
 use Rattle.sg_script.specs.kept.Queues.{queue_at, waits}
 use Rattle.sg_script.specs.Stands.{Kept}
-use Rattle.sg_script.specs.kept.Steps.{Answers, Ends, Goes, HasQueue, LineTells, no_ask, one_ask, Passes, Pops, queues_with, ReadIs, StepIs, to_do}
+use Rattle.sg_script.specs.kept.Steps.{Answers, Ends, Goes, HasQueue, LineTells, no_fetch, one_fetch, Passes, Pops, queues_with, ReadIs, StepIs, to_do}
 use Rattle.sg_script.proofs.Chains.{reads_none}
 use Rattle.sg_script.proofs.Deciding.{needs_bad, needs_none}
 use Rattle.sg_script.proofs.Going.{ends_then, goes_not, moves_then, tells_then}
@@ -46,9 +46,9 @@ pub popped_length : (known : ScriptNames) (actor : ℕ) (first : Option Action) 
 popped_length known actor first old new pops = ap length pops.others ∙ length-set old.queues actor (queue_at new.queues actor)
 
 line_queued : (known : ScriptNames) (old new : Kept) (end : ℕ) (said : Option Entry) (x : ℕ) → HasQueue (length old.queues) said → Passes (queues_with said old.queues) end old new
-    → no_ask x + length (waits known.members new.queues x) ≡ length (waits known.members old.queues x) + own_actions known x said
+    → no_fetch x + length (waits known.members new.queues x) ≡ length (waits known.members old.queues x) + own_actions known x said
 line_queued known old new end said x within passes =
-    ap (λ (qs : List (List Waiting)). no_ask x + length (waits known.members qs x)) passes.queued ∙ said_queued known old.queues said x within
+    ap (λ (qs : List (List Waiting)). no_fetch x + length (waits known.members qs x)) passes.queued ∙ said_queued known old.queues said x within
 
 none_read : (s : Stage) (piece : List ℕ) → piece ≡ [] → s ≢ Begun → (piece ≡ []) × (s ≡ s)
 none_read s piece none isnt = (none, refl)
@@ -64,8 +64,8 @@ line_goes known v old new len end actor begun fits leads is =
         piece = [];
         reads = reads_none v begun;
         thrifty = thrifty_none known actor v.stage old;
-        spends = spends_then known v.stage v.stage [] [] no_ask old mid new (none_read v.stage [] refl)
-            (spends_line known v.stage no_ask old mid len end said fits leads judged_is (λ x. line_queued known old mid end said x within passes) passes.lines passes.pending)
+        spends = spends_then known v.stage v.stage [] [] no_fetch old mid new (none_read v.stage [] refl)
+            (spends_line known v.stage no_fetch old mid len end said fits leads judged_is (λ x. line_queued known old mid end said x within passes) passes.lines passes.pending)
             (spends_none_waits known v.stage actor mid new pops);
         moves = moves_then known v.stage v.stage [] [] old mid new (none_read v.stage [] refl) (moves_line known v.stage old mid len end said leads judged_is within passes) (moves_pop known v.stage actor mid new pops);
         queues = popped_length known actor None mid new pops ∙ ap length passes.queued ∙ queued_length said old.queues;
@@ -85,8 +85,8 @@ line_answers known v old new len end actor action begun fits leads is =
       piece = [];
       reads = reads_none v begun;
       thrifty = thrifty_none known actor v.stage old;
-      spends = spends_then known v.stage v.stage [] [] (one_ask actor) old mid new (none_read v.stage [] refl)
-          (spends_line known v.stage no_ask old mid len end said fits leads judged_is (λ x. line_queued known old mid end said x within passes) passes.lines passes.pending)
+      spends = spends_then known v.stage v.stage [] [] (one_fetch actor) old mid new (none_read v.stage [] refl)
+          (spends_line known v.stage no_fetch old mid len end said fits leads judged_is (λ x. line_queued known old mid end said x within passes) passes.lines passes.pending)
           (spends_pop known v.stage actor action mid new pops);
       tells = tells_then known actor (Ok (Some action)) v.stage v.stage [] [] old mid new (none_read v.stage [] refl) (moves_line known v.stage old mid len end said leads judged_is within passes) (tells_pop known v.stage actor action mid new pops);
       queues = popped_length known actor (Some action) mid new pops ∙ ap length passes.queued ∙ queued_length said old.queues;

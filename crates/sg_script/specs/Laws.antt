@@ -1,5 +1,5 @@
 -- What the fetches of a script, their answers, and its collectives keep to.
-use Rattle.std.specs.Prelude.{◌≡◌, ◌==◌, ◌<◌, ◌≤◌, ◌+◌, ◌++◌, ℕ, Bool, false, List, count_by, Err}
+use Rattle.std.specs.Prelude.{◌≡◌, ◌==◌, ◌≤◌, ◌+◌, ◌++◌, ℕ, Bool, false, List, count_by, Err}
 use Rattle.sg_base.specs.declared.call.Action.{Action}
 use Rattle.sg_base.specs.declared.call.Action.TheVariants.{ISend, IRecv, Recv, Send}
 use Rattle.sg_collectives.specs.declared.collective.Collective.{Collective}
@@ -7,11 +7,12 @@ use Rattle.sg_edge.specs.Files.{PartView}
 use Rattle.sg_edge.specs.Sources.{Source}
 use Rattle.sg_rows.specs.Deployment.{Deployed, members_of}
 use Rattle.sg_script.specs.Answer.{answer_of}
+use Rattle.sg_script.specs.Fetched.{fetches_of, one_more}
 use Rattle.sg_script.specs.Known.{ScriptNames}
 use Rattle.sg_script.specs.Needed.{needed_by}
 use Rattle.sg_script.specs.declared.operation.Operation.TheVariants.{Together}
 use Rattle.sg_script.specs.Operation.{actions_for}
-use Rattle.sg_script.specs.Stands.{AreNeeded, IsNearNeed, IsWithinNeed, Reads, one_more}
+use Rattle.sg_script.specs.Stands.{AreNeeded, IsNearNeed, IsWithinNeed, Reads}
 use Rattle.sg_script.specs.declared.fault.ScriptFault.{ScriptFault}
 
 -- a fault is reported again to each later fetch
@@ -23,17 +24,16 @@ FaultsRepeat = (known : ScriptNames) (source : Source) (actor earlier later : �
 -- If less than a piece more was taken than the fetches of a run need, and the next fetch takes
 -- less than a piece more than it needs, so it is with that fetch.
 abbrev pub NeedsAddUp : Type 0
-NeedsAddUp = (known : ScriptNames) (taken piece : List ℕ) (asks : ℕ → ℕ) (actor : ℕ)
-    (old new : PartView) → Reads piece old new → AreNeeded known taken old.stage asks →
-    IsNearNeed known taken piece new.stage actor (asks actor) →
-    AreNeeded known (taken ++ piece) new.stage (one_more actor asks)
+NeedsAddUp = (known : ScriptNames) (taken piece fetched : List ℕ) (actor : ℕ)
+    (old new : PartView) → Reads piece old new → AreNeeded known taken old.stage fetched →
+    IsNearNeed known taken piece new.stage actor (fetches_of fetched actor) →
+    AreNeeded known (taken ++ piece) new.stage (one_more actor fetched)
 
--- Bytes that are less than a piece more than one of the fetches needs are less than a piece more
--- than all of them need, if identifiers go up to this one.
+-- bytes that are less than a piece more than one of the fetches needs are less than a piece more
+-- than all of them need
 abbrev pub NeedIsMost : Type 0
-NeedIsMost = (known : ScriptNames) (source : Source) (actors : ℕ) (asks : ℕ → ℕ) (count : ℕ) →
-    ((actor : ℕ) → actors < actor → asks actor ≡ 0) → IsWithinNeed known source asks count →
-    count ≤ needed_by known source actors asks + 4095
+NeedIsMost = (known : ScriptNames) (source : Source) (fetched : List ℕ) (count : ℕ) →
+    IsWithinNeed known source fetched count → count ≤ needed_by known source fetched + 4095
 
 -- ---- collectives
 -- whether an action sends to an actor, with or without waiting, and whether it receives from one

@@ -1,4 +1,5 @@
 pub mod Answer
+pub mod Fetched
 pub mod Frugal
 pub mod Known
 pub mod Laws

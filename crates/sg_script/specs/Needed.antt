@@ -7,6 +7,7 @@ use Rattle.sg_script.specs.declared.fault.LineFault.TheVariants.{TooLong}
 use Rattle.sg_script.specs.declared.line.Entry.{Entry}
 use Rattle.sg_script.specs.Known.{ScriptNames}
 use Rattle.sg_script.specs.Answer.{is_newline, judgements}
+use Rattle.sg_script.specs.Fetched.{fetches_of}
 use Rattle.sg_script.specs.Line.{Judgement}
 use Rattle.sg_script.specs.Operation.{line_actions}
 
@@ -65,9 +66,9 @@ abbrev pub greatest : ℕ → (ℕ → ℕ) → ℕ
 greatest zero value = 0
 greatest (suc n) value = max (value n) (greatest n value)
 
--- The bytes that so many fetches of each actor need, if identifiers go up to this one: the most
--- that one of them needs.
-abbrev pub needed_by : ScriptNames → Source → ℕ → (ℕ → ℕ) → ℕ
-needed_by known source actors asks =
-    greatest (actors + 1)
-    (λ actor. greatest (asks actor) (λ earlier. need_of known source actor earlier))
+-- the bytes that so many fetches of each actor need: the most that one of them needs
+abbrev pub needed_by : ScriptNames → Source → List ℕ → ℕ
+needed_by known source fetched =
+    greatest (length fetched)
+    (λ actor. greatest (fetches_of fetched actor)
+    (λ earlier. need_of known source actor earlier))

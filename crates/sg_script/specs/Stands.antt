@@ -1,6 +1,6 @@
 -- What is kept of a script that was read in part, what whole scripts it stands for, and what a
 -- fetch does.
-use Rattle.std.specs.Prelude.{◌≡◌, ℕ, Bool, ◌+◌, ◌-◌, ◌++◌, List, [], length, slice_get, Option, Result, ◌≢◌, ◌<◌, ◌⊎◌, suc, Ok, Err, if◌then◌else◌, ◌==◌, ◌≤◌, IfOk, IfSome, ⊤}
+use Rattle.std.specs.Prelude.{◌≡◌, ℕ, Bool, ◌+◌, ◌-◌, ◌++◌, List, [], length, slice_get, Option, Result, ◌≢◌, ◌<◌, ◌⊎◌, Ok, Err, ◌≤◌, IfOk, IfSome, ⊤}
 use Rattle.std.specs.List.{All}
 use Rattle.sg_base.specs.Limits.{Extent, IsAction}
 use Rattle.sg_edge.specs.Files.{before, PartView}
@@ -8,6 +8,7 @@ use Rattle.sg_edge.specs.declared.files.Part.{Part}
 use Rattle.sg_edge.specs.declared.files.Stage.{Stage}
 use Rattle.sg_base.specs.declared.call.Action.{Action}
 use Rattle.sg_script.specs.Known.{ScriptNames}
+use Rattle.sg_script.specs.Fetched.{fetches_of, one_more}
 use Rattle.sg_script.specs.declared.waiting.Waiting.{Waiting}
 use Rattle.sg_script.specs.declared.script.Script.{Script}
 use Rattle.sg_script.specs.declared.fault.ScriptFault.{ScriptFault}
@@ -47,14 +48,14 @@ answer_from known kept rest broken actor earlier =
 -- The script stands for these bytes and fetches: whatever may still come, each later fetch has its
 -- answer by what is kept. If no action waits for it, what it needs follows what was taken off the
 -- front.
-pub record Stands (known : ScriptNames) (taken : List ℕ) (stage : Stage) (asks : ℕ → ℕ)
+pub record Stands (known : ScriptNames) (taken : List ℕ) (stage : Stage) (fetched : List ℕ)
     (kept : Kept) : Type 0 where
   pub answers : (rest : List ℕ) (broken : Bool) → May stage rest broken → (actor later : ℕ) →
-      answer_of known (record { bytes = taken ++ rest; broken = broken }) actor (asks actor + later)
+      answer_of known (record { bytes = taken ++ rest; broken = broken }) actor (fetches_of fetched actor + later)
       ≡ answer_from known kept rest broken actor later
   pub needs : (rest : List ℕ) (broken : Bool) → May stage rest broken → (actor later : ℕ) →
       need_of known (record { bytes = taken ++ rest; broken = broken }) actor
-      (asks actor + length (waits known.members kept.queues actor) + later) + length kept.pending
+      (fetches_of fetched actor + length (waits known.members kept.queues actor) + later) + length kept.pending
       ≡ length taken + need_from known broken actor kept.lines (kept.pending ++ rest) later
 
 -- this piece was taken, and the name stays; the part broke only by a call that failed
@@ -66,10 +67,6 @@ pub record Reads (piece : List ℕ) (old new : PartView) : Type 0 where
   pub rising : old.faults ≤ new.faults
   pub stayed : old.stage ≢ Begun → (piece ≡ []) × (new.stage ≡ old.stage)
   pub begun : new.stage ≢ Fresh
-
--- the fetches with one more of an actor
-abbrev pub one_more : ℕ → (ℕ → ℕ) → ℕ → ℕ
-one_more actor asks other = if other == actor then suc (asks other) else asks other
 
 -- for this fetch nothing was read, or what was taken in all is less than a piece more than it
 -- needs
@@ -83,62 +80,62 @@ abbrev pub IsEnough : ScriptNames → List ℕ → ℕ → ℕ → Type 0
 IsEnough known taken actor earlier = (rest : List ℕ) (broken : Bool) →
     need_of known (record { bytes = taken ++ rest; broken = broken }) actor earlier ≤ length taken
 
--- the answer is the whole script's, and the script stands for what was read and asked; if what was
+-- the answer is the whole script's, and the script stands for what was read and fetched; if what was
 -- taken answers the fetch, no read of it met the end or failed
-pub record IsAsked (known : ScriptNames) (taken : List ℕ) (asks : ℕ → ℕ) (actor : ℕ)
+pub record IsFetched (known : ScriptNames) (taken fetched : List ℕ) (actor : ℕ)
     (answer : Result (Option Action) ScriptFault) (old_part new_part : PartView)
     (new : Kept) : Type 0 where
   pub piece : List ℕ
   pub reads : Reads piece old_part new_part
-  pub near : IsNearNeed known taken piece new_part.stage actor (asks actor)
-  pub last : IsEnough known (taken ++ piece) actor (asks actor) → new_part.stage ≡ old_part.stage
+  pub near : IsNearNeed known taken piece new_part.stage actor (fetches_of fetched actor)
+  pub last : IsEnough known (taken ++ piece) actor (fetches_of fetched actor) → new_part.stage ≡ old_part.stage
   pub answer_is : (rest : List ℕ) (broken : Bool) → May new_part.stage rest broken →
       answer_of known (record { bytes = (taken ++ piece) ++ rest; broken = broken }) actor
-      (asks actor) ≡ answer
-  pub stands : Stands known (taken ++ piece) new_part.stage (one_more actor asks) new
+      (fetches_of fetched actor) ≡ answer
+  pub stands : Stands known (taken ++ piece) new_part.stage (one_more actor fetched) new
 
 -- memory ran out, so the fetch wasn't answered, and the script stands for what was read
-pub record IsCut (known : ScriptNames) (taken : List ℕ) (asks : ℕ → ℕ) (actor : ℕ)
+pub record IsCut (known : ScriptNames) (taken fetched : List ℕ) (actor : ℕ)
     (old_part new_part : PartView) (new : Kept) : Type 0 where
   pub piece : List ℕ
   pub reads : Reads piece old_part new_part
-  pub near : IsNearNeed known taken piece new_part.stage actor (asks actor)
-  pub last : IsEnough known (taken ++ piece) actor (asks actor) → new_part.stage ≡ old_part.stage
-  pub stands : Stands known (taken ++ piece) new_part.stage asks new
+  pub near : IsNearNeed known taken piece new_part.stage actor (fetches_of fetched actor)
+  pub last : IsEnough known (taken ++ piece) actor (fetches_of fetched actor) → new_part.stage ≡ old_part.stage
+  pub stands : Stands known (taken ++ piece) new_part.stage fetched new
 
 -- What a fetch did that had this answer. Before it these bytes were taken, and so many fetches of
 -- each actor answered.
-abbrev pub AskIs : ScriptNames → List ℕ → (ℕ → ℕ) → ℕ → Result (Option Action) ScriptFault → PartView →
+abbrev pub FetchIs : ScriptNames → List ℕ → List ℕ → ℕ → Result (Option Action) ScriptFault → PartView →
     PartView → Kept → Type 0
-AskIs known taken asks actor (Ok answer) = IsAsked known taken asks actor (Ok answer)
-AskIs known taken asks actor (Err (Line n kind)) =
-    IsAsked known taken asks actor (Err (Line n kind))
-AskIs known taken asks actor (Err Read) = IsAsked known taken asks actor (Err Read)
-AskIs known taken asks actor (Err Memory) = IsCut known taken asks actor
+FetchIs known taken fetched actor (Ok answer) = IsFetched known taken fetched actor (Ok answer)
+FetchIs known taken fetched actor (Err (Line n kind)) =
+    IsFetched known taken fetched actor (Err (Line n kind))
+FetchIs known taken fetched actor (Err Read) = IsFetched known taken fetched actor (Err Read)
+FetchIs known taken fetched actor (Err Memory) = IsCut known taken fetched actor
 
 -- what a fetch did, whatever was taken and fetched before it
-abbrev pub LeadsAsk : ScriptNames → ℕ → Result (Option Action) ScriptFault → PartView → PartView → Kept →
+abbrev pub LeadsFetch : ScriptNames → ℕ → Result (Option Action) ScriptFault → PartView → PartView → Kept →
     Kept → Type 0
-LeadsAsk known actor answer old_part new_part old new = (taken : List ℕ) (asks : ℕ → ℕ) →
-    Stands known taken old_part.stage asks old →
-    AskIs known taken asks actor answer old_part new_part new
+LeadsFetch known actor answer old_part new_part old new = (taken fetched : List ℕ) →
+    Stands known taken old_part.stage fetched old →
+    FetchIs known taken fetched actor answer old_part new_part new
 
 -- so many bytes are less than a piece more than one of so many fetches of each actor needs
-pub record HasNeed (known : ScriptNames) (source : Source) (asks : ℕ → ℕ) (count : ℕ) : Type 0 where
+pub record HasNeed (known : ScriptNames) (source : Source) (fetched : List ℕ) (count : ℕ) : Type 0 where
   pub actor : ℕ
   pub earlier : ℕ
-  pub made : earlier < asks actor
+  pub made : earlier < fetches_of fetched actor
   pub few : count ≤ need_of known source actor earlier + 4095
 
 -- they are, or they are none
-abbrev pub IsWithinNeed : ScriptNames → Source → (ℕ → ℕ) → ℕ → Type 0
-IsWithinNeed known source asks count = (count ≡ 0) ⊎ HasNeed known source asks count
+abbrev pub IsWithinNeed : ScriptNames → Source → List ℕ → ℕ → Type 0
+IsWithinNeed known source fetched count = (count ≡ 0) ⊎ HasNeed known source fetched count
 
 -- so it is with what was taken, whatever may still come
-abbrev pub AreNeeded : ScriptNames → List ℕ → Stage → (ℕ → ℕ) → Type 0
-AreNeeded known taken stage asks =
+abbrev pub AreNeeded : ScriptNames → List ℕ → Stage → List ℕ → Type 0
+AreNeeded known taken stage fetched =
     (source : Source) → GoesOn taken stage source →
-    IsWithinNeed known source asks (length taken)
+    IsWithinNeed known source fetched (length taken)
 
 -- a read fault is reported only if the part is broken
 abbrev pub IsRead : Result (Option Action) ScriptFault → PartView → Type 0

@@ -54,7 +54,7 @@ impl Script {
     ghost use Rattle.sg_edge.specs.declared.files.Stage.{Stage};
     ghost use Rattle.sg_script.specs.Frugal.{Frugal};
     ghost use Rattle.sg_script.specs.Known.{ScriptNames};
-    ghost use Rattle.sg_script.specs.Stands.{AreLimited, IsLimited, IsRead, LeadsAsk, BreaksOnFailure, actors_of, kept_of, Stands};
+    ghost use Rattle.sg_script.specs.Stands.{AreLimited, IsLimited, IsRead, LeadsFetch, BreaksOnFailure, actors_of, kept_of, Stands};
     ghost use Rattle.sg_script.specs.kept.Asks.{CanPass, IsAnswered, IsAtFront, IsIdle, IsReady, KeepsLimitsIf};
     ghost use Rattle.sg_script.specs.kept.Steps.{LineIs, LineTells, Pops, ReadIs, StepIs};
 
@@ -64,7 +64,7 @@ impl Script {
         ensures actors { IfOk result (λ s. actors_of s ≡ actors) }
         ensures stands { IfOk result
             (λ s. (known : ScriptNames) (stage : Stage)
-            → Stands known [] stage (λ _. 0) (kept_of s)) }
+            → Stands known [] stage [] (kept_of s)) }
         ensures waiting { IfOk result (λ s. (extent : Extent) → AreLimited extent (kept_of s)) }
     {
         Ok(Script {
@@ -277,7 +277,7 @@ impl Script {
         requires actors { actors_in deployment.now ≡ actors_of self.old }
         requires actor { actor.0 ≤ actors_of self.old }
         requires waiting { AreLimited (extent_of deployment.now) (kept_of self.old) }
-        ensures asked { LeadsAsk (known_in deployment.now) actor.0 result
+        ensures fetched { LeadsFetch (known_in deployment.now) actor.0 result
             (F.shows files.old Part.Script) (F.shows files.new Part.Script) (kept_of self.old)
             (kept_of self.new) }
         ensures limited { IsLimited (extent_of deployment.now) result }

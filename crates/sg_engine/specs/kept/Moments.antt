@@ -15,6 +15,7 @@ use Rattle.sg_calls.specs.World.{Core, IsActor, extent, state_of}
 use Rattle.sg_states.specs.Actors.{is_answered, is_ended}
 use Rattle.sg_engine.specs.World.{World}
 use Rattle.sg_rows.specs.Deployment.{Deployed, extent_of}
+use Rattle.sg_script.specs.Fetched.{fetches_of}
 use Rattle.sg_script.specs.Answer.{answer_of}
 use Rattle.sg_script.specs.Needed.{need_of}
 use Rattle.sg_script.specs.Rest.{GoesOn}
@@ -69,10 +70,10 @@ pub record IsFree (core : Core) (actor : ℕ) : Type 0 where
 abbrev pub LeavesFree : ℕ → Core → Core → Type 0
 LeavesFree actor old new = (other : ℕ) → other ≢ actor → IsFree old other → IsFree new other
 
--- the script stands for what was taken and asked, and less than a piece of what was taken isn't needed
-pub record ScriptStands (names : Names) (taken : List ℕ) (stage : Stage) (asks : ℕ → ℕ) (kept : Kept) : Type 0 where
-  pub stands : Stands names taken stage asks kept
-  pub needed : AreNeeded names taken stage asks
+-- the script stands for what was taken and fetched, and less than a piece of what was taken isn't needed
+pub record ScriptStands (names : Names) (taken : List ℕ) (stage : Stage) (fetched : List ℕ) (kept : Kept) : Type 0 where
+  pub stands : Stands names taken stage fetched kept
+  pub needed : AreNeeded names taken stage fetched
 
 -- what the actors have in mind that have begun, and how many contexts are left
 pub record Cast : Type 0 where
@@ -84,7 +85,7 @@ cast_of world = record { minds = world.minds; contexts = world.contexts }
 
 -- with these bytes of the script taken, the moment and the `Cast` stand for the world
 pub record StandsFor (names : Names) (taken : List ℕ) (had : Cast) (now : Moment) (world : World) : Type 0 where
-  pub script : ScriptStands names taken now.part.stage world.asks now.kept
+  pub script : ScriptStands names taken now.part.stage world.fetched now.kept
   pub core : now.kernel.core ≡ world.core
   pub cast : had ≡ cast_of world
 
@@ -92,7 +93,7 @@ pub record StandsFor (names : Names) (taken : List ℕ) (had : Cast) (now : Mome
 abbrev pub AnswersAll : Names → (Answering → Progress) → List ℕ → Type 0
 AnswersAll names whole taken = (rest : List ℕ) (broken : Bool) (actor earlier : ℕ) →
     let source : Source = record { bytes = taken ++ rest; broken = broken } in
-    earlier < (whole (answer_of names source)).world.asks actor → need_of names source actor earlier ≤ length taken
+    earlier < fetches_of (whole (answer_of names source)).world.fetched actor → need_of names source actor earlier ≤ length taken
 
 -- if so, no read met the end or failed
 abbrev pub StaysOpen : Names → (Answering → Progress) → List ℕ → Stage → Stage → Type 0
@@ -116,7 +117,7 @@ pub record IsStretch (spent : ℕ) (names : Names) (whole : Answering → Progre
 -- less than a piece of what was taken isn't needed by the fetches of the whole, for each source that continues from
 -- there
 abbrev pub AreNeededBy : Names → (Answering → Progress) → List ℕ → Stage → Type 0
-AreNeededBy names whole taken stage = (source : Source) → GoesOn taken stage source → IsWithinNeed names source (whole (answer_of names source)).world.asks (length taken)
+AreNeededBy names whole taken stage = (source : Source) → GoesOn taken stage source → IsWithinNeed names source (whole (answer_of names source)).world.fetched (length taken)
 
 -- the whole leaves no more contexts than that, for each source that continues from there
 abbrev pub LeavesContexts : Names → (Answering → Progress) → List ℕ → Stage → ℕ → Type 0

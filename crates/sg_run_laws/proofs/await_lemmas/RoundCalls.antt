@@ -14,7 +14,7 @@ use Rattle.sg_states.specs.Actors.{is_answered, is_ended, is_unstarted, not_susp
 use Rattle.sg_calls.specs.Calls.{answered, told}
 use Rattle.sg_calls.specs.Lives.{created}
 use Rattle.sg_calls.specs.World.{Core, MayCall, state_of}
-use Rattle.sg_script.specs.Stands.{one_more}
+use Rattle.sg_script.specs.Fetched.{fetches_of, one_more}
 use Rattle.sg_script.specs.declared.fault.ScriptFault.{ScriptFault}
 use Rattle.sg_engine.specs.World.{World}
 use Rattle.sg_engine.specs.declared.ended.Ended.TheVariants as ended
@@ -95,8 +95,8 @@ module _ (at : Scene) (answers : Answering) (actor : ℕ) where
 
   ask_leads : (world : World) → MayCall world.core actor → Leads at actor world.core (ask_step at.setup answers actor world).world.core
   ask_leads world may =
-      let next : World = record world { asks = one_more actor world.asks } in
-      let said = answers actor (world.asks actor) in
+      let next : World = record world { fetched = one_more actor world.fetched } in
+      let said = answers actor (fetches_of world.fetched actor) in
       either at actor world.core (world.core.events == at.setup.budget) (at_world (Some ended.Budget) world) (answer_step at.setup actor said next) (stays at actor world.core) (answer_leads said next may)
 
   creates_lead : (target : ActorId) (world : World) → MayCall world.core actor → Leads at actor world.core (creates at.firsts at.setup.budget actor target world).world.core

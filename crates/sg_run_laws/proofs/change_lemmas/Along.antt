@@ -11,7 +11,7 @@ use Rattle.sg_calls.specs.Calls.{answered}
 use Rattle.sg_calls.specs.Lives.{created}
 use Rattle.sg_kernel.specs.Passes.{pass_of}
 use Rattle.sg_calls.specs.World.{Core, state_of}
-use Rattle.sg_script.specs.Stands.{one_more}
+use Rattle.sg_script.specs.Fetched.{fetches_of, one_more}
 use Rattle.sg_script.specs.declared.fault.ScriptFault.{ScriptFault}
 use Rattle.sg_engine.specs.World.{World}
 use Rattle.sg_engine.specs.declared.ended.Ended.{Ended}
@@ -45,8 +45,8 @@ module _ (at : Scene) (answers : Answering) (R : Core → Core → List Record �
 
   ask_goes : (actor : ℕ) (world : World) → Goes world.core (ask_step at.setup answers actor world)
   ask_goes actor world =
-      let next : World = record world { asks = one_more actor world.asks } in
-      let said = answers actor (world.asks actor) in
+      let next : World = record world { fetched = one_more actor world.fetched } in
+      let said = answers actor (fetches_of world.fetched actor) in
       either world.core (world.core.events == at.setup.budget) (at_world (Some ended.Budget) world) (answer_step at.setup actor said next) (here (Some ended.Budget) world) (answer_goes said actor next)
 
   create_goes : (actor : ℕ) (target : ActorId) (world : World) → Goes world.core (creates at.firsts at.setup.budget actor target world)

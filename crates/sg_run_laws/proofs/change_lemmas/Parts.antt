@@ -17,7 +17,7 @@ use Rattle.sg_calls.specs.Lives.{created}
 use Rattle.sg_kernel.specs.Passes.{pass_of}
 use Rattle.sg_calls.specs.Steps.{Step}
 use Rattle.sg_calls.specs.World.{Core, state_of}
-use Rattle.sg_script.specs.Stands.{one_more}
+use Rattle.sg_script.specs.Fetched.{fetches_of, one_more}
 use Rattle.sg_script.specs.declared.fault.ScriptFault.{ScriptFault}
 use Rattle.sg_engine.specs.World.{World}
 use Rattle.sg_engine.specs.declared.ended.Ended.{Ended}
@@ -63,8 +63,8 @@ module _ (at : Scene) (answers : Answering) (P : Core → Type 0) (Q : Record �
 
   ask_kept : (actor : ℕ) (world : World) → is_ended (state_of world.core actor) ≡ false → P world.core → KeptOn P Q (ask_step at.setup answers actor world)
   ask_kept actor world lives p =
-      let next : World = record world { asks = one_more actor world.asks } in
-      let said = answers actor (world.asks actor) in
+      let next : World = record world { fetched = one_more actor world.fetched } in
+      let said = answers actor (fetches_of world.fetched actor) in
       on_either P Q (world.core.events == at.setup.budget) (at_world (Some ended.Budget) world) (answer_step at.setup actor said next) (on_at P Q (Some ended.Budget) world p) (answer_kept said actor next lives p)
 
   create_kept : (actor : ℕ) (target : ActorId) (world : World) → is_ended (state_of world.core actor) ≡ false → P world.core → KeptOn P Q (creates at.firsts at.setup.budget actor target world)

@@ -26,7 +26,7 @@ use Rattle.sg_calls.proofs.Finishes.{finishes_goes}
 use Rattle.sg_kernel.proofs.Hits.{rest_is_hit}
 use Rattle.sg_kernel.proofs.Skips.{finishes_leaves}
 use Rattle.sg_script.specs.declared.fault.ScriptFault.{ScriptFault}
-use Rattle.sg_script.specs.Stands.{one_more}
+use Rattle.sg_script.specs.Fetched.{fetches_of, one_more}
 use Rattle.sg_engine.specs.World.{World}
 use Rattle.sg_engine.specs.declared.ended.Ended.{Ended}
 use Rattle.sg_engine.specs.declared.ended.Ended.TheVariants as ended
@@ -65,26 +65,26 @@ module _ (at : Scene) (answers : Answering) (actor : ℕ) where
       by true spent = refl
       by false spent = so (call_happens at.roads at.setup world.core actor up (minds_waits at world m) what) spent
 
-  asked_stays : (found : Result (Option Action) ScriptFault) (asks : ℕ → ℕ) (world : World) → Spent (answer_step at.setup actor found (record world { asks = asks })) → Stays world (answer_step at.setup actor found (record world { asks = asks }))
-  asked_stays (Ok action) asks world = by (world.core.events == at.setup.budget)
+  asked_stays : (found : Result (Option Action) ScriptFault) (fetched : List ℕ) (world : World) → Spent (answer_step at.setup actor found (record world { fetched = fetched })) → Stays world (answer_step at.setup actor found (record world { fetched = fetched }))
+  asked_stays (Ok action) fetched world = by (world.core.events == at.setup.budget)
     where
       next : World
-      next = record world { asks = asks }
+      next = record world { fetched = fetched }
 
       by : (b : Bool) → Spent (in_world next (cond b (stops world.core [] stop.Budget) (goes_on (readied actor (answer_of_ask action) (counted world.core)) []))) → Stays world (in_world next (cond b (stops world.core [] stop.Budget) (goes_on (readied actor (answer_of_ask action) (counted world.core)) [])))
       by true spent = refl
       by false spent = absurd (cc spent)
-  asked_stays (Err why) asks world = λ spent. refl
+  asked_stays (Err why) fetched world = λ spent. refl
 
   ask_stays : (world : World) → Spent (ask_step at.setup answers actor world) → Stays world (ask_step at.setup answers actor world)
   ask_stays world = by (world.core.events == at.setup.budget)
     where
       step : Progress
-      step = answer_step at.setup actor (answers actor (world.asks actor)) (record world { asks = one_more actor world.asks })
+      step = answer_step at.setup actor (answers actor (fetches_of world.fetched actor)) (record world { fetched = one_more actor world.fetched })
 
       by : (b : Bool) → Spent (cond b (at_world (Some ended.Budget) world) step) → Stays world (cond b (at_world (Some ended.Budget) world) step)
       by true spent = refl
-      by false spent = asked_stays (answers actor (world.asks actor)) (one_more actor world.asks) world spent
+      by false spent = asked_stays (answers actor (fetches_of world.fetched actor)) (one_more actor world.fetched) world spent
 
   create_stays : (target : ActorId) (world : World) → Spent (creates at.firsts at.setup.budget actor target world) → Stays world (creates at.firsts at.setup.budget actor target world)
   create_stays target world = by (world.core.events == at.setup.budget) (is_given target world)

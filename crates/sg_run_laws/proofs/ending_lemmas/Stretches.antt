@@ -22,7 +22,7 @@ use Rattle.sg_calls.specs.Calls.{answer_of_ask, answered, answered_call, told}
 use Rattle.sg_calls.specs.Lives.{created}
 use Rattle.sg_calls.specs.Steps.{Step, goes_on, stops, counted, readied}
 use Rattle.sg_calls.specs.World.{Core, state_of}
-use Rattle.sg_script.specs.Stands.{one_more}
+use Rattle.sg_script.specs.Fetched.{fetches_of, one_more}
 use Rattle.sg_script.specs.declared.fault.ScriptFault.{ScriptFault}
 use Rattle.sg_script.specs.declared.fault.ScriptFault.TheVariants as fault
 use Rattle.sg_engine.specs.World.{World}
@@ -387,12 +387,12 @@ module _ (at : Scene) (answers : Answering) (actor : ℕ) where
       })
 
   module _ (world : World) (m : Minds at world) (up : is_unstarted (state_of world.core actor) ≡ false) where
-    answer_calls : (found : Result (Option Action) ScriptFault) (asks : ℕ → ℕ) → Calls at world (answer_step at.setup actor found (record world { asks = asks }))
-    answer_calls (Ok action) asks = step_calls world (record world { asks = asks }) (told at.setup world.core actor action) refl refl m (told_steps action world.core up (minds_waits at world m))
-    answer_calls (Err why) asks = record {
+    answer_calls : (found : Result (Option Action) ScriptFault) (fetched : List ℕ) → Calls at world (answer_step at.setup actor found (record world { fetched = fetched }))
+    answer_calls (Ok action) fetched = step_calls world (record world { fetched = fetched }) (told at.setup world.core actor action) refl refl m (told_steps action world.core up (minds_waits at world m))
+    answer_calls (Err why) fetched = record {
       stretch = record {
         minds = m;
-        traced = traced_none world (record world { asks = asks }) [] refl (λ i. refl) (λ i d within. absurd (omega (arith, within)));
+        traced = traced_none world (record world { fetched = fetched }) [] refl (λ i. refl) (λ i d within. absurd (omega (arith, within)));
         date = refl;
         turns = refl;
         more = omega arith;
@@ -405,9 +405,9 @@ module _ (at : Scene) (answers : Answering) (actor : ℕ) where
     ask_calls : Calls at world (ask_step at.setup answers actor world)
     ask_calls = by (world.core.events == at.setup.budget) refl
       where
-        by : (b : Bool) → (world.core.events == at.setup.budget) ≡ b → Calls at world (cond b (at_world (Some ended.Budget) world) (answer_step at.setup actor (answers actor (world.asks actor)) (record world { asks = one_more actor world.asks })))
+        by : (b : Bool) → (world.core.events == at.setup.budget) ≡ b → Calls at world (cond b (at_world (Some ended.Budget) world) (answer_step at.setup actor (answers actor (fetches_of world.fetched actor)) (record world { fetched = one_more actor world.fetched })))
         by true e = ends_calls world ended.Budget (spent at world ((same_or world.core.events at.setup.budget).0 e) m)
-        by false e = answer_calls (answers actor (world.asks actor)) (one_more actor world.asks)
+        by false e = answer_calls (answers actor (fetches_of world.fetched actor)) (one_more actor world.fetched)
 
     create_calls : (target : ActorId) → Calls at world (creates at.firsts at.setup.budget actor target world)
     create_calls target = by (world.core.events == at.setup.budget) refl

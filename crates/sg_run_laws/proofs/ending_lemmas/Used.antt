@@ -14,7 +14,7 @@ use Rattle.sg_calls.specs.Steps.{Step, stops}
 use Rattle.sg_calls.specs.World.{state_of}
 use Rattle.sg_calls.proofs.Each.{eq_yes}
 use Rattle.sg_kernel.proofs.Passed.{pass_used}
-use Rattle.sg_script.specs.Stands.{one_more}
+use Rattle.sg_script.specs.Fetched.{fetches_of, one_more}
 use Rattle.sg_engine.specs.World.{World}
 use Rattle.sg_engine.specs.declared.ended.Ended.{Ended}
 use Rattle.sg_engine.specs.declared.ended.Ended.TheVariants as ended
@@ -42,7 +42,7 @@ module _ (at : Scene) (answers : Answering) where
       yes = eq_yes world.core.events at.setup.budget used
 
       other : (b : Bool) → cond b (ask_step at.setup answers actor world) (in_world world (answered at.roads at.setup world.core actor what)) ≡ at_world (Some ended.Budget) world
-      other true = ap (λ (b : Bool). cond b (at_world (Some ended.Budget) world) (answer_step at.setup actor (answers actor (world.asks actor)) (record world { asks = one_more actor world.asks }))) yes
+      other true = ap (λ (b : Bool). cond b (at_world (Some ended.Budget) world) (answer_step at.setup actor (answers actor (fetches_of world.fetched actor)) (record world { fetched = one_more actor world.fetched }))) yes
       other false = ap (λ (b : Bool). in_world world (cond b (stops world.core [] stop.Budget) (answered_call at.roads at.setup world.core actor what))) yes
 
       by : (o : Option ActorId) → option_map_or (λ target. creates at.firsts at.setup.budget actor target world) o (other_call at answers actor what world) ≡ at_world (Some ended.Budget) world

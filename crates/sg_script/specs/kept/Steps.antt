@@ -1,5 +1,5 @@
 -- The steps by which a fetch is answered: taking a line, and reading a piece.
-use Rattle.std.specs.Prelude.{◌≡◌, ℕ, Bool, ◌+◌, ◌-◌, ◌++◌, List, [], length, Option, Result, ◌≢◌, ◌<◌, suc, Ok, Err, ◌≤◌, ◌*◌, slice_set, None, Some, drop, IfNone, ⊤}
+use Rattle.std.specs.Prelude.{◌≡◌, ℕ, Bool, ◌+◌, ◌-◌, ◌++◌, List, [], length, Option, Result, ◌≢◌, ◌<◌, suc, Ok, Err, ◌≤◌, ◌*◌, slice_set, None, Some, drop, IfNone, if◌then◌else◌, ◌==◌, ⊤}
 use Rattle.sg_edge.specs.Files.{PartView}
 use Rattle.sg_edge.specs.declared.files.Stage.{Stage}
 use Rattle.sg_base.specs.declared.call.Action.{Action}
@@ -12,7 +12,7 @@ use Rattle.sg_script.specs.declared.fault.ScriptFault.TheVariants.{Line, Read, M
 use Rattle.sg_script.specs.declared.line.Entry.{Entry}
 use Rattle.sg_script.specs.declared.waiting.Waiting.{Waiting}
 use Rattle.sg_script.specs.Line.{Judgement}
-use Rattle.sg_script.specs.Stands.{Kept, answer_from, one_more, Reads, IsRead}
+use Rattle.sg_script.specs.Stands.{Kept, answer_from, Reads, IsRead}
 use Rattle.sg_script.specs.kept.Spending.{IsThrifty, Spends}
 
 -- reading this piece, and moving lines into queues, changed no answer
@@ -36,11 +36,11 @@ pub record Tells (known : ScriptNames) (actor : ℕ) (answer : Result (Option Ac
       ≡ answer_from known new rest broken other later
 
 -- no fetch of any actor, and one of this actor
-abbrev pub no_ask : ℕ → ℕ
-no_ask other = 0
+abbrev pub no_fetch : ℕ → ℕ
+no_fetch other = 0
 
-abbrev pub one_ask : ℕ → ℕ → ℕ
-one_ask actor = one_more actor no_ask
+abbrev pub one_fetch : ℕ → ℕ → ℕ
+one_fetch actor other = if other == actor then 1 else 0
 
 -- for this actor's fetch the script continues as it was, except for what was read
 pub record Goes (known : ScriptNames) (actor : ℕ) (old_part new_part : PartView)
@@ -48,7 +48,7 @@ pub record Goes (known : ScriptNames) (actor : ℕ) (old_part new_part : PartVie
   pub piece : List ℕ
   pub reads : Reads piece old_part new_part
   pub thrifty : IsThrifty known actor old_part.stage new_part.stage piece old
-  pub spends : Spends known new_part.stage piece no_ask old new
+  pub spends : Spends known new_part.stage piece no_fetch old new
   pub moves : Moves known new_part.stage piece old new
   pub queues : length new.queues ≡ length old.queues
 
@@ -58,7 +58,7 @@ pub record Answers (known : ScriptNames) (actor : ℕ) (answer : Result (Option 
   pub piece : List ℕ
   pub reads : Reads piece old_part new_part
   pub thrifty : IsThrifty known actor old_part.stage new_part.stage piece old
-  pub spends : Spends known new_part.stage piece (one_ask actor) old new
+  pub spends : Spends known new_part.stage piece (one_fetch actor) old new
   pub tells : Tells known actor answer new_part.stage piece old new
   pub queues : length new.queues ≡ length old.queues
 

@@ -9,18 +9,18 @@ returns-then-is_used_up-clause-step g c = λ cast taken world stands.
 
 pub returns-in-Ok-clause-step : goal.returns-in-Ok-clause-step
 returns-in-Ok-clause-step g c = λ cast taken world stands.
-    told_to _ taken cast _ _ _ _ c.args.kernel.now c.tell.new.self _ world c.args.actor.0 c.in-Ok.action c.end_of.result stands (sym c.is_used_up.ensures ∙ c.if-is_used_up.false) (c.in-Ok.ensures.asked taken world.asks stands.script.stands) c.tell.ensures.step
+    told_to _ taken cast _ _ _ _ c.args.kernel.now c.tell.new.self _ world c.args.actor.0 c.in-Ok.action c.end_of.result stands (sym c.is_used_up.ensures ∙ c.if-is_used_up.false) (c.in-Ok.ensures.fetched taken world.fetched stands.script.stands) c.tell.ensures.step
     (c.end_of.ensures.is _ c.tell.ensures.result)
 
 pub returns-in-Err-Line-clause-step : goal.returns-in-Err-Line-clause-step
 returns-in-Err-Line-clause-step g c = λ cast taken world stands.
-    rw (c.in-Err-Line.number-is, c.in-Err-Line.kind-is) (asked_to _ taken cast _ _ _ _ c.args.kernel.now world c.args.actor.0 _ stands (sym c.is_used_up.ensures ∙ c.if-is_used_up.false) (rw c.in-Err-Line.field-0-is at (c.in-Err-Line.ensures.asked taken world.asks stands.script.stands)))
+    rw (c.in-Err-Line.number-is, c.in-Err-Line.kind-is) (asked_to _ taken cast _ _ _ _ c.args.kernel.now world c.args.actor.0 _ stands (sym c.is_used_up.ensures ∙ c.if-is_used_up.false) (rw c.in-Err-Line.field-0-is at (c.in-Err-Line.ensures.fetched taken world.fetched stands.script.stands)))
 
 pub returns-in-Err-Read-clause-step : goal.returns-in-Err-Read-clause-step
 returns-in-Err-Read-clause-step g c = λ cast taken world stands.
-    asked_to _ taken cast _ _ _ _ c.args.kernel.now world c.args.actor.0 _ stands (sym c.is_used_up.ensures ∙ c.if-is_used_up.false) (rw c.in-Err-Read.field-0-is at (c.in-Err-Read.ensures.asked taken world.asks stands.script.stands))
+    asked_to _ taken cast _ _ _ _ c.args.kernel.now world c.args.actor.0 _ stands (sym c.is_used_up.ensures ∙ c.if-is_used_up.false) (rw c.in-Err-Read.field-0-is at (c.in-Err-Read.ensures.fetched taken world.fetched stands.script.stands))
 
 pub returns-in-Err-Memory-clause-step : goal.returns-in-Err-Memory-clause-step
 returns-in-Err-Memory-clause-step g c = λ cast taken world stands.
-    let cut : IsCut _ taken world.asks _ _ _ _ = rw c.in-Err-Memory.field-0-is at (c.in-Err-Memory.ensures.asked taken world.asks stands.script.stands) in
+    let cut : IsCut _ taken world.fetched _ _ _ _ = rw c.in-Err-Memory.field-0-is at (c.in-Err-Memory.ensures.fetched taken world.fetched stands.script.stands) in
     cut_asked _ taken cast _ _ _ _ c.args.kernel.now world c.args.actor.0 stands (sym c.is_used_up.ensures ∙ c.if-is_used_up.false) cut
