@@ -1,15 +1,12 @@
 -- Calls by which endpoints of communications arrive, and others.
-use Rattle.std.proofs.Common.{◌≡◌, ◌≢◌, ℕ, ◌==◌, Bool, true, false, cond, Ok, Result, Option, None, Some, List, [], ◌∷◌, refl, sym, ap, subst, arith}
+use Rattle.std.proofs.Common.{◌≡◌, ℕ, ◌==◌, Bool, true, false, cond, Ok, Result, Option, None, Some, List, [], ◌∷◌, refl, sym, ap, subst, ◌∙◌, arith}
 use Rattle.sg_base.specs.declared.call.Answer.{Answer}
 use Rattle.sg_base.specs.declared.call.Call.{Call}
 use Rattle.sg_base.specs.declared.call.Call.TheVariants as call
-use Rattle.sg_base.specs.declared.call.Msg.{Msg}
 use Rattle.sg_base.specs.declared.ids.ActorId.{ActorId}
-use Rattle.sg_base.specs.declared.ids.BoxId.{BoxId}
 use Rattle.sg_base.specs.Limits.{IsActorIn, IsAmount, IsMsg, IsRate}
 use Rattle.sg_base.specs.Lines.{HasLine}
 use Rattle.sg_base.specs.declared.awaits.Await.{Await}
-use Rattle.sg_mailbox.specs.declared.sides.Side.{Side}
 use Rattle.sg_requests.specs.Requested.{oldest, queue_at, queues_without_oldest}
 use Rattle.sg_route.specs.Roads.{Roads}
 use Rattle.sg_sync.specs.Objects.{Done, locked, unlocked, acquired, released, arrived}
@@ -22,25 +19,25 @@ use Rattle.sg_mailbox.specs.declared.owners.Whose.{Whose}
 use Rattle.sg_mailbox.specs.declared.owners.Whose.TheVariants.{Over, Alone, Posted, Pair}
 use Rattle.sg_calls.specs.declared.simulation_state.Fields.{Fields}
 use Rattle.sg_calls.specs.declared.stop.Stop.{Stop}
-use Rattle.sg_calls.specs.declared.stop.Stop.TheVariants.{Budget}
 use Rattle.sg_setup.specs.Setup.{Setup}
 use Rattle.sg_calls.specs.World.{Core, extent, host_of, state_of, whose_at}
 use Rattle.sg_calls.specs.Known.{after_call}
-use Rattle.sg_calls.specs.Steps.{Step, all_of, counted, each, result_of, stops}
+use Rattle.sg_calls.specs.Steps.{Step, all_of, counted, each, unless_used}
 use Rattle.sg_calls.specs.Answers.{side_of}
-use Rattle.sg_calls.specs.Meetings.{comer_of, sends_by, receives_by, answer_of_over, waits_by, waits_until}
+use Rattle.sg_calls.specs.Meetings.{answer_of_over, comer_of, comes, receives_by, sends_by, waits_by, waits_until}
 use Rattle.sg_calls.specs.Locks.{caller_gets, all_wake, caller_first, caller_last, joiners_wake, with_objects}
 use Rattle.sg_calls.specs.Lives.{joins_by, with_actor_ended}
 use Rattle.sg_calls.specs.Kills.{awaited, gives_up, gives_up_by, kill_done, kill_stretches, kills, withdrawn}
 use Rattle.sg_calls.specs.Calls.{answered, answered_call, computes}
-use Rattle.sg_calls.specs.kept.Acts.{CanCome, CanMake, CanName, Replies}
+use Rattle.sg_calls.specs.kept.Acts.{CanCome, CanMake, CanName, CountsOne, Replies}
 use Rattle.sg_calls.specs.kept.Asks.{CanAnswer}
 use Rattle.sg_calls.specs.kept.Sound.{comes_in, core_of, known_of, setup_in}
 use Rattle.sg_calls.specs.kept.Whole.{CanStep, IsWhole}
-use Rattle.sg_calls.proofs.Each.{both_on, each_on, eq_no}
+use Rattle.sg_calls.proofs.Each.{both_on, each_on}
 use Rattle.sg_calls.proofs.Finishes.{finishes_goes}
 use Rattle.sg_calls.proofs.Limits.{homes_counted}
 use Rattle.sg_calls.proofs.Moves.{can_step}
+use Rattle.sg_calls.proofs.Replied.{counted_replies}
 use Rattle.sg_calls.proofs.Woken.{all_on, caller_goes}
 
 -- an actor that is named by a call exists
@@ -48,27 +45,67 @@ pub can_name : (fields : Fields) (actor : ℕ) (target : ActorId) → CanStep fi
 can_name fields actor target able is = record { able = able; target = record { from = is.0; to = omega (arith, is.1, homes_counted fields able.whole.sound) } }
 
 -- ---- an endpoint arrives by a call of its actor
-side_comes : (fields : Fields) (one : Comer) → CanMake fields one.side.actor.0 one.what → HasLine one.what → IsAmount one.side.bytes → IsMsg one.side.msg → IsRate one.side.rate → CanCome fields one
-side_comes fields one makes told bytes message rate =
-    let caller = makes.able.call.caller in
-    record {
-      able = makes.able;
-      comer = record {
-        what = record { told = told; call = makes.call };
-        side = record { actor = (caller.from, omega (arith, caller.to, homes_counted fields makes.able.whole.sound)); bytes = bytes; message = message; rate = rate };
-      };
-    }
+side_comes : (fields : Fields) (one : Comer) → CanAnswer fields one.side.actor.0 one.what → HasLine one.what → IsAmount one.side.bytes → IsMsg one.side.msg → IsRate one.side.rate → CanCome fields one
+side_comes fields one can told bytes message rate = record {
+  call = record { caller = can.caller; room = can.room; round = can.whole.round };
+  comer = record {
+    what = record { told = told; call = can.call };
+    side = record { actor = (can.caller.from, omega (arith, can.caller.to, homes_counted fields can.whole.sound)); bytes = bytes; message = message; rate = rate };
+  };
+  whole = can.whole;
+}
 
--- to send what it brings
-pub sender_comes : (fields : Fields) (actor : ℕ) (what : Call) (waits : Bool) (mailbox : BoxId) (bytes : ℕ) (message : Msg) (rate : ℕ) (side : Side) → side ≡ side_of actor bytes message rate → CanMake fields actor what → HasLine what → IsAmount bytes → IsMsg message → IsRate rate →
-    CanCome fields (sends_by side what waits mailbox)
-sender_comes fields actor what waits mailbox bytes message rate side is makes told few short slow =
-    subst (λ (s : Side). CanCome fields (sends_by s what waits mailbox)) (sym is)
-    (side_comes fields (sends_by (side_of actor bytes message rate) what waits mailbox) makes told few short slow)
+some_same : {X : Type 0} {x y : X} → Some x ≡ Some y → x ≡ y
+some_same e = cc e
 
--- or to receive
-pub receiver_comes : (fields : Fields) (actor : ℕ) (what : Call) (waits : Bool) (mailbox : BoxId) → CanMake fields actor what → HasLine what → CanCome fields (receives_by actor what waits mailbox)
-receiver_comes fields actor what waits mailbox makes told = side_comes fields (receives_by actor what waits mailbox) makes told (omega arith) tt (omega arith)
+pub can_come : (fields : Fields) (actor : ℕ) (what : Call) (comer : Comer) → comer_of actor what ≡ Some comer → CanAnswer fields actor what → CanCome fields comer
+can_come fields actor call.Ask comer e can = absurd (cc e)
+can_come fields actor (call.Compute n p) comer e can = absurd (cc e)
+can_come fields actor (call.Sleep n) comer e can = absurd (cc e)
+can_come fields actor (call.Send b n m r) comer e can = subst (CanCome fields) (some_same e) (side_comes fields (sends_by (side_of actor n m r) (call.Send b n m r) true b) can tt can.call.1 can.call.2 can.call.3)
+can_come fields actor (call.Recv b) comer e can = subst (CanCome fields) (some_same e) (side_comes fields (receives_by actor (call.Recv b) true b) can tt (omega arith) tt (omega arith))
+can_come fields actor (call.ISend b n m r) comer e can = subst (CanCome fields) (some_same e) (side_comes fields (sends_by (side_of actor n m r) (call.ISend b n m r) false b) can tt can.call.1 can.call.2 can.call.3)
+can_come fields actor (call.IRecv b) comer e can = subst (CanCome fields) (some_same e) (side_comes fields (receives_by actor (call.IRecv b) false b) can tt (omega arith) tt (omega arith))
+can_come fields actor call.Wait comer e can = absurd (cc e)
+can_come fields actor (call.Lock n) comer e can = absurd (cc e)
+can_come fields actor (call.Unlock n) comer e can = absurd (cc e)
+can_come fields actor (call.Acquire n) comer e can = absurd (cc e)
+can_come fields actor (call.Release n) comer e can = absurd (cc e)
+can_come fields actor call.Barrier comer e can = absurd (cc e)
+can_come fields actor (call.Create n) comer e can = absurd (cc e)
+can_come fields actor (call.Join n) comer e can = absurd (cc e)
+can_come fields actor (call.Kill n) comer e can = absurd (cc e)
+can_come fields actor (call.Suspend n) comer e can = absurd (cc e)
+can_come fields actor (call.Resume n) comer e can = absurd (cc e)
+can_come fields actor call.Yield comer e can = absurd (cc e)
+can_come fields actor call.Exit comer e can = absurd (cc e)
+
+-- what it leads to
+comes_by_call : (roads : Roads) (setup : Setup) (core : Core) (actor : ℕ) (what : Call) (comer : Comer) → comer_of actor what ≡ Some comer → answered_call roads setup core actor what ≡ comes roads setup comer core
+comes_by_call roads setup core actor call.Ask comer e = absurd (cc e)
+comes_by_call roads setup core actor (call.Compute n p) comer e = absurd (cc e)
+comes_by_call roads setup core actor (call.Sleep n) comer e = absurd (cc e)
+comes_by_call roads setup core actor (call.Send b n m r) comer e = ap (λ one. comes roads setup one core) (some_same e)
+comes_by_call roads setup core actor (call.Recv b) comer e = ap (λ one. comes roads setup one core) (some_same e)
+comes_by_call roads setup core actor (call.ISend b n m r) comer e = ap (λ one. comes roads setup one core) (some_same e)
+comes_by_call roads setup core actor (call.IRecv b) comer e = ap (λ one. comes roads setup one core) (some_same e)
+comes_by_call roads setup core actor call.Wait comer e = absurd (cc e)
+comes_by_call roads setup core actor (call.Lock n) comer e = absurd (cc e)
+comes_by_call roads setup core actor (call.Unlock n) comer e = absurd (cc e)
+comes_by_call roads setup core actor (call.Acquire n) comer e = absurd (cc e)
+comes_by_call roads setup core actor (call.Release n) comer e = absurd (cc e)
+comes_by_call roads setup core actor call.Barrier comer e = absurd (cc e)
+comes_by_call roads setup core actor (call.Create n) comer e = absurd (cc e)
+comes_by_call roads setup core actor (call.Join n) comer e = absurd (cc e)
+comes_by_call roads setup core actor (call.Kill n) comer e = absurd (cc e)
+comes_by_call roads setup core actor (call.Suspend n) comer e = absurd (cc e)
+comes_by_call roads setup core actor (call.Resume n) comer e = absurd (cc e)
+comes_by_call roads setup core actor call.Yield comer e = absurd (cc e)
+comes_by_call roads setup core actor call.Exit comer e = absurd (cc e)
+
+pub comer_replies : (roads : Roads) (old new : Fields) (actor : ℕ) (what : Call) (comer : Comer) (reply : Result Unit Stop) → comer_of actor what ≡ Some comer → Replies (comes_in roads comer old) old new reply → Replies (answered roads (setup_in old) (core_of old) actor what) old new reply
+comer_replies roads old new actor what comer reply is does =
+    subst (λ (step : Step). Replies (unless_used old.budget (core_of old) step) old new reply) (sym (comes_by_call roads (setup_in old) (core_of old) actor what comer is)) does
 
 -- ---- any other call continues
 first_goes : (done : Done) (actor : ℕ) (what : Call) (core : Core) → (caller_first done actor what core).stop ≡ None
@@ -158,27 +195,14 @@ alone_goes roads setup core actor call.Yield e = refl
 alone_goes roads setup core actor call.Exit e = all_on (joiners actor 1 (with_actor_ended actor core).actors) (with_actor_ended actor (counted core))
 
 -- ---- in the budget
-pub can_make : (fields : Fields) (actor : ℕ) (one what : Call) → one ≡ what → CanAnswer fields actor one → fields.events ≢ fields.budget → CanMake fields actor what
-can_make fields actor one what is can left = subst (CanMake fields actor) is (record { able = can_step fields actor can.whole can.caller can.room left; call = can.call })
+pub can_make : (old mid : Fields) (actor : ℕ) (one what : Call) → one ≡ what → CountsOne old mid → CanAnswer old actor one → CanMake mid actor what
+can_make old mid actor one what is counts can =
+    subst (CanMake mid actor) is (subst (λ (fields : Fields). CanMake fields actor one) (sym counts.counted) (record { able = can_step old actor can.whole can.caller can.room counts.left; call = can.call }))
 
-in_budget : (roads : Roads) (old new : Fields) (actor : ℕ) (what : Call) (reply : Result Unit Stop) → old.events ≢ old.budget → Replies (answered_call roads (setup_in old) (core_of old) actor what) old new reply →
-    Replies (answered roads (setup_in old) (core_of old) actor what) old new reply
-in_budget roads old new actor what reply left does =
+-- a call that brings no endpoint, by its row
+pub row_replies : (roads : Roads) (old mid new : Fields) (actor : ℕ) (one what : Call) (does : Setup → Core → Step) → one ≡ what → CountsOne old mid → comer_of actor what ≡ None → answered_call roads (setup_in old) (core_of old) actor what ≡ does (setup_in old) (counted (core_of old)) →
+    known_of new ≡ after_call true (does (setup_in mid) (core_of mid)) (known_of mid) → IsWhole new → Replies (answered roads (setup_in old) (core_of old) actor one) old new (Ok tt)
+row_replies roads old mid new actor one what does is counts alone row known whole =
     let step = answered_call roads (setup_in old) (core_of old) actor what in
-    let go : (old.events == old.budget) ≡ false = eq_no old.events old.budget left in
-    subst (λ b. Replies (cond b (stops (core_of old) [] Budget) step) old new reply) (sym go) does
-
--- a call that is no side of a communication
-pub alone_replies : (roads : Roads) (old new : Fields) (actor : ℕ) (one what : Call) → one ≡ what → old.events ≢ old.budget → comer_of actor what ≡ None →
-    known_of new ≡ after_call true (answered_call roads (setup_in old) (core_of old) actor what) (known_of old) → IsWhole new → Replies (answered roads (setup_in old) (core_of old) actor one) old new (Ok tt)
-alone_replies roads old new actor one what is left alone known whole =
-    let goes = alone_goes roads (setup_in old) (core_of old) actor what alone in
     subst (λ (w : Call). Replies (answered roads (setup_in old) (core_of old) actor w) old new (Ok tt)) (sym is)
-    (in_budget roads old new actor what (Ok tt) left (record { known = known; result = sym (ap result_of goes); whole = whole }))
-
--- one that is, by the arriving endpoint
-pub side_replies : (roads : Roads) (old new : Fields) (actor : ℕ) (one what : Call) (comer : Comer) (reply : Result Unit Stop) → one ≡ what → old.events ≢ old.budget → comes_in roads comer old ≡ answered_call roads (setup_in old) (core_of old) actor what →
-    Replies (comes_in roads comer old) old new reply → Replies (answered roads (setup_in old) (core_of old) actor one) old new reply
-side_replies roads old new actor one what comer reply is left row does =
-    subst (λ (w : Call). Replies (answered roads (setup_in old) (core_of old) actor w) old new reply) (sym is)
-    (in_budget roads old new actor what reply left (subst (λ (step : Step). Replies step old new reply) row does))
+    (counted_replies old mid new step does counts row (sym (ap (λ (s : Step). s.stop) row) ∙ alone_goes roads (setup_in old) (core_of old) actor what alone) (record { known = known; whole = whole }))

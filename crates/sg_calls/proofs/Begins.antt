@@ -1,5 +1,5 @@
 -- What is kept, as an activity begins: all except the room of the call that is answered so.
-use Rattle.std.proofs.Common.{◌≡◌, ℕ, ◌-◌, ◌<◌, ◌≤◌, ◌++◌, ◌∷◌, [], Some, length, sym, ap, subst, ◌∙◌, arith, ◌≢◌, ◌+◌}
+use Rattle.std.proofs.Common.{◌≡◌, ℕ, ◌-◌, ◌<◌, ◌≤◌, ◌++◌, ◌∷◌, [], Some, length, sym, ap, subst, ◌∙◌, arith}
 use Rattle.std.specs.List.{All}
 use Rattle.std.proofs.lemmas.List.{length-append}
 use Rattle.std.proofs.lemmas.List.Elements.{All-push}
@@ -58,32 +58,3 @@ whole_begun fields room actor task doing whose is fresh begun owned was =
       held = held_with fields doing whose fields.boxes was.held;
       round = was.round;
     }
-
--- ---- an event is counted
-pub sound_counted : (fields : Fields) → fields.events ≢ fields.budget → IsSound fields → IsSound (record fields { events = fields.events + 1 })
-sound_counted fields go was = record {
-  numbered = was.numbered;
-  few = omega (arith, was.few);
-  within = omega (arith, was.within, go);
-  budgeted = was.budgeted;
-  hosts_counted = was.hosts_counted;
-  links_counted = was.links_counted;
-  homes_known = was.homes_known;
-  hosts_known = was.hosts_known;
-  requests_known = was.requests_known;
-  requests_few = omega (arith, was.requests_few);
-  extent_is = was.extent_is;
-  network_kept = was.network_kept;
-}
-
-pub held_counted : (fields : Fields) → AreHeld fields → AreHeld (record fields { events = fields.events + 1 })
-held_counted fields was = record {
-  owners = was.owners;
-  counts = was.counts;
-  actors = was.actors;
-  few = λ k d within. omega (arith, was.few k d within);
-  once = was.once;
-  held = was.held;
-  locking = was.locking;
-  acquiring = was.acquiring;
-}

@@ -1,5 +1,5 @@
 -- Steps one after another.
-use Rattle.std.proofs.Common.{◌≡◌, ◌≢◌, ℕ, ◌-◌, ◌==◌, true, false, Option, None, Some, Result, Ok, Err, List, [], ◌∷◌, refl, sym, ap, ◌∙◌, arith, append_assoc, append-nil}
+use Rattle.std.proofs.Common.{◌≡◌, ◌≢◌, ℕ, ◌-◌, ◌==◌, true, false, Option, None, Some, Result, Ok, Err, List, [], ◌∷◌, refl, sym, ap, ap₂, ◌∙◌, arith, append_assoc, append-nil}
 use Rattle.std.specs.Prelude.{OnOk}
 use Rattle.sg_base.specs.declared.trace_record.Record.{Record}
 use Rattle.sg_calls.specs.declared.stop.Stop.{Stop}
@@ -47,6 +47,10 @@ ok_anyway (Err why) p = tt
 -- a stop makes nothing, and changes nothing
 pub after_stop : (known : Known) (why : Stop) → after (stops known.core [] why) known ≡ known
 after_stop known why = ap (λ r. record known { records = r }) (append-nil known.records)
+
+-- so it is if a call isn't answered
+pub refused : (known : Known) (why : Stop) → known ≡ after_call false (stops known.core [] why) known
+refused known why = (let same : known.room ≡ known.room - 0 = omega arith in ap₂ (λ (r : List Record) (n : ℕ). record known { records = r; room = n }) (sym (append-nil known.records)) same)
 
 -- a call that makes no record
 pub called_alone : (known : Known) (core : Core) → record known { core = core; room = known.room - 1 } ≡ after_call true (goes_on core []) known

@@ -49,7 +49,7 @@ use Rattle.sg_calls.proofs.Begins.{held_with, sound_with}
 use Rattle.sg_calls.proofs.Each.{all_of-two, each_on, eq_no, eq_yes, still_none, still_one, then_after}
 use Rattle.sg_calls.proofs.Limits.{homes_counted}
 use Rattle.sg_calls.proofs.Meets.{AreBusy, AreIdle, busy_over, idle_over, made_at, made_more, AreMade}
-use Rattle.sg_calls.proofs.Moves.{moves_long, sound_moved, whole_counted, whole_moved, Moves}
+use Rattle.sg_calls.proofs.Moves.{moves_long, sound_moved, whole_moved, Moves}
 use Rattle.sg_calls.proofs.PostsKept.{meeting_gone}
 use Rattle.sg_calls.proofs.Stated.{awaiting_more, awaiting_state, state_other, AreAwaiting}
 use Rattle.sg_calls.proofs.Timely.{IsTimelyAt}
@@ -373,19 +373,16 @@ killed_room old new actor target date is = ap (λ (s : ActorStates). s.room) is 
 
 -- all that holds before holds after
 pub whole_killed : (fields : Fields) (states : ActorStates) (actor : ℕ) (target : ActorId) (date : ℕ) (requests : Requested) (objects : Objects) → CanStep fields actor → IsActor (core_of fields) target.0 → states ≡ killed_by actor target date fields.states
-    → requests ≡ record fields.requests { queues = without_requests fields.requests.queues target.0; awaited = requests.awaited } → objects ≡ sync.after_withdrawal target fields.objects → IsWhole (record fields { states = states; requests = requests; objects = objects; events = fields.events + 1 })
+    → requests ≡ record fields.requests { queues = without_requests fields.requests.queues target.0; awaited = requests.awaited } → objects ≡ sync.after_withdrawal target fields.objects → IsWhole (record fields { states = states; requests = requests; objects = objects })
 whole_killed fields states actor target date requests objects able there is asked left = by (actor == target.0) refl is
   where
     old : ActorStates
     old = fields.states
 
-    counts : Fields
-    counts = record fields { events = fields.events + 1 }
-
     mid : ActorStates
     mid = with_state target.0 Ended old
 
-    by : (b : Bool) → (actor == target.0) ≡ b → states ≡ cond b (by_call actor Ended old) (record (with_reply actor (call.Kill target) date 0 answer.Done date mid) { room = old.room - 1 }) → IsWhole (record fields { states = states; requests = requests; objects = objects; events = fields.events + 1 })
+    by : (b : Bool) → (actor == target.0) ≡ b → states ≡ cond b (by_call actor Ended old) (record (with_reply actor (call.Kill target) date 0 answer.Done date mid) { room = old.room - 1 }) → IsWhole (record fields { states = states; requests = requests; objects = objects })
     by true same e =
         let equal : actor ≡ target.0 = grind (arith, same) in
         let moves : Moves old states target.0 Ended = record {
@@ -393,10 +390,10 @@ whole_killed fields states actor target date requests objects able there is aske
           actors = ap (λ (s : ActorStates). s.actors) e ∙ ap (λ n. put_state old.actors n Ended) equal;
           passing = ap (λ (s : ActorStates). s.passing) e;
         } in
-        whole_withdrawn counts states target requests objects there.from moves (omega (arith, ap (λ (s : ActorStates). s.room) e)) asked left (whole_counted fields actor able)
+        whole_withdrawn fields states target requests objects there.from moves (omega (arith, ap (λ (s : ActorStates). s.room) e)) asked left able.whole
     by false same e =
         let ends : Moves old mid target.0 Ended = record { extent = refl; actors = refl; passing = refl } in
-        let ended = whole_withdrawn counts mid target requests objects there.from ends (omega arith) asked left (whole_counted fields actor able) in
+        let ended = whole_withdrawn fields mid target requests objects there.from ends (omega arith) asked left able.whole in
         let apart : actor ≢ target.0 = grind (arith, same) in
         let caller = able.call.caller in
         let call : CanCall mid actor = record {
@@ -409,7 +406,7 @@ whole_killed fields states actor target date requests objects able there is aske
           round = able.call.round;
         } in
         let moves : Moves mid states actor (Ready answer.Done) = record { extent = ap (λ (s : ActorStates). s.extent) e; actors = ap (λ (s : ActorStates). s.actors) e; passing = ap (λ (s : ActorStates). s.passing) e } in
-        whole_moved (record counts { states = mid; requests = requests; objects = objects }) old.room states (record { 0 = actor }) (Ready answer.Done) call tt moves (omega (arith, ap (λ (s : ActorStates). s.room) e)) ended
+        whole_moved (record fields { states = mid; requests = requests; objects = objects }) old.room states (record { 0 = actor }) (Ready answer.Done) call tt moves (omega (arith, ap (λ (s : ActorStates). s.room) e)) ended
 
 -- ---- the three stretches of a kill
 three_after : (a b d : Core → Step) (core : Core) (known mid next last : Known) → (a core).stop ≡ None → ((c : Core) → (b c).stop ≡ None) → mid ≡ after_call true (a core) known → next ≡ after (b mid.core) mid → last ≡ after (d next.core) next →

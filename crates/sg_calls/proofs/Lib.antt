@@ -8,6 +8,7 @@ pub mod Mets
 pub mod Moves
 pub mod Postings
 pub mod PostsKept
+pub mod Replied
 pub mod Suspending
 pub mod Timely
 pub mod Unmet

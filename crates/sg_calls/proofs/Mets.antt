@@ -4,7 +4,6 @@ use Rattle.std.specs.List.{find, All}
 use Rattle.std.proofs.lemmas.List.Elements.{All-same}
 use Rattle.sg_base.specs.declared.ids.BoxId.{BoxId}
 use Rattle.sg_base.specs.declared.ids.LinkId.{LinkId}
-use Rattle.sg_base.specs.declared.ids.PointId.{PointId}
 use Rattle.sg_base.specs.declared.ids.Serial.{Serial}
 use Rattle.sg_base.specs.Limits.{Extent}
 use Rattle.sg_mailbox.specs.declared.sides.Side.{Side}
@@ -12,13 +11,14 @@ use Rattle.sg_mailbox.specs.declared.sides.Post.{Post}
 use Rattle.sg_mailbox.specs.Posts.{is_other, waiters, partner, partner_side}
 use Rattle.sg_route.specs.declared.router.RouteFault.{RouteFault}
 use Rattle.sg_route.specs.Roads.{Roads}
-use Rattle.sg_route.specs.Route.{Route, route_of}
+use Rattle.sg_route.specs.Route.{Route}
 use Rattle.sg_route.specs.Route.{LeavesRoute}
 use Rattle.sg_calls.specs.declared.meetings.Comer.{Comer}
 use Rattle.sg_calls.specs.declared.simulation_state.Fields.{Fields}
 use Rattle.sg_mailbox.specs.declared.owners.How.TheVariants as how
 use Rattle.sg_mailbox.specs.declared.owners.Whose.TheVariants.{Over, Posted}
-use Rattle.sg_calls.specs.Meetings.{posts_from, sender_of, receiver_of, point_of, joins_over, comes, comes_by, takes_part}
+use Rattle.sg_calls.specs.Meetings.{comes, comes_by, joins_over, posts, posts_from, receiver_of, route_between, sender_of, takes_part}
+use Rattle.sg_calls.specs.Steps.{counted}
 use Rattle.sg_calls.specs.World.{Core, extent}
 use Rattle.sg_calls.specs.kept.Sound.{core_of, setup_in, is_idle, IsSide, IsOwner, IsSound, AreLimited, AreMeeting}
 use Rattle.sg_calls.proofs.Postings.{FoundAt, found_post, posts_below}
@@ -93,18 +93,17 @@ pub takes_part_on : (waits : Bool) (comer : Comer) (serial : ℕ) (core : Core) 
 takes_part_on true comer serial core = refl
 takes_part_on false comer serial core = refl
 
--- with an endpoint's match, the hosts of both and the route between them, what follows is known
-pub comes_met : (fields : Fields) (roads : Roads) (comer : Comer) (serial : Serial) (other sender receiver : Side) (start end : PointId) (r : Result Route RouteFault)
-    → IsMet fields comer serial other → AreMeeting fields → sender ≡ sender_of comer other → receiver ≡ receiver_of comer other
-    → start ≡ point_of (setup_in fields) sender → end ≡ point_of (setup_in fields) receiver → route_of roads start end ≡ r
-    → (sends : Bool) × (comes roads (setup_in fields) comer (core_of fields) ≡ joins_over r (setup_in fields) comer (record { serial = serial; sends = sends; side = other }) (core_of fields))
-comes_met fields roads comer serial other sender receiver start end r m meeting from to starts ends is =
+-- with an endpoint's match and the route between both, what follows is known
+pub comes_met : (fields : Fields) (roads : Roads) (comer : Comer) (serial : Serial) (other : Side) (r : Result Route RouteFault) (m : IsMet fields comer serial other) → AreMeeting fields → route_between roads (setup_in fields) (sender_of comer other) (receiver_of comer other) ≡ r →
+    comes roads (setup_in fields) comer (core_of fields) ≡ joins_over r (setup_in fields) comer (record { serial = serial; sends = m.post.sends; side = other }) (core_of fields)
+comes_met fields roads comer serial other r m meeting way =
     let setup = setup_in fields in
     let core = core_of fields in
     let found : partner comer.sends (posts_from comer.mailbox 1 fields.whose.whose) ≡ Some m.post = ap (partner comer.sends) (sym (meeting.posts comer.mailbox)) ∙ m.found in
     let post : m.post ≡ record { serial = serial; sends = m.post.sends; side = other } = ap₂ (λ (s : Serial) (d : Side). record { serial = s; sends = m.post.sends; side = d }) m.serial_is m.side_is in
-    let way : route_of roads (point_of setup (sender_of comer other)) (point_of setup (receiver_of comer other)) ≡ r = sym (ap₂ (route_of roads) (starts ∙ ap (point_of setup) from) (ends ∙ ap (point_of setup) to)) ∙ is in (
-      m.post.sends,
-      ap (λ o. comes_by o roads setup comer core) (found ∙ ap (λ p. Some p) post)
-          ∙ ap (λ w. joins_over w setup comer (record { serial = serial; sends = m.post.sends; side = other }) core) way,
-    )
+    ap (λ o. comes_by o roads setup comer core) (found ∙ ap (λ p. Some p) post)
+    ∙ ap (λ w. joins_over w setup comer (record { serial = serial; sends = m.post.sends; side = other }) core) way
+
+-- without one, it is posted
+pub comes_alone : (fields : Fields) (roads : Roads) (comer : Comer) → partner comer.sends (waiters fields.boxes comer.mailbox) ≡ None → AreMeeting fields → comes roads (setup_in fields) comer (core_of fields) ≡ posts comer (counted (core_of fields))
+comes_alone fields roads comer alone meeting = ap (λ o. comes_by o roads (setup_in fields) comer (core_of fields)) (ap (partner comer.sends) (sym (meeting.posts comer.mailbox)) ∙ alone)

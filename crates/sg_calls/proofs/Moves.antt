@@ -1,4 +1,4 @@
--- What is kept, as one actor's state changes, and as a call is counted.
+-- What is kept, as one actor's state changes, and as an event is counted.
 use Rattle.std.proofs.Common.{◌≡◌, ◌≢◌, ℕ, ◌+◌, ◌-◌, ◌<◌, ◌≤◌, false, true, true≢false, IsTrue, List, [], ◌∷◌, length, inl, inr, refl, sym, subst, ap, ◌∙◌, arith}
 use Rattle.std.proofs.lemmas.Bool.{cases_eq}
 use Rattle.std.proofs.lemmas.List.{length-set}
@@ -18,9 +18,10 @@ use Rattle.sg_calls.specs.declared.simulation_state.Fields.{Fields}
 use Rattle.sg_calls.specs.World.{extent}
 use Rattle.sg_calls.specs.kept.Sound.{is_queued, setup_in, AreHeld, AreMeeting, AwaitsMade, HasRoom, IsSound}
 use Rattle.sg_calls.specs.kept.Waking.{AreWaking, LeavesCallers}
-use Rattle.sg_calls.specs.kept.Whole.{CanStep, IsPassing, IsSteady, IsWhole, IsWholeFor, KeepsWhole}
+use Rattle.sg_calls.specs.kept.Whole.{CanConclude, CanStep, IsPassing, IsSteady, IsWhole, IsWholeFor, KeepsWhole}
 use Rattle.sg_calls.proofs.Limits.{homes_counted}
 use Rattle.sg_calls.proofs.Stated.{awaiting_state, state_other, state_same, AreAwaiting}
+use Rattle.sg_calls.proofs.Suspending.{whole_less}
 use Rattle.sg_calls.proofs.Waiting.{others_held, still_held}
 
 -- the state of one actor changes, and nothing else except records and room
@@ -121,54 +122,94 @@ steady_moved fields states actor state free moves le was = record {
   round = moves.passing ∙ was.round;
 }
 
--- ---- a call is counted
-pub whole_counted : (fields : Fields) (actor : ℕ) → CanStep fields actor → IsWhole (record fields { events = fields.events + 1 })
-whole_counted fields actor able =
-    let was = able.whole in
-    let sound = was.sound in
-    let held = was.held in
-    record {
-      sound = record {
-        numbered = sound.numbered;
-        few = omega (arith, sound.few);
-        within = omega (arith, sound.within, able.budget);
-        budgeted = sound.budgeted;
-        hosts_counted = sound.hosts_counted;
-        links_counted = sound.links_counted;
-        homes_known = sound.homes_known;
-        hosts_known = sound.hosts_known;
-        requests_known = sound.requests_known;
-        requests_few = omega (arith, sound.requests_few);
-        extent_is = sound.extent_is;
-        network_kept = sound.network_kept;
-      };
-      roomy = record { starts = was.roomy.starts; owners = was.roomy.owners; mailboxes = was.roomy.mailboxes; requests = was.roomy.requests };
-      dated = omega (arith, was.dated);
-      timely = was.timely;
-      limited = was.limited;
-      meeting = record { posts = was.meeting.posts; idle = was.meeting.idle; busy = was.meeting.busy; asked = was.meeting.asked; awaited = was.meeting.awaited };
-      held = record {
-        owners = held.owners;
-        counts = held.counts;
-        actors = held.actors;
-        few = λ k d within. omega (arith, held.few k d within);
-        once = held.once;
-        held = held.held;
-        locking = held.locking;
-        acquiring = held.acquiring;
-      };
-      round = was.round;
-    }
+-- ---- an event is counted
+pub sound_counted : (fields : Fields) → fields.events ≢ fields.budget → IsSound fields → IsSound (record fields { events = fields.events + 1 })
+sound_counted fields left was = record {
+  numbered = was.numbered;
+  few = omega (arith, was.few);
+  within = omega (arith, was.within, left);
+  budgeted = was.budgeted;
+  hosts_counted = was.hosts_counted;
+  links_counted = was.links_counted;
+  homes_known = was.homes_known;
+  hosts_known = was.hosts_known;
+  requests_known = was.requests_known;
+  requests_few = omega (arith, was.requests_few);
+  extent_is = was.extent_is;
+  network_kept = was.network_kept;
+}
 
--- so a call of an actor that begins nothing leaves all whole
-pub whole_called : (fields : Fields) (states : ActorStates) (actor : ActorId) (state : State) → CanStep fields actor.0 → IsFree fields state → Moves fields.states states actor.0 state → states.room ≤ fields.states.room → IsWhole (record fields { states = states; events = fields.events + 1 })
-whole_called fields states actor state able free moves le =
-    whole_moved (record fields { events = fields.events + 1 }) fields.states.room states actor state able.call free moves le (whole_counted fields actor.0 able)
+pub held_counted : (fields : Fields) → AreHeld fields → AreHeld (record fields { events = fields.events + 1 })
+held_counted fields was = record {
+  owners = was.owners;
+  counts = was.counts;
+  actors = was.actors;
+  few = λ k d within. omega (arith, was.few k d within);
+  once = was.once;
+  held = was.held;
+  locking = was.locking;
+  acquiring = was.acquiring;
+}
 
--- a call on an object is counted
-pub steady_called : (fields : Fields) (objects : Objects) (actor : ℕ) → CanStep fields actor → IsSteady (record fields { events = fields.events + 1; objects = objects })
-steady_called fields objects actor able =
-    let was = whole_counted fields actor able in
+meeting_counted : (fields : Fields) → AreMeeting fields → AreMeeting (record fields { events = fields.events + 1 })
+meeting_counted fields was = record { posts = was.posts; idle = was.idle; busy = was.busy; asked = was.asked; awaited = was.awaited }
+
+roomy_counted : (fields : Fields) (room : ℕ) → HasRoom room fields → HasRoom room (record fields { events = fields.events + 1 })
+roomy_counted fields room was = record { starts = was.starts; owners = was.owners; mailboxes = was.mailboxes; requests = was.requests }
+
+-- by a call
+pub whole_counted : (fields : Fields) → fields.events ≢ fields.budget → IsWhole fields → IsWhole (record fields { events = fields.events + 1 })
+whole_counted fields left was = record {
+  sound = sound_counted fields left was.sound;
+  roomy = roomy_counted fields fields.states.room was.roomy;
+  dated = omega (arith, was.dated);
+  timely = was.timely;
+  limited = was.limited;
+  meeting = meeting_counted fields was.meeting;
+  held = held_counted fields was.held;
+  round = was.round;
+}
+
+-- or in a time advance
+pub passing_counted : (fields : Fields) → fields.events ≢ fields.budget → IsPassing fields → IsPassing (record fields { events = fields.events + 1 })
+passing_counted fields left was = record {
+  sound = sound_counted fields left was.sound;
+  roomy = roomy_counted fields fields.states.room was.roomy;
+  timely = was.timely;
+  limited = was.limited;
+  meeting = meeting_counted fields was.meeting;
+  held = held_counted fields was.held;
+  passing = was.passing;
+  small = was.small;
+}
+
+-- its call can then be answered
+pub can_call : (fields : Fields) (actor : ℕ) → IsWhole fields → CanCall fields.states actor → fields.events ≢ fields.budget → CanStep (record fields { events = fields.events + 1 }) actor
+can_call fields actor whole call left = record {
+  whole = whole_counted fields left whole;
+  call = call;
+  fresh = record { tasks = omega (arith, whole.sound.few); asked = omega (arith, whole.sound.requests_few); counts = λ k d within. omega (arith, whole.held.few k d within) };
+}
+
+-- what contracts see shows the same
+pub can_step : (fields : Fields) (actor : ℕ) → IsWhole fields → MayCall fields.states.actors actor → 0 < fields.states.room → fields.events ≢ fields.budget → CanStep (record fields { events = fields.events + 1 }) actor
+can_step fields actor whole caller room left = can_call fields actor whole (record { caller = caller; room = room; round = whole.round }) left
+
+-- a call that began nothing ends
+pub can_conclude : (fields : Fields) (actor : ℕ) → CanStep fields actor → CanConclude fields actor
+can_conclude fields actor able = record {
+  whole = whole_less fields fields.states.room (fields.states.room - 1) (omega arith) able.whole;
+  call = able.call;
+}
+
+-- it leaves all whole
+pub whole_concluded : (fields : Fields) (states : ActorStates) (actor : ActorId) (state : State) → CanConclude fields actor.0 → IsFree fields state → Moves fields.states states actor.0 state → states.room ≡ fields.states.room - 1 → IsWhole (record fields { states = states })
+whole_concluded fields states actor state able free moves room =
+    whole_moved fields (fields.states.room - 1) states actor state able.call free moves (omega (arith, room)) able.whole
+
+-- a call on an object
+pub steady_called : (fields : Fields) (objects : Objects) → IsWhole fields → IsSteady (record fields { objects = objects })
+steady_called fields objects was =
     let sound = was.sound in
     record {
       sound = record {
@@ -269,10 +310,6 @@ callers_left old new actor state is ready moves same =
         round = moves.passing ∙ may.round;
       };
     }
-
--- what contracts see shows that a call can be answered
-pub can_step : (fields : Fields) (actor : ℕ) → IsWhole fields → MayCall fields.states.actors actor → 0 < fields.states.room → fields.events ≢ fields.budget → CanStep fields actor
-can_step fields actor whole caller room budget = record { whole = whole; call = record { caller = caller; room = room; round = whole.round }; budget = budget }
 
 -- ---- one that waited is answered, in a time advance or not
 pub whole_answered : (fields : Fields) (states : ActorStates) (actor : ActorId) (state : State) → IsActor fields.states.actors actor.0 → is_answered state ≡ true → is_queued (state_at fields.states.actors actor.0) ≡ false → IsFree fields state → Moves fields.states states actor.0 state →

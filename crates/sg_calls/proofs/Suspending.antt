@@ -1,26 +1,21 @@
 -- What stays the same as actors and executions are suspended and resumed.
-use Rattle.std.proofs.Common.{◌≡◌, ◌≢◌, ℕ, zero, suc, ◌+◌, ◌-◌, ◌≤◌, Bool, true, false, cond, Option, None, Some, List, [], ◌∷◌, length, set, get_or, refl, sym, ap, subst, ◌∙◌, arith}
+use Rattle.std.proofs.Common.{◌≡◌, ℕ, zero, suc, ◌-◌, ◌≤◌, Bool, true, false, cond, Option, None, Some, List, [], ◌∷◌, length, set, get_or, refl, sym, ap, subst, ◌∙◌, arith}
 use Rattle.std.specs.Prelude.{is_some, option_map}
 use Rattle.std.proofs.lemmas.List.{length-set}
-use Rattle.sg_base.specs.declared.awaits.Await.{Await}
-use Rattle.sg_base.specs.declared.ids.ActorId.{ActorId}
 use Rattle.sg_lives.specs.declared.kinds.PhaseKind.{PhaseKind}
 use Rattle.sg_activity.specs.Doing.{Doing}
 use Rattle.sg_activity.specs.Task.{Task, rekinded}
 use Rattle.sg_activity.specs.Underway.{Underway, gone_on, held, is_computing, is_kept, with_phase_kind}
 use Rattle.sg_states.specs.declared.state.Actor.{Actor}
-use Rattle.sg_states.specs.declared.state.Blocking.{Blocking}
 use Rattle.sg_states.specs.declared.state.State.TheVariants.{Ended}
-use Rattle.sg_states.specs.Actors.{blocking_in, is_answered, is_alive, not_suspended, put_suspended, state_at}
+use Rattle.sg_states.specs.Actors.{blocking_in, is_answered, not_suspended, put_suspended, state_at}
 use Rattle.sg_states.specs.States.{ActorStates, with_suspended}
 use Rattle.sg_calls.specs.declared.simulation_state.Fields.{Fields}
-use Rattle.sg_calls.specs.Steps.{counted}
-use Rattle.sg_calls.specs.Suspensions.{held_by, held_on, held_to, suspended_to}
-use Rattle.sg_calls.specs.World.{Core, state_of, with_suspended as core_suspended}
+use Rattle.sg_calls.specs.Suspensions.{held_to}
 use Rattle.sg_calls.specs.kept.Sound.{is_queued, AwaitsMade}
 use Rattle.sg_calls.specs.kept.Waking.{LeavesCallers}
 use Rattle.sg_calls.specs.kept.Whole.{IsWholeFor}
-use Rattle.sg_calls.proofs.Begins.{held_with, sound_with, held_counted, sound_counted}
+use Rattle.sg_calls.proofs.Begins.{held_with, sound_with}
 use Rattle.sg_calls.proofs.Timely.{IsTimelyAt}
 
 -- ---- executions
@@ -162,35 +157,3 @@ whole_suspended fields room target on was =
       };
       round = was.round;
     }
-
--- ---- the call is counted
-pub counted_for : (fields : Fields) (room : ℕ) → fields.events ≢ fields.budget → IsWholeFor room fields → IsWholeFor room (record fields { events = fields.events + 1 })
-counted_for fields room go was = record {
-  sound = sound_counted fields go was.sound;
-  roomy = record { starts = was.roomy.starts; owners = was.roomy.owners; mailboxes = was.roomy.mailboxes; requests = was.roomy.requests };
-  dated = omega (arith, was.dated);
-  timely = was.timely;
-  limited = was.limited;
-  meeting = record { posts = was.meeting.posts; idle = was.meeting.idle; busy = was.meeting.busy; asked = was.meeting.asked; awaited = was.meeting.awaited };
-  held = held_counted fields was.held;
-  round = was.round;
-}
-
-counted_on : (on : Bool) (awaited : Option Await) (core : Core) → counted (held_on on awaited core) ≡ held_on on awaited (counted core)
-counted_on on None core = refl
-counted_on on (Some awaited) core = refl
-
-counted_by : (on : Bool) (blocking : Option Blocking) (core : Core) → counted (held_by on blocking core) ≡ held_by on blocking (counted core)
-counted_by on None core = refl
-counted_by on (Some blocking) core = counted_on on blocking.on core
-
--- before or after
-pub counted_suspended : (on : Bool) (target : ActorId) (core : Core) → counted (suspended_to on target core) ≡ suspended_to on target (counted core)
-counted_suspended on target core = by (is_alive (state_of core target.0))
-  where
-    next : Core
-    next = core_suspended target.0 on core
-
-    by : (b : Bool) → counted (cond b (held_by on (blocking_in (state_of core target.0)) next) core) ≡ cond b (held_by on (blocking_in (state_of core target.0)) (counted next)) (counted core)
-    by true = counted_by on (blocking_in (state_of core target.0)) next
-    by false = refl

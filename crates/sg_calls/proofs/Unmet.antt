@@ -18,7 +18,7 @@ use Rattle.sg_mailbox.specs.declared.owners.Whose.TheVariants.{Over}
 use Rattle.sg_calls.specs.Answers.{answers_side, for_receiver, with_over}
 use Rattle.sg_calls.specs.Known.{Known, after, after_call}
 use Rattle.sg_calls.specs.Meetings.{both_fail, comer_fails, fails_with, joined, joins_on, joins_with, other_fails, receiver_of, sender_of, takes_part_failed, way_with}
-use Rattle.sg_calls.specs.Steps.{Step, and_then, counted}
+use Rattle.sg_calls.specs.Steps.{Step, and_then}
 use Rattle.sg_setup.specs.Setup.{Setup}
 use Rattle.sg_calls.specs.World.{Core, extent}
 use Rattle.sg_mailbox.specs.Owners.{Owned}
@@ -71,9 +71,9 @@ untouched under serial none =
     (ap (λ t. marked under.capacities serial t None under.marks) none ∙ ap (λ ended. record under.marks { ended = ended }) (append-nil under.marks.ended))
 
 pub over_is : (fields : Fields) (serial : ℕ) (whose : Owned) → task_at fields.doing.under.tasks serial ≡ None → whose ≡ record { whose = set fields.whose.whose (serial - 1) (Over how.Failed); room = fields.whose.room - 1 } →
-    record (counted (core_of fields)) { whose = whose.whose } ≡ with_over how.Failed serial (counted (core_of fields))
+    record (core_of fields) { whose = whose.whose } ≡ with_over how.Failed serial (core_of fields)
 over_is fields serial whose none owned =
-    ap₂ (λ w u. record (counted (core_of fields)) { whose = w; under = u }) (ap (λ (o : Owned). o.whose) owned) (sym (untouched fields.doing.under serial none))
+    ap₂ (λ w u. record (core_of fields) { whose = w; under = u }) (ap (λ (o : Owned). o.whose) owned) (sym (untouched fields.doing.under serial none))
 
 -- ---- both are answered, the sending one first
 pub comer_first : (known mid next : Known) (comer : Comer) (serial : ℕ) (other : Side) → comer.sends ≡ true → mid ≡ after_call true (comer_fails comer serial other known.core) known → next ≡ after (other_fails comer serial other mid.core) mid →

@@ -21,6 +21,7 @@ use Rattle.sg_states.specs.declared.state.Actor.{Actor}
 use Rattle.sg_states.specs.Actors.{is_answered, put_state, state_at}
 use Rattle.sg_calls.specs.kept.Sound.{core_of, is_queued, setup_in, point_number, IsSound, AreHeld}
 use Rattle.sg_calls.specs.kept.Waking.{AreWaking}
+use Rattle.sg_calls.specs.kept.Whole.{IsFresh}
 use Rattle.sg_calls.proofs.Stated.{state_other}
 
 -- ---- who is blocked, and who is to be unblocked
@@ -171,16 +172,16 @@ once_with o caller actor outcome free once = elim (cases_eq actor.0 caller.0) [
 ]
 
 -- the call leaves some that are to be unblocked, and perhaps one that comes to wait
-pub waking_after : (old fields : Fields) (actor : ActorId) (done : Done) → MayCall (core_of old) actor.0 → AreHeld old → KeepsAll actor old.objects done → IsLike old.objects done.after → fields.objects ≡ done.after →
-    fields.mutexes ≡ old.mutexes → fields.semaphores.items ≡ old.semaphores.items → fields.states.actors ≡ old.states.actors → map point_number fields.homes.items ≡ map point_number old.homes.items → fields.events ≡ old.events + 1 →
+pub waking_after : (old fields : Fields) (actor : ActorId) (done : Done) → MayCall (core_of old) actor.0 → IsFresh old → AreHeld old → KeepsAll actor old.objects done → IsLike old.objects done.after → fields.objects ≡ done.after →
+    fields.mutexes ≡ old.mutexes → fields.semaphores.items ≡ old.semaphores.items → fields.states.actors ≡ old.states.actors → map point_number fields.homes.items ≡ map point_number old.homes.items → fields.events ≡ old.events →
     AreWaking fields (comers actor done.outcome) done.after.others
-waking_after old fields actor done may held keeps like is mutexes semaphores states homes events =
+waking_after old fields actor done may fresh held keeps like is mutexes semaphores states homes events =
     let free = caller_free old actor may held in
     record {
       owners = ap (λ (o : Objects). length o.owners) is ∙ like.owners ∙ held.owners ∙ sym mutexes;
       counts = ap (λ (o : Objects). length o.counts) is ∙ like.counts ∙ held.counts ∙ sym (ap length semaphores);
       actors = ap (λ (o : Objects). o.actors) is ∙ like.actors ∙ held.actors ∙ sym (ap length states);
-      few = λ k d within. omega (arith, like.few (10 ^ 9 + old.events) held.few k d (omega (arith, within, ap (λ (o : Objects). length o.counts) is)), ap (λ (o : Objects). get_or o.counts k d) is, events);
+      few = λ k d within. omega (arith, like.few (10 ^ 9 + old.events - 1) (λ k d within. omega (arith, fresh.counts k d within)) k d (omega (arith, within, ap (λ (o : Objects). length o.counts) is)), ap (λ (o : Objects). get_or o.counts k d) is, events);
       once = λ b. omega (arith, keeps b, once_with old.objects actor b done.outcome free (held.once b), ap (λ (o : Objects). waiting o b) is);
       held = λ b some.
           let was = held.held b (omega (arith, some, keeps b, ap (λ (o : Objects). waiting o b) is)) in
@@ -189,10 +190,10 @@ waking_after old fields actor done may held keeps like is mutexes semaphores sta
       acquiring = ap (λ (o : Objects). length o.acquiring) is ∙ like.acquiring ∙ held.acquiring ∙ sym (ap length semaphores);
     }
 
-pub waking_called : (old : Fields) (objects : Objects) (outcome : Outcome) (actor : ActorId) (done : Objects → Done) → MayCall (core_of old) actor.0 → AreHeld old → KeepsAll actor old.objects (done old.objects) → IsLike old.objects (done old.objects).after
-    → outcome ≡ (done old.objects).outcome → objects ≡ (done old.objects).after → AreWaking (record old { events = old.events + 1; objects = objects }) (comers actor outcome) objects.others
-waking_called old objects outcome actor done may held keeps like answers leaves =
-    let now = record old { events = old.events + 1; objects = objects } in
-    let waking = waking_after old now actor (done old.objects) may held keeps like leaves refl refl refl refl refl in
+pub waking_called : (old : Fields) (objects : Objects) (outcome : Outcome) (actor : ActorId) (done : Objects → Done) → MayCall (core_of old) actor.0 → IsFresh old → AreHeld old → KeepsAll actor old.objects (done old.objects) → IsLike old.objects (done old.objects).after
+    → outcome ≡ (done old.objects).outcome → objects ≡ (done old.objects).after → AreWaking (record old { objects = objects }) (comers actor outcome) objects.others
+waking_called old objects outcome actor done may fresh held keeps like answers leaves =
+    let now = record old { objects = objects } in
+    let waking = waking_after old now actor (done old.objects) may fresh held keeps like leaves refl refl refl refl refl in
     let first = subst (λ (o : Outcome). AreWaking now (comers actor o) (done old.objects).after.others) (sym answers) waking in
     subst (λ (q : List ActorId). AreWaking now (comers actor outcome) q) (sym (ap (λ (o : Objects). o.others) leaves)) first

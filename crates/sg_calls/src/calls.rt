@@ -2,6 +2,7 @@
 
 ghost use Rattle.std.specs.Prelude.{◌≡◌};
 ghost use Rattle.sg_calls.specs.Calls.{answered};
+ghost use Rattle.sg_calls.specs.Meetings.{comer_of};
 ghost use Rattle.sg_calls.specs.Roads.{AreOver};
 ghost use Rattle.sg_calls.specs.kept.Sound.{core_of, setup_in};
 ghost use Rattle.sg_calls.specs.kept.Acts.{Replies};
@@ -9,20 +10,40 @@ ghost use Rattle.sg_calls.specs.kept.Asks.{CanAnswer};
 
 use crate::at_once::{answer_now, go_on};
 use crate::creating::create;
+use crate::events::event;
 use crate::executions::{compute, sleep};
 use crate::holding::{resume, suspend};
 use crate::joining::{exit, join};
 use crate::killing::kill;
 use crate::locks::{acquire, arrive, lock, release, unlock};
-use crate::meetings::{come, receives_by, sends_by, side_of, wait};
+use crate::meetings::{Comer, come, receives_by, sends_by, side_of, wait};
 use crate::simulation_state::Fields;
 use crate::stop::Stop;
 use arrayvec::ArrayVec;
 use sg_base::{ActorId, Answer, Call, LinkId};
 use sg_route::Router;
 
-/// Answers a call, unless the budget is used up: the arms are the rows of `answered_call`. A missing or too long route
-/// stops the run. The route is written to `links`.
+// Returns the endpoint that arrives by a call, if it is one of a communication.
+fn comer_of(actor: ActorId, call: Call) -> Option<Comer>
+    ensures { result ≡ comer_of actor.0 call }
+{
+    match call {
+        Call::Send(mailbox, bytes, msg, rate) => {
+            let side = side_of(actor, bytes, msg, rate);
+            Some(sends_by(side, call, true, mailbox))
+        }
+        Call::ISend(mailbox, bytes, msg, rate) => {
+            let side = side_of(actor, bytes, msg, rate);
+            Some(sends_by(side, call, false, mailbox))
+        }
+        Call::Recv(mailbox) => Some(receives_by(actor, call, true, mailbox)),
+        Call::IRecv(mailbox) => Some(receives_by(actor, call, false, mailbox)),
+        _ => None,
+    }
+}
+
+/// Answers a call, unless the budget is used up: it is counted, and then the arms are the rows of `answered_call`. A
+/// missing or too long route stops the run before the count. The route is written to `links`.
 pub fn answer_call(
     fields: &mut Fields,
     actor: ActorId,
@@ -37,29 +58,14 @@ pub fn answer_call(
         fields.old fields.new result }
     ensures router { router.new ≡ router.old }
 {
-    if fields.events == fields.budget {
-        return Err(Stop::Budget);
+    if let Some(comer) = comer_of(actor, call) {
+        return come(fields, router, links, &comer);
     }
+    event(fields)?;
     match call {
         Call::Ask => go_on(fields, actor, Answer::Refused),
         Call::Compute(flops, priority) => compute(fields, actor, flops, priority),
         Call::Sleep(ns) => sleep(fields, actor, ns),
-        Call::Send(mailbox, bytes, msg, rate) => {
-            let comer = sends_by(side_of(actor, bytes, msg, rate), call, true, mailbox);
-            return come(fields, router, links, &comer);
-        }
-        Call::Recv(mailbox) => {
-            let comer = receives_by(actor, call, true, mailbox);
-            return come(fields, router, links, &comer);
-        }
-        Call::ISend(mailbox, bytes, msg, rate) => {
-            let comer = sends_by(side_of(actor, bytes, msg, rate), call, false, mailbox);
-            return come(fields, router, links, &comer);
-        }
-        Call::IRecv(mailbox) => {
-            let comer = receives_by(actor, call, false, mailbox);
-            return come(fields, router, links, &comer);
-        }
         Call::Wait => wait(fields, actor),
         Call::Lock(mutex) => lock(fields, actor, mutex),
         Call::Unlock(mutex) => unlock(fields, actor, mutex),
@@ -73,6 +79,8 @@ pub fn answer_call(
         Call::Resume(target) => resume(fields, actor, target),
         Call::Yield => answer_now(fields, actor, Call::Yield, 0, Answer::Done),
         Call::Exit => exit(fields, actor),
+        // These bring an endpoint.
+        Call::Send(..) | Call::Recv(_) | Call::ISend(..) | Call::IRecv(_) => {}
     }
     Ok(())
 }

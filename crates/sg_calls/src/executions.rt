@@ -3,11 +3,11 @@ ghost use Rattle.std.specs.Prelude.{◌≡◌, ◌+◌, ◌<◌, IsTrue, length}
 ghost use Rattle.sg_activity.specs.Underway.{is_computing};
 ghost use Rattle.sg_calls.specs.World.{host_of};
 ghost use Rattle.sg_calls.specs.Calls.{await_alone, computes, executed, with_execution, with_sleep};
-ghost use Rattle.sg_calls.specs.kept.Acts.{Answers, CanMake, Counts};
+ghost use Rattle.sg_calls.specs.kept.Acts.{Answers, Becomes, CanMake};
 ghost use Rattle.sg_calls.specs.kept.Sound.{setup_in, IsHome};
 ghost use Rattle.sg_calls.specs.kept.Whole.{CanStep};
 
-use crate::at_once::answer_now;
+use crate::at_once::{answer_now, block};
 use crate::holding::hold_if;
 use crate::simulation_state::Fields;
 use sg_base::{ActorId, Answer, Await, Call, Party, PointId, Serial};
@@ -37,19 +37,13 @@ fn start(fields: &mut Fields, actor: ActorId, host: PointId, flops: u64, priorit
     requires home { IsHome fields.old actor.0 host }
     ensures serial { result.0 ≡ length fields.old.doing.under.tasks + 1 }
     ensures computing { IsTrue (is_computing fields.new.doing.under result.0) }
-    ensures counts { Counts (with_execution (setup_in fields.old) actor.0 flops priority)
+    ensures becomes { Becomes (with_execution (setup_in fields.old) actor.0 flops priority)
         fields.old fields.new }
 {
-    let date = fields.doing.date();
     let serial = fields.doing.start_exec(host, flops, priority);
     fields.whose.push(Whose::Alone(actor));
-    fields.states.block(
-        actor,
-        Call::Compute(flops, priority),
-        date,
-        Some(alone(serial)),
-    );
-    fields.events += 1;
+    let on = Some(alone(serial));
+    block(fields, actor, Call::Compute(flops, priority), on);
     serial
 }
 
@@ -57,7 +51,7 @@ fn start(fields: &mut Fields, actor: ActorId, host: PointId, flops: u64, priorit
 fn execute(fields: &mut Fields, actor: ActorId, host: PointId, flops: u64, priority: u32)
     requires computes { CanMake fields.old actor.0 (Call.Compute flops priority) }
     requires home { IsHome fields.old actor.0 host }
-    ensures { Counts (executed (setup_in fields.old) actor.0 flops priority)
+    ensures { Becomes (executed (setup_in fields.old) actor.0 flops priority)
         fields.old fields.new }
 {
     let serial = start(fields, actor, host, flops, priority);
@@ -87,13 +81,10 @@ pub(crate) fn compute(fields: &mut Fields, actor: ActorId, flops: u64, priority:
 /// Makes the actor sleep.
 pub(crate) fn sleep(fields: &mut Fields, actor: ActorId, ns: u64)
     requires { CanMake fields.old actor.0 (Call.Sleep ns) }
-    ensures { Counts (with_sleep actor.0 ns) fields.old fields.new }
+    ensures { Becomes (with_sleep actor.0 ns) fields.old fields.new }
 {
-    let date = fields.doing.date();
     let serial = fields.doing.start_timer(ns);
     fields.whose.push(Whose::Alone(actor));
-    fields
-        .states
-        .block(actor, Call::Sleep(ns), date, Some(alone(serial)));
-    fields.events += 1;
+    let on = Some(alone(serial));
+    block(fields, actor, Call::Sleep(ns), on);
 }

@@ -1,17 +1,15 @@
 //! Actors are suspended and resumed.
-ghost use Rattle.std.specs.Prelude.{◌≡◌, ◌≢◌, ◌+◌, ◌-◌, ◌<◌, ◌≤◌, length};
-ghost use Rattle.sg_base.specs.declared.call.Answer.TheVariants as answer;
-ghost use Rattle.sg_states.specs.Records.{IsTellable};
-ghost use Rattle.sg_states.specs.States.{with_suspended, CanCall, IsAlive};
-ghost use Rattle.sg_calls.specs.World.{extent, is_suspended, IsActor};
-ghost use Rattle.sg_calls.specs.Steps.{at_once};
+ghost use Rattle.std.specs.Prelude.{◌≡◌, ◌+◌, ◌-◌, ◌<◌, ◌≤◌, length};
+ghost use Rattle.sg_states.specs.States.{with_suspended, IsAlive};
+ghost use Rattle.sg_calls.specs.World.{is_suspended, IsActor};
 ghost use Rattle.sg_calls.specs.Suspensions.{held_by, held_if, held_to, resumes, suspended_to, suspends};
 ghost use Rattle.sg_calls.specs.kept.Acts.{Answers, CanMake};
 ghost use Rattle.sg_calls.specs.kept.Asks.{CanHold};
-ghost use Rattle.sg_calls.specs.kept.Sound.{core_of, known_of, setup_in, AwaitsMade};
+ghost use Rattle.sg_calls.specs.kept.Sound.{core_of, known_of, AwaitsMade};
 ghost use Rattle.sg_calls.specs.kept.Waking.{LeavesCallers};
 ghost use Rattle.sg_calls.specs.kept.Whole.{IsWhole, IsWholeFor};
 
+use crate::at_once::answer_now;
 use crate::simulation_state::Fields;
 use sg_activity::Activities;
 use sg_base::{ActorId, Answer, Call, Serial};
@@ -92,26 +90,13 @@ fn set(fields: &mut Fields, target: ActorId, on: bool)
     }
 }
 
-// Answers the call at once, with a record. The executions that it resumed may have used its room.
-fn answer_done(fields: &mut Fields, actor: ActorId, what: Call)
-    requires able { CanCall fields.old.states actor.0 }
-    requires budget { fields.old.events ≢ fields.old.budget }
-    requires what { IsTellable (extent (setup_in fields.old)) what }
-    requires whole { IsWholeFor (fields.old.states.room - 1) fields.old }
-    ensures { Answers (at_once actor.0 what 0 answer.Done) fields.old fields.new }
-{
-    let date = fields.doing.date();
-    fields.states.answer(actor, what, 0, Answer::Done, date);
-    fields.events += 1;
-}
-
 /// Suspends the named actor: it takes no turns, and computes nothing, until it is resumed.
 pub(crate) fn suspend(fields: &mut Fields, actor: ActorId, target: ActorId)
     requires { CanMake fields.old actor.0 (Call.Suspend target) }
     ensures { Answers (suspends actor.0 target) fields.old fields.new }
 {
     set(fields, target, true);
-    answer_done(fields, actor, Call::Suspend(target));
+    answer_now(fields, actor, Call::Suspend(target), 0, Answer::Done);
 }
 
 /// Resumes the named actor: it takes turns again, and its suspended execution continues.
@@ -120,5 +105,5 @@ pub(crate) fn resume(fields: &mut Fields, actor: ActorId, target: ActorId)
     ensures { Answers (resumes actor.0 target) fields.old fields.new }
 {
     set(fields, target, false);
-    answer_done(fields, actor, Call::Resume(target));
+    answer_now(fields, actor, Call::Resume(target), 0, Answer::Done);
 }

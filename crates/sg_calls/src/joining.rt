@@ -3,11 +3,10 @@ ghost use Rattle.std.specs.Prelude.{◌≡◌, drop};
 ghost use Rattle.sg_states.specs.Actors.{is_ended, joiners, IsJoiner};
 ghost use Rattle.sg_calls.specs.Lives.{exits, joins_one, with_actor_ended};
 ghost use Rattle.sg_calls.specs.Locks.{joiners_wake, wakes};
-ghost use Rattle.sg_calls.specs.kept.Acts.{Answers, CanMake, Counts, Wakes};
-ghost use Rattle.sg_calls.specs.kept.Whole.{CanStep, IsWhole};
+ghost use Rattle.sg_calls.specs.kept.Acts.{Answers, Becomes, CanMake, Wakes};
+ghost use Rattle.sg_calls.specs.kept.Whole.{CanConclude, CanStep, IsWhole};
 
-use crate::at_once::answer_now;
-use crate::meetings::block;
+use crate::at_once::{answer_now, block};
 use crate::simulation_state::Fields;
 use sg_base::{ActorId, Answer, Call};
 use sg_states::State;
@@ -38,11 +37,10 @@ pub(crate) fn wake_joiners(fields: &mut Fields, target: ActorId)
 
 // Marks that the actor has made its last call.
 fn leave(fields: &mut Fields, actor: ActorId)
-    requires { CanStep fields.old actor.0 }
-    ensures { Counts (with_actor_ended actor.0) fields.old fields.new }
+    requires { CanConclude fields.old actor.0 }
+    ensures { Becomes (with_actor_ended actor.0) fields.old fields.new }
 {
     fields.states.exit(actor);
-    fields.events += 1;
 }
 
 /// Ends an actor after its last call, and unblocks those that wait for its end.

@@ -62,7 +62,6 @@ fn withdraw(fields: &mut Fields, actor: ActorId, target: ActorId)
     let date = fields.doing.date();
     fields.requests.let_go(target, on);
     fields.objects.leave(target);
-    fields.events += 1;
     end(&mut fields.states, actor, target, date);
 }
 

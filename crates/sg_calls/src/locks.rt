@@ -7,7 +7,7 @@ ghost use Rattle.sg_sync.specs.Objects.{locked, unlocked, acquired, released, ar
 ghost use Rattle.sg_calls.specs.World.{IsActor};
 ghost use Rattle.sg_calls.specs.Locks.{all_wake, caller_first, caller_gets, caller_last, gets_first, gets_last, wakes};
 ghost use Rattle.sg_calls.specs.Known.{after_call};
-ghost use Rattle.sg_calls.specs.kept.Acts.{Answers, CanMake, CanServe, Completes};
+ghost use Rattle.sg_calls.specs.kept.Acts.{Answers, CanMake, CanServe};
 ghost use Rattle.sg_calls.specs.kept.Sound.{core_of, known_of, StepsBy};
 ghost use Rattle.sg_calls.specs.kept.Waking.{AreWaking, LeavesCallers};
 ghost use Rattle.sg_calls.specs.kept.Whole.{CanStep, IsSteady};
@@ -72,7 +72,7 @@ fn wake_others(fields: &mut Fields)
 fn answer_first(fields: &mut Fields, outcome: Outcome, actor: ActorId, what: Call)
     requires serves { CanServe fields.old actor.0 what }
     requires waking { AreWaking fields.old (comers actor outcome) fields.old.objects.others }
-    ensures { Completes (gets_first outcome fields.old.objects.others actor.0 what)
+    ensures { Answers (gets_first outcome fields.old.objects.others actor.0 what)
         fields.old fields.new }
 {
     answer_caller(fields, outcome, actor, what);
@@ -83,7 +83,7 @@ fn answer_first(fields: &mut Fields, outcome: Outcome, actor: ActorId, what: Cal
 fn answer_last(fields: &mut Fields, outcome: Outcome, actor: ActorId, what: Call)
     requires serves { CanServe fields.old actor.0 what }
     requires waking { AreWaking fields.old (comers actor outcome) fields.old.objects.others }
-    ensures { Completes (gets_last outcome fields.old.objects.others actor.0 what)
+    ensures { Answers (gets_last outcome fields.old.objects.others actor.0 what)
         fields.old fields.new }
 {
     wake_others(fields);
@@ -97,7 +97,6 @@ pub(crate) fn lock(fields: &mut Fields, actor: ActorId, mutex: u32)
         (caller_first (locked actor mutex fields.old.objects) actor.0 (Call.Lock mutex))
         fields.old fields.new }
 {
-    fields.events += 1;
     let outcome = fields.objects.lock(actor, mutex);
     answer_first(fields, outcome, actor, Call::Lock(mutex));
 }
@@ -109,7 +108,6 @@ pub(crate) fn unlock(fields: &mut Fields, actor: ActorId, mutex: u32)
         (caller_first (unlocked actor mutex fields.old.objects) actor.0 (Call.Unlock mutex))
         fields.old fields.new }
 {
-    fields.events += 1;
     let outcome = fields.objects.unlock(actor, mutex);
     answer_first(fields, outcome, actor, Call::Unlock(mutex));
 }
@@ -122,7 +120,6 @@ pub(crate) fn acquire(fields: &mut Fields, actor: ActorId, semaphore: u32)
         actor.0 (Call.Acquire semaphore))
         fields.old fields.new }
 {
-    fields.events += 1;
     let outcome = fields.objects.acquire(actor, semaphore);
     answer_first(fields, outcome, actor, Call::Acquire(semaphore));
 }
@@ -135,7 +132,6 @@ pub(crate) fn release(fields: &mut Fields, actor: ActorId, semaphore: u32)
         actor.0 (Call.Release semaphore))
         fields.old fields.new }
 {
-    fields.events += 1;
     let outcome = fields.objects.release(semaphore);
     answer_first(fields, outcome, actor, Call::Release(semaphore));
 }
@@ -147,7 +143,6 @@ pub(crate) fn arrive(fields: &mut Fields, actor: ActorId)
         (caller_last (arrived actor fields.old.objects) actor.0 Call.Barrier)
         fields.old fields.new }
 {
-    fields.events += 1;
     let outcome = fields.objects.arrive(actor);
     answer_last(fields, outcome, actor, Call::Barrier);
 }

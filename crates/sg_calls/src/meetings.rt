@@ -1,21 +1,20 @@
 //! Endpoints of communications arrive at mailboxes, and actors wait for their requests.
 
-ghost use Rattle.std.specs.Prelude.{◌≡◌, ◌≢◌, ◌<◌, ◌^◌, AllPairs, IfSome, None, length};
+ghost use Rattle.std.specs.Prelude.{◌≡◌, ◌≢◌, ◌<◌, ◌^◌, AllPairs, None};
 ghost use Rattle.sg_base.specs.declared.ids.BoxId.{BoxId};
 ghost use Rattle.sg_base.specs.Limits.{IsActorIn};
 ghost use Rattle.sg_mailbox.specs.Posts.{partner, waiters, IsFound};
-ghost use Rattle.sg_states.specs.Records.{IsTellable};
 ghost use Rattle.sg_calls.specs.World.{extent};
-ghost use Rattle.sg_calls.specs.Steps.{blocked_by};
 ghost use Rattle.sg_calls.specs.Answers.{bare_side, side_of};
 ghost use Rattle.sg_calls.specs.Meetings.{answer_of_over as answer_of_over_spec, comer_fails, fails_with, joins_on, joins_with, other_fails, party_of, point_of, posts, receiver_of, receives_by, sender_of, sends_by, stop_of, takes_part, waits as waits_spec};
 ghost use Rattle.sg_calls.specs.Roads.{AreOver, IsOver};
-ghost use Rattle.sg_calls.specs.kept.Acts.{Answers, CanCome, CanMeet, CanTakePart, Completes, Counts, Replies};
-ghost use Rattle.sg_calls.specs.kept.Sound.{setup_in, comes_in, IsComer, IsMade, IsSide, IsSound, StepsBy};
+ghost use Rattle.sg_calls.specs.kept.Acts.{Answers, CanCome, CanMeet, CanPost, CanTakePart, LeavesWay, Replies};
+ghost use Rattle.sg_calls.specs.kept.Sound.{setup_in, comes_in, IsComer, IsSide, IsSound, StepsBy};
 ghost use Rattle.sg_calls.specs.kept.Whole.{CanStep, KeepsWhole};
 
 use crate::answers::{answer_side, for_receiver};
-use crate::at_once::answer_now;
+use crate::at_once::{answer_now, block};
+use crate::events::{check_budget, count};
 use crate::network::{latency_over, own_bound};
 use crate::simulation_state::Fields;
 use crate::stop::Stop;
@@ -91,35 +90,31 @@ fn party_of(sends: bool) -> Party
     }
 }
 
-// Makes the actor of a counted call take part in the communication with this id. That uses the room of the call.
+// Makes the actor take part in the communication with this id.
 fn take_part(fields: &mut Fields, comer: &Comer, serial: Serial)
     requires { CanTakePart fields.old comer.now serial.0 }
-    ensures { Completes (takes_part comer.now.waits comer.now serial.0) fields.old fields.new }
+    ensures { Answers (takes_part comer.now.waits comer.now serial.0) fields.old fields.new }
 {
     let actor = comer.side.actor;
     let on = Await {
         serial,
         party: party_of(comer.sends),
     };
-    let date = fields.doing.date();
     if comer.waits {
-        fields.states.block(actor, comer.what, date, Some(on))
+        block(fields, actor, comer.what, Some(on))
     } else {
         fields.requests.push(actor, on);
-        fields
-            .states
-            .answer(actor, comer.what, comer.side.bytes, Answer::Done, date)
+        answer_now(fields, actor, comer.what, comer.side.bytes, Answer::Done)
     }
 }
 
 // Posts the endpoint, as a communication with the next id.
 fn post(fields: &mut Fields, comer: &Comer, found: Found)
-    requires comes { CanCome fields.old comer.now }
+    requires comes { CanPost fields.old comer.now }
     requires found { IsFound fields.old.boxes comer.now.mailbox comer.now.sends found }
     requires alone { partner comer.now.sends (waiters fields.old.boxes comer.now.mailbox) ≡ None }
     ensures { Answers (posts comer.now) fields.old fields.new }
 {
-    fields.events += 1;
     let serial = fields.doing.take_serial();
     fields
         .whose
@@ -194,7 +189,6 @@ fn begin(
     let bound = own_bound(fields, links, latency, sender.rate);
     let from = point_of(fields, sender);
     let to = point_of(fields, receiver);
-    fields.events += 1;
     let next = fields.doing.next_serial();
     fields
         .boxes
@@ -206,18 +200,15 @@ fn begin(
     take_part(fields, comer, serial);
 }
 
-// Makes the actor of a counted call take part in a communication that fails. That takes the room of the call.
+// Makes the actor take part in a communication that fails.
 fn fail_comer(fields: &mut Fields, comer: &Comer, serial: Serial, other: Side)
     requires takes_part { CanTakePart fields.old comer.now serial.0 }
     requires other { IsSide (extent (setup_in fields.old)) other }
-    ensures { Completes (comer_fails comer.now serial.0 other) fields.old fields.new }
+    ensures { Answers (comer_fails comer.now serial.0 other) fields.old fields.new }
 {
-    let date = fields.doing.date();
     if comer.waits {
         let bytes = sender_of(comer, other).bytes;
-        fields
-            .states
-            .answer(comer.side.actor, comer.what, bytes, Answer::Failed, date)
+        answer_now(fields, comer.side.actor, comer.what, bytes, Answer::Failed)
     } else {
         take_part(fields, comer, serial)
     }
@@ -246,7 +237,6 @@ fn fail_at_once(fields: &mut Fields, comer: &Comer, found: Found, met: (Serial, 
     ensures { Answers (fails_with comer.now met.0 met.1) fields.old fields.new }
 {
     let (serial, other) = met;
-    fields.events += 1;
     let next = fields.doing.next_serial();
     fields
         .boxes
@@ -289,35 +279,32 @@ fn meet(
     }
 }
 
-// Begins the communication of two endpoints over its route, or fails it. Its links are written to an array that is kept
-// ready, since making one takes longer than writing a route.
-fn join(
-    fields: &mut Fields,
+// Returns the latency of the route between an arriving endpoint and its match. The links are written to an array that is
+// kept ready, since making one takes longer than writing a route.
+fn route_to(
+    fields: &Fields,
     router: &mut Router,
     links: &mut ArrayVec<LinkId, 64>,
     comer: &Comer,
-    found: Found,
-    met: (Serial, Side),
-) -> Result<(), Stop>
-    requires meets { CanMeet fields.old comer.now found met }
-    requires roads { AreOver fields.old.links router.old }
-    ensures replies { Replies (comes_in router.old comer.now fields.old)
-        fields.old fields.new result }
+    other: Side,
+) -> Result<u128, Stop>
+    requires comer { IsSide (extent (setup_in fields.now)) comer.now.side }
+    requires other { IsSide (extent (setup_in fields.now)) other }
+    ensures route { LeavesWay router.old (setup_in fields.now) comer.now other
+        result links.new.items }
+    ensures apart { AllPairs (λ a b. a ≢ b) links.new.items }
     ensures router { router.new ≡ router.old }
 {
-    let (_, other) = met;
     let from = point_of(fields, sender_of(comer, other));
     let to = point_of(fields, receiver_of(comer, other));
     match router.route(from, to, links) {
-        Ok(latency) => {
-            meet(fields, comer, found, met, links.as_slice(), latency);
-            Ok(())
-        }
+        Ok(latency) => Ok(latency),
         Err(fault) => Err(stop_of(from, to, fault)),
     }
 }
 
-/// Brings an endpoint to its mailbox. A missing or too long route stops the run and changes nothing.
+/// Brings an endpoint to its mailbox: its call is counted once its route is known, and then nothing stops it. A missing
+/// or too long route stops the run and changes nothing.
 pub(crate) fn come(
     fields: &mut Fields,
     router: &mut Router,
@@ -330,27 +317,21 @@ pub(crate) fn come(
         fields.old fields.new result }
     ensures router { router.new ≡ router.old }
 {
+    check_budget(fields)?;
     let found = fields.boxes.look(comer.mailbox, comer.sends);
     match found.met {
-        Some(met) => join(fields, router, links, comer, found, met),
+        Some(met) => {
+            let latency = route_to(fields, router, links, comer, met.1)?;
+            count(fields);
+            meet(fields, comer, found, met, links.as_slice(), latency);
+            Ok(())
+        }
         None => {
+            count(fields);
             post(fields, comer, found);
             Ok(())
         }
     }
-}
-
-/// Blocks the actor by its call until its endpoint of an activity is done or, with none, until another's call releases
-/// it.
-pub(crate) fn block(fields: &mut Fields, actor: ActorId, what: Call, on: Option<Await>)
-    requires able { CanStep fields.old actor.0 }
-    requires what { IsTellable (extent (setup_in fields.old)) what }
-    requires made { IfSome on (IsMade (length fields.old.whose.whose)) }
-    ensures { Counts (blocked_by actor.0 what on) fields.old fields.new }
-{
-    let date = fields.doing.date();
-    fields.states.block(actor, what, date, on);
-    fields.events += 1;
 }
 
 // Returns the answer for an actor that waits for an activity, if the activity has ended.

@@ -1,5 +1,5 @@
 -- An entry of a profile comes.
-use Rattle.std.proofs.Common.{◌≡◌, ◌≢◌, ℕ, ◌+◌, ◌<◌, ◌++◌, cond, None, List, [], length, drop, get_or, refl, sym, ap, subst, ◌∙◌, append-nil, arith}
+use Rattle.std.proofs.Common.{◌≡◌, ◌≢◌, ℕ, ◌<◌, ◌++◌, cond, None, List, [], length, drop, get_or, refl, sym, ap, subst, ◌∙◌, append-nil, arith}
 use Rattle.std.specs.List.{All}
 use Rattle.std.specs.Prelude.{is_some}
 use Rattle.std.proofs.lemmas.List.{length-set}
@@ -17,8 +17,8 @@ use Rattle.sg_calls.specs.declared.stop.Stop.TheVariants.{Budget}
 use Rattle.sg_calls.specs.Known.{Known, after}
 use Rattle.sg_setup.specs.Setup.{Setup}
 use Rattle.sg_calls.specs.World.{Core}
-use Rattle.sg_calls.specs.Steps.{stops, and_then, all_of}
-use Rattle.sg_kernel.specs.Passes.{all_fail, applied, applied_if, changes, enters_one, entry_stretches}
+use Rattle.sg_calls.specs.Steps.{all_of, and_then, goes_on, stops}
+use Rattle.sg_kernel.specs.Passes.{all_fail, applied, applied_if, changes, enters, enters_one, entry_stretches}
 use Rattle.sg_kernel.specs.kept.Coming.{IsApplied, IsDueEntry, row_next, rows_now}
 use Rattle.sg_calls.specs.kept.Sound.{core_of, known_of, setup_in, IsTimely, IsTimetable}
 use Rattle.sg_calls.specs.kept.Whole.{IsPassing}
@@ -53,17 +53,17 @@ set_keeps network entry old new set = subst (KeepsPhases old.under) (sym set.und
 
 -- and how far its row is
 abbrev pub with_entry : Fields → Doing → Timetable → Fields
-with_entry fields doing profiles = record fields { doing = doing; profiles = profiles; events = fields.events + 1 }
+with_entry fields doing profiles = record fields { doing = doing; profiles = profiles }
 
 abbrev known_with : Fields → Underway → Timetable → List Record → Known
 known_with fields under table records = record (known_of fields) {
   setup = record (setup_in fields) { profiles = table.profiles };
-  core = record (core_of fields) { under = under; turns = table.turns; events = fields.events + 1 };
+  core = record (core_of fields) { under = under; turns = table.turns };
   records = records;
 }
 
 pub entered_known : (fields : Fields) (doing : Doing) (profiles : Timetable) (entry : Entry) → IsDueEntry fields entry → IsApplied fields.network entry fields.doing doing → profiles ≡ past_next fields.profiles →
-    known_of (with_entry fields doing profiles) ≡ after (enters_one (setup_in fields) (row_next fields) (core_of fields)) (known_of fields)
+    known_of (with_entry fields doing profiles) ≡ after (goes_on (enters (setup_in fields) (row_next fields) (core_of fields)) []) (known_of fields)
 entered_known fields doing profiles entry due set gone =
     let records = fields.states.records in
     let past = past_next fields.profiles in
@@ -94,9 +94,9 @@ entered_rows fields doing profiles entry due date gone was =
     ∙ rows_are_left fields.hosts fields.links fields.doing.under.date fields.profiles.profiles fields.profiles.turns (row_next fields) due.next.rest was.profiles due.next.first
     ∙ sym (ap (drop 1) due.next.first)
 
-pub entered_passing : (fields : Fields) (doing : Doing) (profiles : Timetable) (entry : Entry) → IsDueEntry fields entry → IsApplied fields.network entry fields.doing doing → profiles ≡ past_next fields.profiles → fields.events ≢ fields.budget →
+pub entered_passing : (fields : Fields) (doing : Doing) (profiles : Timetable) (entry : Entry) → IsDueEntry fields entry → IsApplied fields.network entry fields.doing doing → profiles ≡ past_next fields.profiles →
     IsPassing fields → IsPassing (with_entry fields doing profiles)
-entered_passing fields doing profiles entry due set gone go was =
+entered_passing fields doing profiles entry due set gone was =
     let keeps = set_keeps fields.network entry fields.doing doing set in
     let sound = was.sound in
     let held = was.held in
@@ -104,14 +104,14 @@ entered_passing fields doing profiles entry due set gone go was =
       sound = record {
         numbered = sound.numbered ∙ sym (ap length keeps.tasks);
         few = omega (arith, sound.few, ap length keeps.tasks);
-        within = omega (arith, sound.within, go);
+        within = sound.within;
         budgeted = sound.budgeted;
         hosts_counted = keeps.hosts ∙ sound.hosts_counted;
         links_counted = keeps.links ∙ sound.links_counted;
         homes_known = sound.homes_known;
         hosts_known = subst (λ n. All (λ (home : PointId). home.0 < n) fields.homes.items) (sym keeps.hosts) sound.hosts_known;
         requests_known = sound.requests_known;
-        requests_few = omega (arith, sound.requests_few);
+        requests_few = sound.requests_few;
         extent_is = sound.extent_is;
         network_kept = sound.network_kept;
       };
@@ -129,7 +129,7 @@ entered_passing fields doing profiles entry due set gone go was =
         owners = held.owners;
         counts = held.counts;
         actors = held.actors;
-        few = λ k d within. omega (arith, held.few k d within);
+        few = held.few;
         once = held.once;
         held = held.held;
         locking = held.locking;

@@ -1,5 +1,5 @@
 -- An activity that uses something that is off fails.
-use Rattle.std.proofs.Common.{◌≡◌, ◌≢◌, ℕ, ◌+◌, ◌-◌, true≢false, None, Some, length, set, get_or, sym, ap, subst, ◌∙◌, arith}
+use Rattle.std.proofs.Common.{◌≡◌, ◌≢◌, ℕ, ◌-◌, true≢false, None, Some, length, set, get_or, sym, ap, subst, ◌∙◌, arith}
 use Rattle.std.specs.List.{All}
 use Rattle.std.proofs.lemmas.List.{length-set}
 use Rattle.std.proofs.lemmas.List.Elements.{All-set}
@@ -13,7 +13,7 @@ use Rattle.sg_calls.specs.World.{extent}
 use Rattle.sg_mailbox.specs.Owners.{Owned}
 use Rattle.sg_calls.specs.kept.Sound.{setup_in, is_idle, AreMeeting, IsOwner}
 use Rattle.sg_calls.specs.kept.Whole.{IsPassing}
-use Rattle.sg_calls.proofs.Begins.{held_with, sound_with, sound_counted, held_counted}
+use Rattle.sg_calls.proofs.Begins.{held_with, sound_with}
 use Rattle.sg_calls.proofs.PostsKept.{meeting_gone, under_way}
 use Rattle.sg_calls.proofs.Timely.{IsTimelyAt}
 
@@ -26,18 +26,16 @@ failed_owner fields serial whose is hit passing =
     subst (IsOwner (extent (setup_in fields))) (sym is) (passing.limited (serial - 1) (Over how.Done) (omega (arith, hit.from, hit.to, passing.sound.numbered)))
 
 -- all that holds in a time advance still holds
-pub failed_passing : (fields : Fields) (serial : ℕ) (whose : Owned) (doing : Doing) → IsHit fields.doing serial → whose ≡ record fields.whose { whose = set fields.whose.whose (serial - 1) (Over how.Failed) } → doing ≡ gave_up serial fields.doing → fields.events ≢ fields.budget →
-    IsPassing fields → IsPassing (record fields { whose = whose; doing = doing; events = fields.events + 1 })
-failed_passing fields serial whose doing hit owned gone go was =
-    let counted : Fields = record fields { events = fields.events + 1 } in
+pub failed_passing : (fields : Fields) (serial : ℕ) (whose : Owned) (doing : Doing) → IsHit fields.doing serial → whose ≡ record fields.whose { whose = set fields.whose.whose (serial - 1) (Over how.Failed) } → doing ≡ gave_up serial fields.doing →
+    IsPassing fields → IsPassing (record fields { whose = whose; doing = doing })
+failed_passing fields serial whose doing hit owned gone was =
     let owners = ap (λ (o : Owned). o.whose) owned in
     let tasks = ap (λ (d : Doing). d.under.tasks) gone in
     let long = ap length tasks ∙ length-set fields.doing.under.tasks (serial - 1) None in
     let many = ap length owners ∙ length-set fields.whose.whose (serial - 1) (Over how.Failed) in
     let e = extent (setup_in fields) in
-    let m = was.meeting in
     record {
-      sound = sound_with counted doing whose fields.boxes (many ∙ was.sound.numbered ∙ sym long) (omega (arith, was.sound.few, long)) (ap (λ (d : Doing). d.under.capacities) gone) (sound_counted fields go was.sound);
+      sound = sound_with fields doing whose fields.boxes (many ∙ was.sound.numbered ∙ sym long) (omega (arith, was.sound.few, long)) (ap (λ (d : Doing). d.under.capacities) gone) was.sound;
       roomy = record {
         starts = omega (arith, was.roomy.starts, ap (λ (d : Doing). d.room) gone);
         owners = omega (arith, was.roomy.owners, ap (λ (o : Owned). o.room) owned);
@@ -46,8 +44,8 @@ failed_passing fields serial whose doing hit owned gone go was =
       };
       timely = subst (IsTimelyAt fields) (sym (ap (λ (d : Doing). d.under.date) gone)) was.timely;
       limited = subst (All (IsOwner e)) (sym owners) (All-set (IsOwner e) fields.whose.whose (serial - 1) (Over how.Failed) tt was.limited);
-      meeting = meeting_gone counted whose doing how.Failed (serial - 1) hit.task hit.at owners tasks (record { posts = m.posts; idle = m.idle; busy = m.busy; asked = m.asked; awaited = m.awaited });
-      held = held_with counted doing whose fields.boxes (held_counted fields was.held);
+      meeting = meeting_gone fields whose doing how.Failed (serial - 1) hit.task hit.at owners tasks was.meeting;
+      held = held_with fields doing whose fields.boxes was.held;
       passing = was.passing;
       small = omega (arith, was.small, ap (λ (d : Doing). d.under.date) gone);
     }

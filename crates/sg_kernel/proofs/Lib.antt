@@ -1,6 +1,7 @@
 pub mod Counting
 pub mod Ends
 pub mod Entering
+pub mod Events
 pub mod Failing
 pub mod Firsts
 pub mod Hits
@@ -11,4 +12,5 @@ pub mod Nexts
 pub mod Passed
 pub mod Rooms
 pub mod Skips
+pub mod Tells
 pub mod Timely

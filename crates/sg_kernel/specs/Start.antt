@@ -3,7 +3,6 @@ use Rattle.std.specs.Prelude.{None, [], length, map, replicate}
 use Rattle.sg_activity.specs.Links.{Capacities}
 use Rattle.sg_activity.specs.Underway.{nothing_on}
 use Rattle.sg_profile.specs.Profiles.{first_turns}
-use Rattle.sg_rows.specs.Deployment.{starts}
 use Rattle.sg_rows.specs.Platform.{Platform}
 use Rattle.sg_sync.specs.Objects.{Objects}
 use Rattle.sg_states.specs.Actors.{first_actor}

@@ -3,8 +3,8 @@
 ghost use Rattle.std.specs.Prelude.{◌≡◌, ◌<◌, [], MatchOption, Ok, OnOk, drop, length};
 ghost use Rattle.sg_profile.specs.Profiles.{IsEntry};
 ghost use Rattle.sg_rows.specs.Network.{IsNetwork};
-ghost use Rattle.sg_calls.specs.Steps.{each};
-ghost use Rattle.sg_kernel.specs.Passes.{changes, enters_one};
+ghost use Rattle.sg_calls.specs.Steps.{each, goes_on};
+ghost use Rattle.sg_kernel.specs.Passes.{changes, enters};
 ghost use Rattle.sg_kernel.specs.kept.Acts.{CanEnter, Changes, Enters};
 ghost use Rattle.sg_kernel.specs.kept.Coming.{CountsSome, IsApplied, IsDueEntry, row_next, rows_now};
 ghost use Rattle.sg_calls.specs.kept.Sound.{setup_in, IsTimely};
@@ -12,7 +12,7 @@ ghost use Rattle.sg_calls.specs.kept.Whole.{IsPassing};
 
 use crate::failures::fail_all;
 use sg_activity::Activities;
-use sg_calls::{Fields, Stop};
+use sg_calls::{Fields, Stop, event};
 use sg_profile::Entry;
 use sg_rows::Network;
 
@@ -52,13 +52,13 @@ fn apply(doing: &mut Activities, network: Network, entry: Entry)
 // Applies the next entry, and moves its row past it.
 fn enter(fields: &mut Fields, entry: Entry)
     requires { CanEnter fields.old entry }
-    ensures enters { Enters (enters_one (setup_in fields.old) (row_next fields.old))
+    ensures enters { Enters
+        (λ core. goes_on (enters (setup_in fields.old) (row_next fields.old) core) [])
         fields.old fields.new }
     ensures rows { rows_now fields.new ≡ drop 1 (rows_now fields.old) }
 {
     apply(&mut fields.doing, fields.network, entry);
     fields.profiles.step();
-    fields.events += 1;
 }
 
 // Applies the next entry, with all that comes with it, as far as the budget goes.
@@ -70,9 +70,7 @@ fn change(fields: &mut Fields, entry: Entry) -> Result<(), Stop>
     ensures rows { OnOk result (rows_now fields.new ≡ drop 1 (rows_now fields.old)) }
     ensures events { CountsSome (rows_now fields.old) fields.old fields.new }
 {
-    if fields.events == fields.budget {
-        return Err(Stop::Budget);
-    }
+    event(fields)?;
     enter(fields, entry);
     fail_all(fields)
 }

@@ -2,26 +2,27 @@
 
 ghost use Rattle.std.specs.Prelude.{◌≡◌, ◌≤◌, drop};
 ghost use Rattle.sg_activity.specs.Underway.{hits};
-ghost use Rattle.sg_kernel.specs.Passes.{all_fail, fails_one};
+ghost use Rattle.sg_mailbox.specs.declared.owners.How.TheVariants as how;
+ghost use Rattle.sg_calls.specs.Answers.{finishes};
+ghost use Rattle.sg_kernel.specs.Passes.{all_fail};
 ghost use Rattle.sg_kernel.specs.kept.Acts.{Changes, Enters};
 ghost use Rattle.sg_kernel.specs.kept.Asks.{CanFail};
 ghost use Rattle.sg_calls.specs.kept.Sound.{setup_in};
 ghost use Rattle.sg_calls.specs.kept.Whole.{IsPassing};
 
 use sg_base::Serial;
-use sg_calls::{Fields, Stop, answer_owners};
+use sg_calls::{Fields, Stop, answer_owners, event};
 use sg_mailbox::How;
 
 // Fails the first activity of those that use something that is off, and answers its waiters.
 fn fail(fields: &mut Fields, serial: Serial)
     requires { CanFail fields.old serial.0 }
-    ensures enters { Enters (fails_one serial.0) fields.old fields.new }
+    ensures enters { Enters (finishes how.Failed serial.0) fields.old fields.new }
     ensures hits { hits fields.new.doing.under ≡ drop 1 (hits fields.old.doing.under) }
     ensures profiles { fields.new.profiles ≡ fields.old.profiles }
 {
     let whose = fields.whose.fail(serial);
     fields.doing.give_up(serial);
-    fields.events += 1;
     answer_owners(fields, How::Failed, serial, whose);
 }
 
@@ -33,9 +34,7 @@ pub(crate) fn fail_all(fields: &mut Fields) -> Result<(), Stop>
     ensures events { fields.old.events ≤ fields.new.events }
 {
     while let Some(serial) = fields.doing.hit() {
-        if fields.events == fields.budget {
-            return Err(Stop::Budget);
-        }
+        event(fields)?;
         fail(fields, serial);
     }
     Ok(())

@@ -23,7 +23,7 @@ use crate::beginning::first_fields;
 use crate::passes::move_on;
 use arrayvec::ArrayVec;
 use sg_base::{Action, ActorId, Answer, Call, LinkId, Memory, PointId, Record, Steps};
-use sg_calls::{Fields, Stop, answer_call, create, go_on};
+use sg_calls::{Fields, Stop, answer_call, check_budget, count, create, event, go_on, is_used_up};
 use sg_route::Router;
 use sg_rows::{Deployment, PlatformText};
 use sg_states::State;
@@ -150,9 +150,7 @@ impl Kernel {
         ensures result { result
             ≡ result_of (told self.old.setup self.old.core actor.0 action).stop }
     {
-        if self.fields.events == self.fields.budget {
-            return Err(Stop::Budget);
-        }
+        event(&mut self.fields)?;
         match action {
             Some(action) => go_on(&mut self.fields, actor, Answer::Act(action)),
             None => go_on(&mut self.fields, actor, Answer::NoMore),
@@ -167,9 +165,7 @@ impl Kernel {
         ensures { result ≡ (if self.now.core.events == self.now.setup.budget then Err stop.Budget
             else Ok (is_unstarted (state_of self.now.core target.0))) }
     {
-        if self.fields.events == self.fields.budget {
-            return Err(Stop::Budget);
-        }
+        check_budget(&self.fields)?;
         Ok(matches!(self.fields.states.state(target), State::Unstarted))
     }
 
@@ -182,6 +178,7 @@ impl Kernel {
         requires room { 0 < self.old.room }
         ensures { self.new ≡ after_call true (created given actor.0 target self.old.core) self.old }
     {
+        count(&mut self.fields);
         create(&mut self.fields, actor, target, given);
     }
 
@@ -272,7 +269,7 @@ impl Kernel {
     pub fn is_used_up(&self) -> bool
         ensures { result ≡ (self.now.core.events == self.now.setup.budget) }
     {
-        self.fields.events == self.fields.budget
+        is_used_up(&self.fields)
     }
 
     /// Returns the date, in nanoseconds.

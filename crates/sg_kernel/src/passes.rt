@@ -1,11 +1,10 @@
 //! Passes, and ends of phases.
 
-ghost use Rattle.std.specs.Prelude.{◌≡◌, ◌≢◌, ◌<◌, IsTrue, MatchOption, None, Some, if◌then◌else◌};
-ghost use Rattle.sg_lives.specs.declared.kinds.PhaseKind.TheVariants as phase_kind;
+ghost use Rattle.std.specs.Prelude.{◌≡◌, ◌<◌, IsTrue, MatchOption, None, Some, if◌then◌else◌};
 ghost use Rattle.sg_activity.specs.Underway.{is_running};
 ghost use Rattle.sg_calls.specs.Steps.{all_of, each, result_of};
-ghost use Rattle.sg_kernel.specs.Passes.{ends, ends_one, next_span, settled_pass};
-ghost use Rattle.sg_kernel.specs.kept.Acts.{CanEnd, Ends, Passes};
+ghost use Rattle.sg_kernel.specs.Passes.{ends, next_span, settled_pass};
+ghost use Rattle.sg_kernel.specs.kept.Acts.{phase_ends, CanEnd, Ends, Passes};
 ghost use Rattle.sg_kernel.specs.kept.Asks.{CanMoveOn, CanPass};
 ghost use Rattle.sg_kernel.specs.kept.Coming.{coming, CountsSome, IsNextDate};
 ghost use Rattle.sg_calls.specs.kept.Sound.{core_of, setup_in, StepsBy};
@@ -13,7 +12,7 @@ ghost use Rattle.sg_calls.specs.kept.Whole.{IsPassing, IsWhole};
 
 use crate::entries::change_due;
 use sg_activity::{Activities, Phase, PhaseKind};
-use sg_calls::{Fields, Stop, answer_owners};
+use sg_calls::{Fields, Stop, answer_owners, check_budget, event};
 use sg_mailbox::How;
 
 // Returns why there is no next date.
@@ -27,36 +26,19 @@ fn none_next(doing: &Activities) -> Stop
     }
 }
 
-// Begins the flow of a communication whose latency has passed.
-fn begin_flow(fields: &mut Fields, phase: Phase)
-    requires ends { CanEnd fields.old phase }
-    requires latency { phase.kind ≡ phase_kind.Latency }
-    ensures { Ends (ends_one phase.serial.0) fields.old fields.new }
-{
-    fields.doing.finish();
-    fields.events += 1;
-}
-
-// Ends the last phase of an activity: it is done, and its waiters are answered.
-fn end_activity(fields: &mut Fields, phase: Phase)
-    requires ends { CanEnd fields.old phase }
-    requires last { phase.kind ≢ phase_kind.Latency }
-    ensures { Ends (ends_one phase.serial.0) fields.old fields.new }
-{
-    let whose = fields.whose.take(phase.serial);
-    fields.doing.finish();
-    fields.events += 1;
-    answer_owners(fields, How::Done, phase.serial, whose);
-}
-
-// Ends the first phase that completes at the date.
+// Ends the first phase that completes at the date. The flow of a communication follows its latency; any other phase is
+// the last one, after which the waiters of the activity are answered.
 fn end_phase(fields: &mut Fields, phase: Phase)
     requires { CanEnd fields.old phase }
-    ensures { Ends (ends_one phase.serial.0) fields.old fields.new }
+    ensures { Ends (phase_ends phase.serial.0) fields.old fields.new }
 {
+    fields.doing.finish();
     match phase.kind {
-        PhaseKind::Latency => begin_flow(fields, phase),
-        _ => end_activity(fields, phase),
+        PhaseKind::Latency => {}
+        _ => {
+            let whose = fields.whose.take(phase.serial);
+            answer_owners(fields, How::Done, phase.serial, whose);
+        }
     }
 }
 
@@ -68,9 +50,7 @@ fn end_due(fields: &mut Fields) -> Result<(), Stop>
     ensures events { CountsSome fields.old.doing.due fields.old fields.new }
 {
     while let Some(phase) = fields.doing.due() {
-        if fields.events == fields.budget {
-            return Err(Stop::Budget);
-        }
+        event(fields)?;
         end_phase(fields, phase);
     }
     Ok(())
@@ -115,9 +95,7 @@ pub(crate) fn move_on(fields: &mut Fields) -> Result<(), Stop>
     let Some(date) = next_date(fields) else {
         return Err(none_next(&fields.doing));
     };
-    if fields.events == fields.budget {
-        return Err(Stop::Budget);
-    }
+    check_budget(fields)?;
     fields.doing.advance_to(date);
     fields.states.begin_pass();
     let stopped = come(fields);

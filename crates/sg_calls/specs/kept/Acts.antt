@@ -1,26 +1,32 @@
 -- What the functions that answer calls ask for, and what they do.
-use Rattle.std.specs.Prelude.{◌≡◌, ℕ, ◌-◌, ◌<◌, ◌≤◌, true, is_ok, None, Some, Result, length}
+use Rattle.std.specs.Prelude.{◌≡◌, ◌≢◌, ℕ, ◌+◌, ◌-◌, ◌<◌, ◌≤◌, true, is_ok, None, Some, List, Result, Ok, Err, length}
 use Rattle.sg_base.specs.declared.call.Call.{Call}
+use Rattle.sg_base.specs.declared.ids.LinkId.{LinkId}
 use Rattle.sg_base.specs.declared.ids.Serial.{Serial}
 use Rattle.sg_base.specs.Limits.{IsCall}
 use Rattle.sg_mailbox.specs.declared.sides.Found.{Found}
 use Rattle.sg_mailbox.specs.declared.sides.Side.{Side}
 use Rattle.sg_mailbox.specs.Posts.{IsFound}
+use Rattle.sg_route.specs.declared.router.RouteFault.{RouteFault}
+use Rattle.sg_route.specs.Roads.{Roads}
+use Rattle.sg_setup.specs.Setup.{Setup}
 use Rattle.sg_states.specs.Actors.{joined_by}
 use Rattle.sg_states.specs.Records.{IsTellable}
 use Rattle.sg_states.specs.States.{CanCall}
 use Rattle.sg_calls.specs.declared.simulation_state.Fields.{Fields}
 use Rattle.sg_calls.specs.declared.meetings.Comer.{Comer}
 use Rattle.sg_calls.specs.declared.stop.Stop.{Stop}
+use Rattle.sg_calls.specs.declared.stop.Stop.TheVariants.{Budget}
 use Rattle.sg_calls.specs.Known.{after_call}
+use Rattle.sg_calls.specs.Meetings.{point_of, receiver_of, route_between, sender_of, stop_of}
 use Rattle.sg_calls.specs.Steps.{Step, result_of}
 use Rattle.sg_calls.specs.World.{Core, extent, IsActor}
-use Rattle.sg_calls.specs.kept.Sound.{core_of, known_of, setup_in, CallsBy, CountsBy, IsComer, StepsBy}
+use Rattle.sg_calls.specs.kept.Sound.{core_of, known_of, setup_in, IsComer, StepsBy}
 use Rattle.sg_calls.specs.kept.Waking.{LeavesCallers}
 use Rattle.sg_calls.specs.kept.Whole.{CanStep, IsSteady, IsWhole, IsWholeFor}
 
 -- ---- what is asked for
--- a call of the actor can be answered, and this one keeps to the limits
+-- the call of the actor is counted, and keeps to the limits
 pub record CanMake (fields : Fields) (actor : ℕ) (what : Call) : Type 0 where
   pub able : CanStep fields actor
   pub call : IsCall (extent (setup_in fields)) what
@@ -30,19 +36,25 @@ pub record CanName (fields : Fields) (actor other : ℕ) : Type 0 where
   pub able : CanStep fields actor
   pub target : IsActor (core_of fields) other
 
--- an endpoint can arrive by its call
+-- an endpoint can arrive by its call, which isn't counted
 pub record CanCome (fields : Fields) (one : Comer) : Type 0 where
+  pub call : CanCall fields.states one.side.actor.0
+  pub comer : IsComer (extent (setup_in fields)) one
+  pub whole : IsWhole fields
+
+-- its call is counted, and it meets nobody
+pub record CanPost (fields : Fields) (one : Comer) : Type 0 where
   pub able : CanStep fields one.side.actor.0
   pub comer : IsComer (extent (setup_in fields)) one
 
--- and meets another one
+-- or another one
 pub record CanMeet (fields : Fields) (one : Comer) (look : Found) (post : Serial × Side) : Type 0 where
   pub able : CanStep fields one.side.actor.0
   pub comer : IsComer (extent (setup_in fields)) one
   pub found : IsFound fields.boxes one.mailbox one.sends look
   pub met : look.met ≡ Some post
 
--- the call of an endpoint is counted, and it can take part in the communication with this id
+-- it can take part in the communication with this id
 pub record CanTakePart (fields : Fields) (one : Comer) (serial : ℕ) : Type 0 where
   pub able : CanCall fields.states one.side.actor.0
   pub comer : IsComer (extent (setup_in fields)) one
@@ -64,23 +76,35 @@ pub record CanGiveUp (fields : Fields) (serial : ℕ) : Type 0 where
   pub to : serial ≤ length fields.whose.whose
   pub whole : IsWhole fields
 
+-- ---- events
+-- one more is counted
+pub record CountsOne (old new : Fields) : Type 0 where
+  pub left : old.events ≢ old.budget
+  pub counted : new ≡ record old { events = old.events + 1 }
+
+-- or the budget is used up: the run stops for that
+pub record IsUsedUp (fields : Fields) (why : Stop) : Type 0 where
+  pub used : fields.events ≡ fields.budget
+  pub stop : why ≡ Budget
+
+-- ---- routes
+-- the links and the latency between an arriving endpoint and its match, or why the run stops
+abbrev pub LeavesWay : Roads → Setup → Comer → Side → Result ℕ Stop → List LinkId → Type 0
+LeavesWay roads setup comer other (Ok latency) links = route_between roads setup (sender_of comer other) (receiver_of comer other) ≡ Ok (record { links = links; latency = latency })
+LeavesWay roads setup comer other (Err why) links = (fault : RouteFault) × (route_between roads setup (sender_of comer other) (receiver_of comer other) ≡ Err fault) × (why ≡ stop_of (point_of setup (sender_of comer other)) (point_of setup (receiver_of comer other)) fault)
+
 -- ---- what is done: what is known changes so, and what is kept is whole again
--- by a call that is counted here
+-- by a call that is counted
 pub record Answers (step : Core → Step) (old new : Fields) : Type 0 where
-  pub known : CallsBy step old new
-  pub whole : IsWhole new
-
--- by one that makes no record
-pub record Counts (change : Core → Core) (old new : Fields) : Type 0 where
-  pub known : CountsBy change old new
-  pub whole : IsWhole new
-
--- by one that was counted
-pub record Completes (step : Core → Step) (old new : Fields) : Type 0 where
   pub known : known_of new ≡ after_call true (step (core_of old)) (known_of old)
   pub whole : IsWhole new
 
--- by one that may stop the run
+-- by one that makes no record
+pub record Becomes (change : Core → Core) (old new : Fields) : Type 0 where
+  pub known : known_of new ≡ record (known_of old) { core = change (core_of old); room = old.states.room - 1 }
+  pub whole : IsWhole new
+
+-- by one that may stop the run before it is counted
 pub record Replies (step : Step) (old new : Fields) (reply : Result Unit Stop) : Type 0 where
   pub known : known_of new ≡ after_call (is_ok reply) step (known_of old)
   pub result : reply ≡ result_of step.stop

@@ -23,9 +23,9 @@ use Rattle.sg_mailbox.specs.declared.owners.Whose.{Whose}
 use Rattle.sg_mailbox.specs.declared.owners.Whose.TheVariants.{Over, Alone, Posted, Pair}
 use Rattle.sg_setup.specs.Setup.{Setup}
 use Rattle.sg_calls.specs.World.{Core, extent, host_of, state_of}
-use Rattle.sg_calls.specs.Known.{Known, after, after_call}
+use Rattle.sg_calls.specs.Known.{Known, after}
 use Rattle.sg_calls.specs.Meetings.{comes, posts_from}
-use Rattle.sg_calls.specs.Steps.{Step, counted}
+use Rattle.sg_calls.specs.Steps.{Step, unless_used}
 
 abbrev pub point_number : PointId → ℕ
 point_number point = point.0
@@ -62,16 +62,9 @@ known_of fields = record { setup = setup_in fields; core = core_of fields; recor
 abbrev pub StepsBy : (Core → Step) → Fields → Fields → Type 0
 StepsBy step old new = known_of new ≡ after (step (core_of old)) (known_of old)
 
--- the core changes so by a call that is counted
-abbrev pub CountsBy : (Core → Core) → Fields → Fields → Type 0
-CountsBy change old new = known_of new ≡ record (known_of old) { core = change (counted (core_of old)); room = old.states.room - 1 }
-
-abbrev pub CallsBy : (Core → Step) → Fields → Fields → Type 0
-CallsBy step old new = known_of new ≡ after_call true (step (counted (core_of old))) (known_of old)
-
 -- what an arriving endpoint leads to
 abbrev pub comes_in : Roads → Comer → Fields → Step
-comes_in roads comer fields = comes roads (setup_in fields) comer (core_of fields)
+comes_in roads comer fields = unless_used fields.budget (core_of fields) (comes roads (setup_in fields) comer (core_of fields))
 
 -- ---- what is kept
 -- the numbers keep to their limits

@@ -1,5 +1,5 @@
 -- All that holds of what is kept.
-use Rattle.std.specs.Prelude.{◌≡◌, ◌≢◌, ℕ, ◌<◌, ◌^◌, true, false}
+use Rattle.std.specs.Prelude.{◌≡◌, ℕ, ◌+◌, ◌-◌, ◌<◌, ◌^◌, true, false, length, All}
 use Rattle.sg_states.specs.States.{CanCall}
 use Rattle.sg_calls.specs.declared.simulation_state.Fields.{Fields}
 use Rattle.sg_calls.specs.kept.Waking.{LeavesCallers}
@@ -19,11 +19,22 @@ pub record IsWholeFor (room : ℕ) (fields : Fields) : Type 0 where
 abbrev pub IsWhole : Fields → Type 0
 IsWhole fields = IsWholeFor fields.states.room fields
 
--- a call of the actor can be answered: the budget isn't used up
+-- the last event is counted, and has begun no activity, made no request and released no semaphore yet
+pub record IsFresh (fields : Fields) : Type 0 where
+  pub tasks : length fields.doing.under.tasks < fields.events
+  pub asked : fields.requests.asked < fields.events
+  pub counts : All (λ count. count < 10 ^ 9 + fields.events) fields.objects.counts
+
+-- the call of the actor is counted, and can be answered
 pub record CanStep (fields : Fields) (actor : ℕ) : Type 0 where
   pub whole : IsWhole fields
   pub call : CanCall fields.states actor
-  pub budget : fields.events ≢ fields.budget
+  pub fresh : IsFresh fields
+
+-- the call of the actor is counted, and can be answered; what it began may have used its room
+pub record CanConclude (fields : Fields) (actor : ℕ) : Type 0 where
+  pub whole : IsWholeFor (fields.states.room - 1) fields
+  pub call : CanCall fields.states actor
 
 -- while a call on an object is answered: all except who is blocked, which `AreWaking` gives
 pub record IsSteady (fields : Fields) : Type 0 where

@@ -19,8 +19,7 @@ pub record CanPass (fields : Fields) : Type 0 where
   pub some : (rows_now fields ≢ []) ⊎ (fields.doing.due ≢ [])
   pub budget : fields.events ≢ fields.budget
 
--- in such a time advance this activity is the first that uses something that is off
+-- in a time advance this activity is the first that uses something that is off, and its failure is counted
 pub record CanFail (fields : Fields) (serial : ℕ) : Type 0 where
   pub hit : IsHit fields.doing serial
   pub passing : IsPassing fields
-  pub budget : fields.events ≢ fields.budget

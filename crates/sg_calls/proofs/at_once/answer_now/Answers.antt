@@ -2,7 +2,7 @@ use Rattle.std.proofs.Common.{ap, arith, rules}
 use Rattle.sg_states.specs.declared.state.State.TheVariants.{Ready}
 use Rattle.sg_states.specs.States.{ActorStates}
 use Rattle.sg_calls.proofs.Limits.{date_below, states_answer, states_tell}
-use Rattle.sg_calls.proofs.Moves.{moves_answered, whole_called}
+use Rattle.sg_calls.proofs.Moves.{moves_answered, whole_concluded}
 use Rattle.sg_calls.proofs.at_once.answer_now.Goals as goal
 
 pub answer-requires-clause-what : goal.answer-requires-clause-what
@@ -23,5 +23,5 @@ returns c = record {
       let old = c.args.fields.now in
       let new = c.answer.new.self in
       let moves = moves_answered old.states new c.args.actor.0 c.args.what c.date-date.result c.args.bytes c.args.answer c.date-date.result c.answer.ensures in
-      whole_called old new c.args.actor (Ready c.args.answer) c.requires.able tt moves (omega (arith, ap (λ (s : ActorStates). s.room) c.answer.ensures));
+      whole_concluded old new c.args.actor (Ready c.args.answer) c.requires.able tt moves (ap (λ (s : ActorStates). s.room) c.answer.ensures);
 }

@@ -1,8 +1,8 @@
-use Rattle.std.proofs.Common.{ap, arith, rules}
+use Rattle.std.proofs.Common.{ap, rules}
 use Rattle.sg_states.specs.declared.state.State.TheVariants.{Ready}
 use Rattle.sg_states.specs.States.{ActorStates}
 use Rattle.sg_calls.proofs.Limits.{states_answer}
-use Rattle.sg_calls.proofs.Moves.{moves_called, whole_called}
+use Rattle.sg_calls.proofs.Moves.{moves_called, whole_concluded}
 use Rattle.sg_calls.proofs.at_once.go_on.Goals as goal
 
 pub go_on-requires-clause-answer : goal.go_on-requires-clause-answer
@@ -14,6 +14,5 @@ returns c = record {
   whole =
       let old = c.args.fields.now in
       let new = c.go_on.new.self in
-      whole_called old new c.args.actor (Ready c.args.answer) c.requires.able tt (moves_called old.states new c.args.actor.0 (Ready c.args.answer) c.go_on.ensures)
-      (omega (arith, ap (λ (s : ActorStates). s.room) c.go_on.ensures));
+      whole_concluded old new c.args.actor (Ready c.args.answer) c.requires.able tt (moves_called old.states new c.args.actor.0 (Ready c.args.answer) c.go_on.ensures) (ap (λ (s : ActorStates). s.room) c.go_on.ensures);
 }

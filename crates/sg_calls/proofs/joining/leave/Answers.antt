@@ -1,7 +1,7 @@
-use Rattle.std.proofs.Common.{ap, arith, rules}
+use Rattle.std.proofs.Common.{ap, rules}
 use Rattle.sg_states.specs.declared.state.State.TheVariants.{Ended}
 use Rattle.sg_states.specs.States.{ActorStates}
-use Rattle.sg_calls.proofs.Moves.{moves_called, whole_called}
+use Rattle.sg_calls.proofs.Moves.{moves_called, whole_concluded}
 use Rattle.sg_calls.proofs.joining.leave.Goals as goal
 
 pub returns : goal.returns
@@ -10,6 +10,5 @@ returns c = record {
   whole =
       let old = c.args.fields.now in
       let new = c.exit.new.self in
-      whole_called old new c.args.actor Ended c.requires tt (moves_called old.states new c.args.actor.0 Ended c.exit.ensures)
-      (omega (arith, ap (λ (s : ActorStates). s.room) c.exit.ensures));
+      whole_concluded old new c.args.actor Ended c.requires tt (moves_called old.states new c.args.actor.0 Ended c.exit.ensures) (ap (λ (s : ActorStates). s.room) c.exit.ensures);
 }

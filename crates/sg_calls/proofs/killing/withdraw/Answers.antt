@@ -7,7 +7,6 @@ use Rattle.sg_sync.specs.Objects.{Objects}
 use Rattle.sg_calls.specs.Kills.{awaited, blocked_on, withdrawn}
 use Rattle.sg_calls.specs.kept.Killing.{AreSerials}
 use Rattle.sg_calls.specs.kept.Sound.{core_of, known_of}
-use Rattle.sg_calls.specs.Steps.{counted}
 use Rattle.sg_calls.proofs.Killed.{awaited_made, kill_told, killed_known, killed_room, whole_killed}
 use Rattle.sg_calls.proofs.Limits.{date_below, states_tell}
 use Rattle.sg_calls.proofs.killing.withdraw.Goals as goal
@@ -45,7 +44,7 @@ returns-clause-answers c = record {
       let old = c.args.fields.now in
       let new = c.end.new.states in
       let target = c.args.target in
-      let core = counted (core_of old) in
+      let core = core_of old in
       let known = known_of old in
       let room : new.room ≡ old.states.room - 1 = killed_room old.states new c.args.actor.0 target c.date-date.result c.end.ensures in
       ap₂ (λ (queues : List (List Await)) (o : Objects). record known { core = record core { requests = queues; objects = o; actors = new.actors }; records = new.records; room = new.room }) (ap (λ (r : Requested). r.queues) c.let_go.ensures) c.leave.ensures

@@ -9,7 +9,7 @@ pub answer_first-requires-clause-waking : goal.answer_first-requires-clause-waki
 answer_first-requires-clause-waking c =
     let old = c.args.fields.now in
     let actor = c.args.actor in
-    waking_called old c.acquire-outcome.new.self c.acquire-outcome.result actor (λ (o : Objects). acquired actor c.args.semaphore o) c.requires.able.call.caller c.requires.able.whole.held
+    waking_called old c.acquire-outcome.new.self c.acquire-outcome.result actor (λ (o : Objects). acquired actor c.args.semaphore o) c.requires.able.call.caller c.requires.able.fresh c.requires.able.whole.held
     (acquired_keeps old.objects actor c.args.semaphore (omega (arith, c.requires.call, c.requires.able.whole.held.acquiring)))
     (acquired_like actor c.args.semaphore old.objects (omega (arith, c.requires.call, c.requires.able.whole.held.counts)))
     c.acquire-outcome.ensures.outcome c.acquire-outcome.ensures.after
@@ -19,5 +19,5 @@ answer_first-requires-clause-serves c = record {
   able = search rules;
   what = search rules;
   object = search rules;
-  steady = steady_called c.args.fields.now c.acquire-outcome.new.self c.args.actor.0 c.requires.able;
+  steady = steady_called c.args.fields.now c.acquire-outcome.new.self c.requires.able.whole;
 }

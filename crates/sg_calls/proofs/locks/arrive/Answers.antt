@@ -9,7 +9,7 @@ pub answer_last-requires-clause-waking : goal.answer_last-requires-clause-waking
 answer_last-requires-clause-waking c =
     let old = c.args.fields.now in
     let actor = c.args.actor in
-    waking_called old c.arrive-outcome.new.self c.arrive-outcome.result actor (λ (o : Objects). arrived actor o) c.requires.call.caller c.requires.whole.held
+    waking_called old c.arrive-outcome.new.self c.arrive-outcome.result actor (λ (o : Objects). arrived actor o) c.requires.call.caller c.requires.fresh c.requires.whole.held
     (arrived_keeps old.objects actor)
     (arrived_like actor old.objects)
     c.arrive-outcome.ensures.outcome c.arrive-outcome.ensures.after
@@ -19,5 +19,5 @@ answer_last-requires-clause-serves c = record {
   able = search rules;
   what = search rules;
   object = search rules;
-  steady = steady_called c.args.fields.now c.arrive-outcome.new.self c.args.actor.0 c.requires;
+  steady = steady_called c.args.fields.now c.arrive-outcome.new.self c.requires.whole;
 }

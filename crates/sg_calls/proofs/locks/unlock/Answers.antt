@@ -9,7 +9,7 @@ pub answer_first-requires-clause-waking : goal.answer_first-requires-clause-waki
 answer_first-requires-clause-waking c =
     let old = c.args.fields.now in
     let actor = c.args.actor in
-    waking_called old c.unlock-outcome.new.self c.unlock-outcome.result actor (λ (o : Objects). unlocked actor c.args.mutex o) c.requires.able.call.caller c.requires.able.whole.held
+    waking_called old c.unlock-outcome.new.self c.unlock-outcome.result actor (λ (o : Objects). unlocked actor c.args.mutex o) c.requires.able.call.caller c.requires.able.fresh c.requires.able.whole.held
     (unlocked_keeps old.objects actor c.args.mutex (omega (arith, c.requires.call, c.requires.able.whole.held.locking)))
     (unlocked_like actor c.args.mutex old.objects)
     c.unlock-outcome.ensures.outcome c.unlock-outcome.ensures.after
@@ -19,5 +19,5 @@ answer_first-requires-clause-serves c = record {
   able = search rules;
   what = search rules;
   object = search rules;
-  steady = steady_called c.args.fields.now c.unlock-outcome.new.self c.args.actor.0 c.requires.able;
+  steady = steady_called c.args.fields.now c.unlock-outcome.new.self c.requires.able.whole;
 }

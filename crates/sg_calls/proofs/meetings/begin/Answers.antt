@@ -1,4 +1,4 @@
-use Rattle.std.proofs.Common.{◌≡◌, ◌+◌, ◌-◌, ◌<◌, ◌≤◌, List, Some, Option, length, set, refl, sym, ap, ap₂, subst, arith, ◌∙◌, ℕ, rules}
+use Rattle.std.proofs.Common.{◌≡◌, ◌-◌, ◌<◌, ◌≤◌, List, Some, Option, length, set, refl, sym, ap, subst, arith, ◌∙◌, rules}
 use Rattle.std.specs.List.{All}
 use Rattle.std.proofs.lemmas.List.{length-set}
 use Rattle.std.proofs.lemmas.List.Elements.{All-set}
@@ -10,8 +10,7 @@ use Rattle.sg_base.specs.declared.ids.Serial.{Serial}
 use Rattle.sg_mailbox.specs.declared.owners.Whose.{Whose}
 use Rattle.sg_mailbox.specs.declared.owners.Whose.TheVariants.{Pair}
 use Rattle.sg_mailbox.specs.Owners.{Owned}
-use Rattle.sg_mailbox.specs.declared.sides.Side.{Side}
-use Rattle.sg_calls.specs.World.{extent, host_of}
+use Rattle.sg_calls.specs.World.{extent}
 use Rattle.sg_calls.specs.kept.Sound.{setup_in, IsSide, IsOwner}
 use Rattle.sg_calls.proofs.Begins.{held_with, sound_with}
 use Rattle.sg_calls.proofs.Timely.{IsTimelyAt}
@@ -19,7 +18,6 @@ use Rattle.sg_calls.proofs.Limits.{home_exists}
 use Rattle.sg_calls.proofs.Meets.{AreBusy, AreIdle, AreTold, busy_put, idle_put, made_more, told_met}
 use Rattle.sg_calls.proofs.Stated.{awaiting_more}
 use Rattle.sg_calls.proofs.Mets.{is_met, sides_limited, waiting_below}
-use Rattle.sg_calls.proofs.Moves.{whole_counted}
 use Rattle.sg_calls.proofs.meetings.begin.Goals as goal
 
 pub enter-requires-clause-above : goal.enter-requires-clause-above
@@ -94,8 +92,7 @@ take_part-requires c = record {
       let comer = c.args.comer.now in
       let serial = c.args.met.0 in
       let e = extent (setup_in old) in
-      let counted = record old { events = old.events + 1 } in
-      let was = whole_counted old comer.side.actor.0 c.requires.meets.able in
+      let was = c.requires.meets.able.whole in
       let m = is_met old comer serial c.args.met.1 (sym c.requires.meets.found.met ∙ c.requires.meets.met) c.requires.meets.able.whole.limited c.requires.meets.able.whole.meeting in
       let w = Pair c.sender_of-sender.result c.receiver_of-receiver.result in
       let doing = c.start_comm.new.self in
@@ -113,7 +110,7 @@ take_part-requires c = record {
       let told : AreTold c.enter.new.self (set old.whose.whose (m.post.serial.0 - 1) w) =
       told_met old.boxes c.enter.new.self comer.mailbox comer.sends comer.side c.next_serial-next.result old.whose.whose m.post w m.found refl entered.there entered.elsewhere was.meeting.posts in
       record {
-        sound = sound_with counted doing c.put.new.self c.enter.new.self (omega (arith, long, many, was.sound.numbered)) (omega (arith, long, was.sound.few)) (ap (λ (d : Doing). d.under.capacities) begun) was.sound;
+        sound = sound_with old doing c.put.new.self c.enter.new.self (omega (arith, long, many, was.sound.numbered)) (omega (arith, long, was.sound.few)) (ap (λ (d : Doing). d.under.capacities) begun) was.sound;
         roomy = record {
           starts = omega (arith, was.roomy.starts, ap (λ (d : Doing). d.room) begun);
           owners = omega (arith, was.roomy.owners, ap (λ (o : Owned). o.room) c.put.ensures);
@@ -121,7 +118,7 @@ take_part-requires c = record {
           requests = omega (arith, was.roomy.requests);
         };
         dated = omega (arith, was.dated, ap (λ (d : Doing). d.under.date) begun);
-        timely = subst (IsTimelyAt counted) (sym (ap (λ (d : Doing). d.under.date) begun)) was.timely;
+        timely = subst (IsTimelyAt old) (sym (ap (λ (d : Doing). d.under.date) begun)) was.timely;
         limited = subst (All (IsOwner e)) (sym whose) (All-set (IsOwner e) old.whose.whose (serial.0 - 1) w both was.limited);
         meeting = record {
           posts = subst (AreTold c.enter.new.self) (ap (λ (s : Serial). set old.whose.whose (s.0 - 1) w) m.serial_is ∙ sym whose) told;
@@ -136,7 +133,7 @@ take_part-requires c = record {
           awaited = awaiting_more (length old.whose.whose) (length c.put.new.self.whose) old.states.actors more was.meeting.awaited;
           asked = made_more (length old.whose.whose) (length c.put.new.self.whose) old.requests.queues more was.meeting.asked;
         };
-        held = held_with counted doing c.put.new.self c.enter.new.self was.held;
+        held = held_with old doing c.put.new.self c.enter.new.self was.held;
         round = was.round;
       };
 }

@@ -1,11 +1,6 @@
-use Rattle.std.proofs.Common.{◌≡◌, ◌-◌, ◌+◌, true, Some, length, sym, ap, subst, ◌∙◌, arith, rules}
+use Rattle.std.proofs.Common.{◌-◌, true, length, sym, ap, subst, ◌∙◌, arith, rules}
 use Rattle.std.proofs.lemmas.List.{length-set}
-use Rattle.sg_base.specs.declared.ids.Serial.{Serial}
-use Rattle.sg_mailbox.specs.declared.sides.Found.{Found}
-use Rattle.sg_mailbox.specs.declared.sides.Side.{Side}
-use Rattle.sg_mailbox.specs.Posts.{IsFound}
 use Rattle.sg_calls.specs.declared.simulation_state.Fields.{Fields}
-use Rattle.sg_calls.specs.declared.meetings.Comer.{Comer}
 use Rattle.sg_mailbox.specs.declared.owners.How.TheVariants as how
 use Rattle.sg_mailbox.specs.declared.owners.Whose.TheVariants.{Over}
 use Rattle.sg_calls.specs.Known.{Known, after_call}
@@ -14,9 +9,8 @@ use Rattle.sg_calls.specs.World.{Core, extent}
 use Rattle.sg_setup.specs.Setup.{Setup}
 use Rattle.sg_mailbox.specs.Owners.{Owned}
 use Rattle.sg_calls.specs.kept.Sound.{known_of, IsSide}
-use Rattle.sg_calls.specs.kept.Whole.{CanStep, IsWholeFor}
-use Rattle.sg_calls.proofs.Mets.{is_met, waiting_below, IsMet}
-use Rattle.sg_calls.proofs.Moves.{whole_counted}
+use Rattle.sg_calls.specs.kept.Whole.{IsWholeFor}
+use Rattle.sg_calls.proofs.Mets.{is_met, waiting_below}
 use Rattle.sg_calls.proofs.Unmet.{comer_first, other_first, over_is, whole_unmet}
 use Rattle.sg_calls.proofs.meetings.fail_at_once.Goals as goal
 
@@ -33,31 +27,24 @@ put-requires-clause-to c =
     let old = c.args.fields.now in
     (is_met old c.args.comer.now c.args.met.0 c.args.met.1 (sym c.requires.found.met ∙ c.requires.met) c.requires.able.whole.limited c.requires.able.whole.meeting).to
 
--- the one that it meets, once the call is counted
-met_in : (fields : Fields) (comer : Comer) (met : Serial × Side) (found : Found) → CanStep fields comer.side.actor.0 → IsFound fields.boxes comer.mailbox comer.sends found → found.met ≡ Some met → IsMet (record fields { events = fields.events + 1 }) comer met.0 met.1
-met_in fields comer met found able is there =
-    let m = is_met fields comer met.0 met.1 (sym is.met ∙ there) able.whole.limited able.whole.meeting in
-    record { post = m.post; found = m.found; serial_is = m.serial_is; side_is = m.side_is; from = m.from; to = m.to; idle = m.idle; limited = m.limited }
-
 pub fail_comer-requires-clause-other : goal.fail_comer-requires-clause-other
-fail_comer-requires-clause-other c = (met_in c.args.fields.now c.args.comer.now c.args.met c.args.found c.requires.able c.requires.found c.requires.met).limited
+fail_comer-requires-clause-other c = (is_met c.args.fields.now c.args.comer.now c.args.met.0 c.args.met.1 (sym c.requires.found.met ∙ c.requires.met) c.requires.able.whole.limited c.requires.able.whole.meeting).limited
 
 pub fail_comer-requires-clause-takes_part : goal.fail_comer-requires-clause-takes_part
 fail_comer-requires-clause-takes_part c = record {
   able = search rules;
   comer = search rules;
   made =
-      let m = met_in c.args.fields.now c.args.comer.now c.args.met c.args.found c.requires.able c.requires.found c.requires.met in
+      let m = is_met c.args.fields.now c.args.comer.now c.args.met.0 c.args.met.1 (sym c.requires.found.met ∙ c.requires.met) c.requires.able.whole.limited c.requires.able.whole.meeting in
       (m.from, omega (arith, m.to, ap (λ (o : Owned). length o.whose) c.put.ensures, length-set c.args.fields.now.whose.whose (c.args.met.0.0 - 1) (Over how.Failed)));
   room = search rules;
   few = search rules;
   whole =
       let old = c.args.fields.now in
       let comer = c.args.comer.now in
-      let counted = record old { events = old.events + 1 } in
-      let was = whole_counted old comer.side.actor.0 c.requires.able in
-      let m = met_in c.args.fields.now c.args.comer.now c.args.met c.args.found c.requires.able c.requires.found c.requires.met in
-      let unmet = whole_unmet counted comer c.args.met.0 c.args.met.1 c.next_serial-next.result c.put.new.self c.enter.new.self m was c.put.ensures c.enter.ensures.there c.enter.ensures.elsewhere (omega (arith, was.roomy.mailboxes, c.enter.ensures.room)) in
+      let was = c.requires.able.whole in
+      let m = is_met c.args.fields.now c.args.comer.now c.args.met.0 c.args.met.1 (sym c.requires.found.met ∙ c.requires.met) c.requires.able.whole.limited c.requires.able.whole.meeting in
+      let unmet = whole_unmet old comer c.args.met.0 c.args.met.1 c.next_serial-next.result c.put.new.self c.enter.new.self m was c.put.ensures c.enter.ensures.there c.enter.ensures.elsewhere (omega (arith, was.roomy.mailboxes, c.enter.ensures.room)) in
       unmet;
 }
 
@@ -66,15 +53,15 @@ fail_other-requires-clause-sound c = c.fail_comer.ensures.whole.sound
 
 pub fail_other-requires-clause-other : goal.fail_other-requires-clause-other
 fail_other-requires-clause-other c =
-    let m = met_in c.args.fields.now c.args.comer.now c.args.met c.args.found c.requires.able c.requires.found c.requires.met in
+    let m = is_met c.args.fields.now c.args.comer.now c.args.met.0 c.args.met.1 (sym c.requires.found.met ∙ c.requires.met) c.requires.able.whole.limited c.requires.able.whole.meeting in
     subst (λ (s : Setup). IsSide (extent s) c.args.met.1) (sym (ap (λ (k : Known). k.setup) c.fail_comer.ensures.known)) m.limited
 
 pub fail_other-requires-else-comer-clause-other : goal.fail_other-requires-else-comer-clause-other
-fail_other-requires-else-comer-clause-other c = (met_in c.args.fields.now c.args.comer.now c.args.met c.args.found c.requires.able c.requires.found c.requires.met).limited
+fail_other-requires-else-comer-clause-other c = (is_met c.args.fields.now c.args.comer.now c.args.met.0 c.args.met.1 (sym c.requires.found.met ∙ c.requires.met) c.requires.able.whole.limited c.requires.able.whole.meeting).limited
 
 pub fail_comer-requires-else-comer-clause-other : goal.fail_comer-requires-else-comer-clause-other
 fail_comer-requires-else-comer-clause-other c =
-    let m = met_in c.args.fields.now c.args.comer.now c.args.met c.args.found c.requires.able c.requires.found c.requires.met in
+    let m = is_met c.args.fields.now c.args.comer.now c.args.met.0 c.args.met.1 (sym c.requires.found.met ∙ c.requires.met) c.requires.able.whole.limited c.requires.able.whole.meeting in
     subst (λ (s : Setup). IsSide (extent s) c.args.met.1) (sym (ap (λ (k : Known). k.setup) c.fail_other-else-comer.ensures.known)) m.limited
 
 pub fail_comer-requires-else-comer-clause-takes_part : goal.fail_comer-requires-else-comer-clause-takes_part
@@ -82,7 +69,7 @@ fail_comer-requires-else-comer-clause-takes_part c = record {
   able = search rules;
   comer = search rules;
   made =
-      let m = met_in c.args.fields.now c.args.comer.now c.args.met c.args.found c.requires.able c.requires.found c.requires.met in
+      let m = is_met c.args.fields.now c.args.comer.now c.args.met.0 c.args.met.1 (sym c.requires.found.met ∙ c.requires.met) c.requires.able.whole.limited c.requires.able.whole.meeting in
       let long = ap (λ (f : Fields). length f.whose.whose) c.fail_other-else-comer.ensures.keeps.rest in
       (m.from, omega (arith, m.to, long, ap (λ (o : Owned). length o.whose) c.put.ensures, length-set c.args.fields.now.whose.whose (c.args.met.0.0 - 1) (Over how.Failed)));
   room = search rules;
@@ -90,10 +77,9 @@ fail_comer-requires-else-comer-clause-takes_part c = record {
   whole =
       let old = c.args.fields.now in
       let comer = c.args.comer.now in
-      let counted = record old { events = old.events + 1 } in
-      let was = whole_counted old comer.side.actor.0 c.requires.able in
-      let m = met_in c.args.fields.now c.args.comer.now c.args.met c.args.found c.requires.able c.requires.found c.requires.met in
-      let unmet = whole_unmet counted comer c.args.met.0 c.args.met.1 c.next_serial-next.result c.put.new.self c.enter.new.self m was c.put.ensures c.enter.ensures.there c.enter.ensures.elsewhere (omega (arith, was.roomy.mailboxes, c.enter.ensures.room)) in
+      let was = c.requires.able.whole in
+      let m = is_met c.args.fields.now c.args.comer.now c.args.met.0 c.args.met.1 (sym c.requires.found.met ∙ c.requires.met) c.requires.able.whole.limited c.requires.able.whole.meeting in
+      let unmet = whole_unmet old comer c.args.met.0 c.args.met.1 c.next_serial-next.result c.put.new.self c.enter.new.self m was c.put.ensures c.enter.ensures.there c.enter.ensures.elsewhere (omega (arith, was.roomy.mailboxes, c.enter.ensures.room)) in
       let keeps = c.fail_other-else-comer.ensures.keeps in
       subst (λ n. IsWholeFor (n - 1) c.fail_other-else-comer.new.fields) (sym keeps.room) (keeps.whole (old.states.room - 1) unmet);
 }
@@ -102,10 +88,10 @@ pub returns-then-comer : goal.returns-then-comer
 returns-then-comer c = record {
   known =
       let old = c.args.fields.now in
-      let m = met_in c.args.fields.now c.args.comer.now c.args.met c.args.found c.requires.able c.requires.found c.requires.met in
+      let m = is_met c.args.fields.now c.args.comer.now c.args.met.0 c.args.met.1 (sym c.requires.found.met ∙ c.requires.met) c.requires.able.whole.limited c.requires.able.whole.meeting in
       let serial = c.args.met.0.0 in
       let other = c.args.met.1 in
-      let over = record old { events = old.events + 1; whose = c.put.new.self; boxes = c.enter.new.self } in
+      let over = record old { whose = c.put.new.self; boxes = c.enter.new.self } in
       comer_first (known_of over) (known_of c.fail_comer.new.fields) (known_of c.fail_other.new.fields) c.args.comer.now serial other c.if-comer.true c.fail_comer.ensures.known c.fail_other.ensures.known
       ∙ ap (λ (core : Core). after_call true (both_fail c.args.comer.now serial other core) (known_of old)) (over_is old serial c.put.new.self m.idle c.put.ensures);
   whole =
@@ -117,10 +103,10 @@ pub returns-else-comer : goal.returns-else-comer
 returns-else-comer c = record {
   known =
       let old = c.args.fields.now in
-      let m = met_in c.args.fields.now c.args.comer.now c.args.met c.args.found c.requires.able c.requires.found c.requires.met in
+      let m = is_met c.args.fields.now c.args.comer.now c.args.met.0 c.args.met.1 (sym c.requires.found.met ∙ c.requires.met) c.requires.able.whole.limited c.requires.able.whole.meeting in
       let serial = c.args.met.0.0 in
       let other = c.args.met.1 in
-      let over = record old { events = old.events + 1; whose = c.put.new.self; boxes = c.enter.new.self } in
+      let over = record old { whose = c.put.new.self; boxes = c.enter.new.self } in
       other_first (known_of over) (known_of c.fail_other-else-comer.new.fields) (known_of c.fail_comer-else-comer.new.fields) c.args.comer.now serial other c.if-comer.false c.fail_other-else-comer.ensures.known c.fail_comer-else-comer.ensures.known
       ∙ ap (λ (core : Core). after_call true (both_fail c.args.comer.now serial other core) (known_of old)) (over_is old serial c.put.new.self m.idle c.put.ensures);
   whole = search rules;

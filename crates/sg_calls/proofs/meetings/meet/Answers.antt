@@ -7,7 +7,6 @@ use Rattle.sg_mailbox.specs.declared.sides.Side.{Side}
 use Rattle.sg_route.specs.Route.{Route}
 use Rattle.sg_calls.specs.Known.{after_call}
 use Rattle.sg_calls.specs.Meetings.{fails_with, joins_with, way_with}
-use Rattle.sg_calls.specs.Steps.{counted}
 use Rattle.sg_calls.specs.World.{extent, host_of}
 use Rattle.sg_calls.specs.kept.Sound.{core_of, known_of, setup_in, IsSide}
 use Rattle.sg_calls.proofs.Limits.{home_exists}
@@ -56,7 +55,7 @@ returns-then-is_cut c = record {
       let from = ap (λ (p : PointId). p.0) c.point_of-sender.ensures ∙ ap (λ (s : Side). host_of setup s.actor.0) c.sender_of.ensures in
       let to = ap (λ (p : PointId). p.0) c.point_of-receiver.ensures ∙ ap (λ (s : Side). host_of setup s.actor.0) c.receiver_of.ensures in
       let way : c.is_cut.result ≡ is_cut old.doing.under.on (way_with route setup c.args.comer.now c.args.met.1) = c.is_cut.ensures ∙ ap₂ (λ (a b : ℕ). is_cut old.doing.under.on (record { links = c.args.links.now; sender = a; receiver = b })) from to in
-      let core = counted (core_of old) in
+      let core = core_of old in
       let serial = c.args.met.0 in
       let other = c.args.met.1 in
       c.fail_at_once.ensures.known
@@ -73,7 +72,7 @@ returns-else-is_cut c = record {
       let from = ap (λ (p : PointId). p.0) c.point_of-sender.ensures ∙ ap (λ (s : Side). host_of setup s.actor.0) c.sender_of.ensures in
       let to = ap (λ (p : PointId). p.0) c.point_of-receiver.ensures ∙ ap (λ (s : Side). host_of setup s.actor.0) c.receiver_of.ensures in
       let way : c.is_cut.result ≡ is_cut old.doing.under.on (way_with route setup c.args.comer.now c.args.met.1) = c.is_cut.ensures ∙ ap₂ (λ (a b : ℕ). is_cut old.doing.under.on (record { links = c.args.links.now; sender = a; receiver = b })) from to in
-      let core = counted (core_of old) in
+      let core = core_of old in
       let serial = c.args.met.0 in
       let other = c.args.met.1 in
       c.begin.ensures.known

@@ -14,7 +14,6 @@ use Rattle.sg_calls.proofs.Timely.{IsTimelyAt}
 use Rattle.sg_calls.proofs.Meets.{AreBusy, AreIdle, AreTold, busy_more, idle_more, made_more, told_posted}
 use Rattle.sg_calls.proofs.Stated.{awaiting_more}
 use Rattle.sg_calls.proofs.Mets.{waiting_below}
-use Rattle.sg_calls.proofs.Moves.{whole_counted}
 use Rattle.sg_calls.proofs.meetings.post.Goals as goal
 
 pub enter-requires-clause-above : goal.enter-requires-clause-above
@@ -35,8 +34,7 @@ take_part-requires c = record {
       let old = c.args.fields.now in
       let comer = c.args.comer.now in
       let e = extent (setup_in old) in
-      let counted = record old { events = old.events + 1 } in
-      let was = whole_counted old comer.side.actor.0 c.requires.comes.able in
+      let was = c.requires.comes.able.whole in
       let w = Posted comer.mailbox comer.sends comer.side in
       let doing = c.take_serial-serial.new.self in
       let drawn = c.take_serial-serial.ensures.drawn in
@@ -48,7 +46,7 @@ take_part-requires c = record {
       let many = ap (λ (l : List Whose). length l) whose ∙ length-append old.whose.whose (w ∷ []) in
       let more : length old.whose.whose ≤ length c.push.new.self.whose = omega (arith, many) in
       record {
-        sound = sound_with counted doing c.push.new.self c.enter.new.self (omega (arith, long, many, was.sound.numbered)) (omega (arith, long, c.requires.comes.able.whole.sound.few)) (ap (λ (d : Doing). d.under.capacities) drawn) was.sound;
+        sound = sound_with old doing c.push.new.self c.enter.new.self (omega (arith, long, many, was.sound.numbered)) (omega (arith, long, c.requires.comes.able.fresh.tasks)) (ap (λ (d : Doing). d.under.capacities) drawn) was.sound;
         roomy = record {
           starts = omega (arith, was.roomy.starts, ap (λ (d : Doing). d.room) drawn);
           owners = omega (arith, was.roomy.owners, ap (λ (o : Owned). o.room) c.push.ensures);
@@ -56,7 +54,7 @@ take_part-requires c = record {
           requests = omega (arith, was.roomy.requests);
         };
         dated = omega (arith, was.dated, ap (λ (d : Doing). d.under.date) drawn);
-        timely = subst (IsTimelyAt counted) (sym (ap (λ (d : Doing). d.under.date) drawn)) was.timely;
+        timely = subst (IsTimelyAt old) (sym (ap (λ (d : Doing). d.under.date) drawn)) was.timely;
         limited = subst (All (IsOwner e)) (sym whose) (All-push (IsOwner e) old.whose.whose w was.limited c.requires.comes.comer.side);
         meeting = record {
           posts =
@@ -73,7 +71,7 @@ take_part-requires c = record {
           awaited = awaiting_more (length old.whose.whose) (length c.push.new.self.whose) old.states.actors more was.meeting.awaited;
           asked = made_more (length old.whose.whose) (length c.push.new.self.whose) old.requests.queues more was.meeting.asked;
         };
-        held = held_with counted doing c.push.new.self c.enter.new.self was.held;
+        held = held_with old doing c.push.new.self c.enter.new.self was.held;
         round = was.round;
       };
 }

@@ -4,6 +4,7 @@ use Rattle.sg_requests.specs.Requested.{Requested, queues_without_oldest}
 use Rattle.sg_calls.specs.declared.simulation_state.Fields.{Fields}
 use Rattle.sg_calls.specs.kept.Whole.{CanStep}
 use Rattle.sg_calls.proofs.Meets.{AreMade, made_taken, made_oldest}
+use Rattle.sg_calls.proofs.Moves.{can_conclude}
 use Rattle.sg_calls.proofs.meetings.wait.Goals as goal
 
 -- with one request less
@@ -38,7 +39,7 @@ asking_less fields actor requests is able =
         round = was.round;
       };
       call = able.call;
-      budget = able.budget;
+      fresh = record { tasks = able.fresh.tasks; asked = omega (arith, able.fresh.asked, ap (λ (r : Requested). r.asked) is); counts = able.fresh.counts };
     }
 
 pub of-requires-clause-from : goal.of-requires-clause-from
@@ -52,13 +53,13 @@ of-requires-clause-to c =
     (made_oldest (length old.whose.whose) old.requests.queues c.args.actor.0 c.in-Some.on (sym c.take.ensures.oldest ∙ c.in-Some.is) c.requires.whole.meeting.asked).to
 
 pub answer_now-requires-clause-able : goal.answer_now-requires-clause-able
-answer_now-requires-clause-able c = asking_less c.args.fields.now c.args.actor.0 c.take.new.self c.take.ensures.rest c.requires
+answer_now-requires-clause-able c = can_conclude (record c.args.fields.now { requests = c.take.new.self }) c.args.actor.0 (asking_less c.args.fields.now c.args.actor.0 c.take.new.self c.take.ensures.rest c.requires)
 
 pub answer_now-requires-in-Some-answer_of_over-clause-able : goal.answer_now-requires-in-Some-answer_of_over-clause-able
-answer_now-requires-in-Some-answer_of_over-clause-able c = asking_less c.args.fields.now c.args.actor.0 c.take.new.self c.take.ensures.rest c.requires
+answer_now-requires-in-Some-answer_of_over-clause-able c = can_conclude (record c.args.fields.now { requests = c.take.new.self }) c.args.actor.0 (asking_less c.args.fields.now c.args.actor.0 c.take.new.self c.take.ensures.rest c.requires)
 
 pub block-requires-clause-able : goal.block-requires-clause-able
-block-requires-clause-able c = asking_less c.args.fields.now c.args.actor.0 c.take.new.self c.take.ensures.rest c.requires
+block-requires-clause-able c = can_conclude (record c.args.fields.now { requests = c.take.new.self }) c.args.actor.0 (asking_less c.args.fields.now c.args.actor.0 c.take.new.self c.take.ensures.rest c.requires)
 
 pub block-requires-clause-made : goal.block-requires-clause-made
 block-requires-clause-made c =

@@ -17,7 +17,7 @@ step-requires c = subst (λ o. IsSomeAnd o (λ date. date < 10 ^ 33)) (sym c.req
 pub returns-clause-enters : goal.returns-clause-enters
 returns-clause-enters c = record {
   known = entered_known c.args.fields.now c.apply.new.doing c.step.new.self c.args.entry c.requires.due c.apply.ensures c.step.ensures;
-  passing = entered_passing c.args.fields.now c.apply.new.doing c.step.new.self c.args.entry c.requires.due c.apply.ensures c.step.ensures c.requires.budget c.requires.passing;
+  passing = entered_passing c.args.fields.now c.apply.new.doing c.step.new.self c.args.entry c.requires.due c.apply.ensures c.step.ensures c.requires.passing;
   due =
       let fields = c.args.fields.now in
       let keeps = set_keeps fields.network c.args.entry fields.doing c.apply.new.doing c.apply.ensures in

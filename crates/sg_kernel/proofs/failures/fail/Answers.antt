@@ -1,5 +1,5 @@
 use Rattle.std.specs.Prelude.{is_some}
-use Rattle.std.proofs.Common.{◌+◌, ◌-◌, drop, get_or, set, sym, ap, ◌∙◌, arith, rules}
+use Rattle.std.proofs.Common.{◌-◌, drop, get_or, set, sym, ap, ◌∙◌, arith, rules}
 use Rattle.sg_activity.specs.Doing.{Doing}
 use Rattle.sg_activity.specs.Underway.{hits}
 use Rattle.sg_calls.specs.declared.simulation_state.Fields.{Fields}
@@ -29,12 +29,12 @@ answer_owners-requires-clause-whose c = failed_owner c.args.fields.now c.args.se
 pub answer_owners-requires-clause-sound : goal.answer_owners-requires-clause-sound
 answer_owners-requires-clause-sound c =
     let old = c.args.fields.now in
-    (failed_passing old c.args.serial.0 c.fail-whose.new.self c.give_up.new.self c.requires.hit c.fail-whose.ensures.is c.give_up.ensures c.requires.budget c.requires.passing).sound
+    (failed_passing old c.args.serial.0 c.fail-whose.new.self c.give_up.new.self c.requires.hit c.fail-whose.ensures.is c.give_up.ensures c.requires.passing).sound
 
 pub answer_owners-requires-clause-small : goal.answer_owners-requires-clause-small
 answer_owners-requires-clause-small c =
     let old = c.args.fields.now in
-    (failed_passing old c.args.serial.0 c.fail-whose.new.self c.give_up.new.self c.requires.hit c.fail-whose.ensures.is c.give_up.ensures c.requires.budget c.requires.passing).small
+    (failed_passing old c.args.serial.0 c.fail-whose.new.self c.give_up.new.self c.requires.hit c.fail-whose.ensures.is c.give_up.ensures c.requires.passing).small
 
 pub returns-clause-enters : goal.returns-clause-enters
 returns-clause-enters c = record {
@@ -42,7 +42,7 @@ returns-clause-enters c = record {
       let old = c.args.fields.now in
       let serial = c.args.serial.0 in
       let gone = c.give_up.ensures in
-      let mid : Owned → Doing → Fields = λ whose doing. record old { whose = whose; doing = doing; events = old.events + 1 } in
+      let mid : Owned → Doing → Fields = λ whose doing. record old { whose = whose; doing = doing } in
       let failed : Owned = record old.whose { whose = set old.whose.whose (serial - 1) (Over how.Failed) } in
       c.answer_owners.ensures.known
       ∙ ap (λ w. after (answers how.Failed serial w (core_of (mid c.fail-whose.new.self c.give_up.new.self))) (known_of (mid c.fail-whose.new.self c.give_up.new.self))) c.fail-whose.ensures.was
@@ -50,7 +50,7 @@ returns-clause-enters c = record {
       ∙ ap (λ d. after (answers how.Failed serial (get_or old.whose.whose (serial - 1) (Over how.Done)) (core_of (mid failed d))) (known_of (mid failed d))) gone;
   passing =
       let old = c.args.fields.now in
-      c.answer_owners.ensures.keeps.passing (failed_passing old c.args.serial.0 c.fail-whose.new.self c.give_up.new.self c.requires.hit c.fail-whose.ensures.is c.give_up.ensures c.requires.budget c.requires.passing);
+      c.answer_owners.ensures.keeps.passing (failed_passing old c.args.serial.0 c.fail-whose.new.self c.give_up.new.self c.requires.hit c.fail-whose.ensures.is c.give_up.ensures c.requires.passing);
   due =
       let old = c.args.fields.now in
       leaves_given old c.answer_owners.new.fields c.args.serial.0 (ap (λ (f : Fields). f.doing) c.answer_owners.ensures.keeps.rest ∙ c.give_up.ensures);

@@ -1,23 +1,30 @@
-use Rattle.std.proofs.Common.{◌≡◌, ◌≢◌, inl, refl, drop, sym, ap, ◌∙◌, arith, rules}
+use Rattle.std.proofs.Common.{◌≡◌, ◌≢◌, inl, refl, drop, sym, ap, subst, ◌∙◌, arith, rules}
+use Rattle.sg_calls.specs.declared.simulation_state.Fields.{Fields}
 use Rattle.sg_calls.specs.Known.{Known}
 use Rattle.sg_kernel.specs.Passes.{ends}
 use Rattle.sg_calls.specs.Steps.{result_of}
 use Rattle.sg_setup.specs.Setup.{Setup}
 use Rattle.sg_calls.specs.kept.Sound.{known_of, setup_in}
+use Rattle.sg_calls.specs.kept.Whole.{IsPassing}
 use Rattle.sg_kernel.proofs.Counting.{counted_more, counts_all, counts_used}
+use Rattle.sg_calls.proofs.Replied.{used_err}
 use Rattle.sg_calls.proofs.Each.{still, still_stops, still_none, stops_none}
+use Rattle.sg_kernel.specs.kept.Acts.{phase_ends}
+use Rattle.sg_kernel.specs.kept.Coming.{CountsSome}
+use Rattle.sg_kernel.proofs.Events.{can_end, over}
 use Rattle.sg_kernel.proofs.Ends.{still_ends, still_used}
 use Rattle.sg_kernel.proofs.passes.end_due.Goals as goal
 
-pub returns-then-fields-clause-passes : goal.returns-then-fields-clause-passes
-returns-then-fields-clause-passes c = record {
+pub returns-in_err-event-clause-passes : goal.returns-in_err-event-clause-passes
+returns-in_err-event-clause-passes c = record {
   known =
       let setup = setup_in c.args.fields.now in
       let now = c.loop-phase.fields in
       let inv = c.loop-phase.invariant in
       let due = c.in-Some.ensures in
-      let used = c.if-fields.true ∙ ap (λ (s : Setup). s.budget) inv.setup in
-      sym (still_used setup c.in-Some.phase.serial.0 due.task due.rest (known_of now) due.at used).0
+      let used = c.in_err-event.ensures.counts.used ∙ ap (λ (s : Setup). s.budget) inv.setup in
+      ap known_of c.in_err-event.ensures.stays
+      ∙ sym (still_used setup c.in-Some.phase.serial.0 due.task due.rest (known_of now) due.at used).0
       ∙ ap (λ d. still (ends setup) d (known_of now)) (sym due.first)
       ∙ inv.known;
   result =
@@ -25,21 +32,24 @@ returns-then-fields-clause-passes c = record {
       let now = c.loop-phase.fields in
       let inv = c.loop-phase.invariant in
       let due = c.in-Some.ensures in
-      let used = c.if-fields.true ∙ ap (λ (s : Setup). s.budget) inv.setup in
-      ap result_of (
+      let used = c.in_err-event.ensures.counts.used ∙ ap (λ (s : Setup). s.budget) inv.setup in
+      used_err _ c.in_err-event.field-0.0 c.from_residual.result c.from_residual.ensures.1 c.in_err-event.ensures.counts
+      ∙ ap result_of (
       sym (still_used setup c.in-Some.phase.serial.0 due.task due.rest (known_of now) due.at used).1
       ∙ ap (λ d. still_stops (ends setup) d (known_of now)) (sym due.first)
       ∙ inv.stop
       );
-  passing = search rules;
-  date = search rules;
+  passing = subst IsPassing (sym c.in_err-event.ensures.stays) c.loop-phase.invariant.passing;
+  date = ap (λ (f : Fields). f.doing.under.date) c.in_err-event.ensures.stays ∙ c.loop-phase.invariant.date;
 }
 
-pub returns-then-fields-clause-events : goal.returns-then-fields-clause-events
-returns-then-fields-clause-events c =
+pub returns-in_err-event-clause-events : goal.returns-in_err-event-clause-events
+returns-in_err-event-clause-events c =
+    let first = c.args.fields.now in
     let now = c.loop-phase.fields in
     let inv = c.loop-phase.invariant in
-    counts_used c.args.fields.now now c.args.fields.now.doing.due now.doing.due inv.events (sym (ap (λ (s : Setup). s.budget) inv.setup)) c.if-fields.true
+    subst (λ (f : Fields). CountsSome first.doing.due first f) (sym c.in_err-event.ensures.stays)
+    (counts_used first now first.doing.due now.doing.due inv.events (sym (ap (λ (s : Setup). s.budget) inv.setup)) c.in_err-event.ensures.counts.used)
 
 pub loop-phase-init : goal.loop-phase-init
 loop-phase-init c = record { passing = c.requires; setup = refl; known = refl; stop = refl; date = refl; events = inl (refl, refl) }
@@ -50,9 +60,10 @@ loop-phase-preserved c =
     let old = c.loop-phase.fields in
     let new = c.end_phase.new.fields in
     let inv = c.loop-phase.invariant in
-    let made = c.end_phase.ensures in
+    let counts = (c.in_ok-event.ensures {u = tt}).counts in
+    let made = over (phase_ends c.in-Some.phase.serial.0) old c.event.new.fields new counts c.end_phase.ensures in
     let due = c.in-Some.ensures in
-    let go : old.events ≢ setup.budget = λ e. c.if-fields.false (e ∙ sym (ap (λ (s : Setup). s.budget) inv.setup)) in
+    let go : old.events ≢ setup.budget = λ e. counts.left (e ∙ sym (ap (λ (s : Setup). s.budget) inv.setup)) in
     let rest : new.doing.due ≡ due.rest = made.due ∙ ap (drop 1) due.first in
     let more = still_ends setup c.in-Some.phase.serial.0 due.task due.rest (known_of old) (known_of new) due.at go made.known in
     record {
@@ -100,4 +111,4 @@ returns-clause-events c =
     counts_all c.args.fields.now now c.args.fields.now.doing.due now.doing.due c.loop-phase.invariant.events c.in_default.ensures
 
 pub end_phase-requires : goal.end_phase-requires
-end_phase-requires c = record { due = c.in-Some.ensures; passing = c.loop-phase.invariant.passing; budget = c.if-fields.false }
+end_phase-requires c = can_end c.loop-phase.fields c.event.new.fields c.in-Some.phase (c.in_ok-event.ensures {u = tt}).counts c.in-Some.ensures c.loop-phase.invariant.passing

@@ -9,6 +9,7 @@ use Rattle.sg_calls.specs.Steps.{Step, all_of, result_of}
 use Rattle.sg_kernel.specs.kept.Coming.{coming}
 use Rattle.sg_calls.specs.kept.Sound.{core_of, known_of, setup_in}
 use Rattle.sg_calls.proofs.Each.{after_stop}
+use Rattle.sg_calls.proofs.Replied.{used_err}
 use Rattle.sg_kernel.proofs.Nexts.{some_moved, up_to_phases}
 use Rattle.sg_kernel.proofs.Passed.{pass_goes, pass_none, pass_used, passing_began, whole_passed}
 use Rattle.sg_kernel.proofs.passes.move_on.Goals as goal
@@ -24,16 +25,17 @@ returns-in_default-clause-result c =
     let fields = c.args.fields.now in
     ap Err c.none_next.ensures ∙ sym (ap (λ (s : Step). result_of s.stop) (pass_none (setup_in fields) (core_of fields) c.in_default.ensures))
 
-pub returns-then-fields-clause-known : goal.returns-then-fields-clause-known
-returns-then-fields-clause-known c =
+pub returns-in_err-check_budget-clause-known : goal.returns-in_err-check_budget-clause-known
+returns-in_err-check_budget-clause-known c =
     let fields = c.args.fields.now in
     let known = known_of fields in
-    sym (ap (λ s. after s known) (pass_used (setup_in fields) (core_of fields) (c.in-Some.date - fields.doing.under.date) c.in-Some.ensures.in_time c.if-fields.true) ∙ after_stop known Budget)
+    sym (ap (λ s. after s known) (pass_used (setup_in fields) (core_of fields) (c.in-Some.date - fields.doing.under.date) c.in-Some.ensures.in_time c.in_err-check_budget.ensures.used) ∙ after_stop known Budget)
 
-pub returns-then-fields-clause-result : goal.returns-then-fields-clause-result
-returns-then-fields-clause-result c =
+pub returns-in_err-check_budget-clause-result : goal.returns-in_err-check_budget-clause-result
+returns-in_err-check_budget-clause-result c =
     let fields = c.args.fields.now in
-    sym (ap (λ (s : Step). result_of s.stop) (pass_used (setup_in fields) (core_of fields) (c.in-Some.date - fields.doing.under.date) c.in-Some.ensures.in_time c.if-fields.true))
+    used_err fields c.in_err-check_budget.field-0.0 c.from_residual.result c.from_residual.ensures.1 c.in_err-check_budget.ensures
+    ∙ sym (ap (λ (s : Step). result_of s.stop) (pass_used (setup_in fields) (core_of fields) (c.in-Some.date - fields.doing.under.date) c.in-Some.ensures.in_time c.in_err-check_budget.ensures.used))
 
 pub advance_to-requires-clause-from : goal.advance_to-requires-clause-from
 advance_to-requires-clause-from c = c.in-Some.ensures.from
@@ -44,13 +46,13 @@ advance_to-requires-clause-to c = up_to_phases c.args.fields.now c.in-Some.date 
 pub advance_to-requires-clause-small : goal.advance_to-requires-clause-small
 advance_to-requires-clause-small c =
     let sound = c.requires.whole.sound in
-    omega (arith, c.in-Some.ensures.soon, sound.within, sound.budgeted, c.if-fields.false)
+    omega (arith, c.in-Some.ensures.soon, sound.within, sound.budgeted, (c.in_ok-check_budget.ensures {u = tt}))
 
 pub come-stopped-requires : goal.come-stopped-requires
 come-stopped-requires c = record {
-  passing = passing_began c.args.fields.now c.advance_to.new.self c.begin_pass.new.self c.in-Some.date c.in-Some.ensures c.advance_to.ensures c.begin_pass.ensures c.if-fields.false c.requires.whole;
+  passing = passing_began c.args.fields.now c.advance_to.new.self c.begin_pass.new.self c.in-Some.date c.in-Some.ensures c.advance_to.ensures c.begin_pass.ensures (c.in_ok-check_budget.ensures {u = tt}) c.requires.whole;
   some = some_moved c.args.fields.now c.advance_to.new.self c.begin_pass.new.self c.in-Some.date c.requires.whole.timely c.in-Some.ensures c.advance_to.ensures;
-  budget = c.if-fields.false;
+  budget = (c.in_ok-check_budget.ensures {u = tt});
 }
 
 pub returns-clause-known : goal.returns-clause-known
@@ -64,7 +66,7 @@ returns-clause-known c =
     ∙ c.come-stopped.ensures.passes.known
     ∙ ap (λ (s : ActorStates). after (all_of (coming (mid s)) (core_of (mid s))) (known_of (mid s))) c.begin_pass.ensures
     ∙ ap (λ (d : Doing). after (all_of (coming (moved d)) (core_of (moved d))) (known_of (moved d))) c.advance_to.ensures
-    ∙ ap (λ s. after s (known_of fields)) (sym (pass_goes (setup_in fields) (core_of fields) span c.in-Some.ensures.in_time c.if-fields.false))
+    ∙ ap (λ s. after s (known_of fields)) (sym (pass_goes (setup_in fields) (core_of fields) span c.in-Some.ensures.in_time (c.in_ok-check_budget.ensures {u = tt})))
 
 pub returns-clause-result : goal.returns-clause-result
 returns-clause-result c =
@@ -75,7 +77,7 @@ returns-clause-result c =
     c.come-stopped.ensures.passes.result
     ∙ ap (λ (s : ActorStates). result_of (all_of (coming (mid s)) (core_of (mid s))).stop) c.begin_pass.ensures
     ∙ ap (λ (d : Doing). result_of (all_of (coming (moved d)) (core_of (moved d))).stop) c.advance_to.ensures
-    ∙ ap (λ (s : Step). result_of s.stop) (sym (pass_goes (setup_in fields) (core_of fields) span c.in-Some.ensures.in_time c.if-fields.false))
+    ∙ ap (λ (s : Step). result_of s.stop) (sym (pass_goes (setup_in fields) (core_of fields) span c.in-Some.ensures.in_time (c.in_ok-check_budget.ensures {u = tt})))
 
 pub returns-clause-whole : goal.returns-clause-whole
 returns-clause-whole c =
