@@ -19,7 +19,7 @@ use Rattle.sg_mailbox.specs.declared.owners.Whose.{Whose}
 use Rattle.sg_mailbox.specs.declared.owners.Whose.TheVariants.{Over, Alone, Posted, Pair}
 use Rattle.sg_calls.specs.declared.simulation_state.Fields.{Fields}
 use Rattle.sg_calls.specs.declared.stop.Stop.{Stop}
-use Rattle.sg_setup.specs.Setup.{Setup}
+use Rattle.sg_calls.specs.Setup.{Setup}
 use Rattle.sg_calls.specs.World.{Core, extent, host_of, state_of, whose_at}
 use Rattle.sg_calls.specs.Known.{after_call}
 use Rattle.sg_calls.specs.Steps.{Step, all_of, counted, each, unless_used}

@@ -19,7 +19,7 @@ use Rattle.sg_calls.specs.Answers.{answers_side, for_receiver, with_over}
 use Rattle.sg_calls.specs.Known.{Known, after, after_call}
 use Rattle.sg_calls.specs.Meetings.{both_fail, comer_fails, fails_with, joined, joins_on, joins_with, other_fails, receiver_of, sender_of, takes_part_failed, way_with}
 use Rattle.sg_calls.specs.Steps.{Step, and_then}
-use Rattle.sg_setup.specs.Setup.{Setup}
+use Rattle.sg_calls.specs.Setup.{Setup}
 use Rattle.sg_calls.specs.World.{Core, extent}
 use Rattle.sg_mailbox.specs.Owners.{Owned}
 use Rattle.sg_calls.specs.kept.Sound.{core_of, setup_in, IsOwner}

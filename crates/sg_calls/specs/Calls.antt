@@ -14,7 +14,7 @@ use Rattle.sg_base.specs.declared.awaits.Party.TheVariants as party
 use Rattle.sg_route.specs.Roads.{Roads}
 use Rattle.sg_sync.specs.Objects.{locked, unlocked, acquired, released, arrived}
 use Rattle.sg_mailbox.specs.declared.owners.Whose.TheVariants.{Alone}
-use Rattle.sg_setup.specs.Setup.{Setup}
+use Rattle.sg_calls.specs.Setup.{Setup}
 use Rattle.sg_calls.specs.World.{Core, host_of, is_suspended}
 use Rattle.sg_calls.specs.Steps.{Step, goes_on, counted, unless_used, readied, blocked_by, at_once}
 use Rattle.sg_calls.specs.Answers.{side_of}

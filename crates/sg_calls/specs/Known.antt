@@ -1,7 +1,7 @@
 -- What contracts see of a `Kernel`.
 use Rattle.std.specs.Prelude.{ℕ, ◌-◌, Bool, if◌then◌else◌, List, ◌++◌}
 use Rattle.sg_base.specs.declared.trace_record.Record.{Record}
-use Rattle.sg_setup.specs.Setup.{Setup}
+use Rattle.sg_calls.specs.Setup.{Setup}
 use Rattle.sg_calls.specs.World.{Core}
 use Rattle.sg_calls.specs.Steps.{Step}
 

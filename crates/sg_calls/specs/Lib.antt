@@ -1,3 +1,4 @@
+pub mod Setup
 pub mod World
 pub mod Steps
 pub mod Network

@@ -30,7 +30,7 @@ use Rattle.sg_mailbox.specs.declared.owners.Whose.{Whose}
 use Rattle.sg_mailbox.specs.declared.owners.Whose.TheVariants.{Over, Alone, Posted, Pair}
 use Rattle.sg_calls.specs.Answers.{answers_side, bare_side, for_receiver, side_of, with_over}
 use Rattle.sg_calls.specs.Network.{route_latency, own_bound}
-use Rattle.sg_setup.specs.Setup.{Setup}
+use Rattle.sg_calls.specs.Setup.{Setup}
 use Rattle.sg_calls.specs.World.{Core, host_of, whose_at}
 use Rattle.sg_calls.specs.Steps.{Step, goes_on, stops, counted, and_then, blocked_by, at_once}
 

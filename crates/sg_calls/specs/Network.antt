@@ -5,7 +5,7 @@ use Rattle.sg_lives.specs.Slots.{sooner}
 use Rattle.sg_rows.specs.Network as network
 use Rattle.sg_rows.specs.Network.{window_bound}
 use Rattle.sg_route.specs.Route.{Route}
-use Rattle.sg_setup.specs.Setup.{Setup}
+use Rattle.sg_calls.specs.Setup.{Setup}
 
 -- whether these are the loopback alone, which is the last of so many links
 abbrev pub is_loopback : ℕ → List LinkId → Bool

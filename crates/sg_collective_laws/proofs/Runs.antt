@@ -11,7 +11,7 @@ use Rattle.sg_engine.specs.declared.ended.Ended.TheVariants as ended
 use Rattle.sg_activity.specs.Underway.{work_of}
 use Rattle.sg_calls.specs.Calls.{answered}
 use Rattle.sg_kernel.specs.Passes.{pass_of}
-use Rattle.sg_setup.specs.Setup.{Setup}
+use Rattle.sg_calls.specs.Setup.{Setup}
 use Rattle.sg_calls.specs.World.{state_of}
 use Rattle.sg_states.specs.Actors.{is_ended}
 use Rattle.sg_script.specs.Fetched.{fetches_of, one_more}

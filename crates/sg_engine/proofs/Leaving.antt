@@ -29,7 +29,7 @@ use Rattle.sg_calls.specs.Known.{Known, after, after_call}
 use Rattle.sg_mailbox.specs.declared.owners.How.{How}
 use Rattle.sg_mailbox.specs.declared.owners.How.TheVariants as how
 use Rattle.sg_calls.specs.Answers.{answers, answers_by, answers_side, bare_side, finishes, for_receiver, awaits_side, with_over}
-use Rattle.sg_setup.specs.Setup.{Setup}
+use Rattle.sg_calls.specs.Setup.{Setup}
 use Rattle.sg_calls.specs.World.{Core, IsActor, extent, host_of, is_suspended, state_of, whose_at, with_suspended}
 use Rattle.sg_states.specs.Actors.{actor_at, blocking_in, is_alive, is_answered, is_ended, is_unstarted, joiners, not_suspended, put_state, put_suspended, state_at}
 use Rattle.sg_calls.specs.Steps.{Step, all_of, at_once, counted, each, follows, goes_on, and_then}

@@ -10,7 +10,7 @@ use Rattle.sg_calls.specs.Known.{Known}
 use Rattle.sg_rows.specs.Deployment.{Deployed, extent_of}
 use Rattle.sg_engine.specs.declared.simulation.Simulation.{Simulation}
 use Rattle.sg_engine.specs.kept.Invariant.{places_in, HasRoom, IsKept}
-use Rattle.sg_setup.specs.Setup.{Setup}
+use Rattle.sg_calls.specs.Setup.{Setup}
 use Rattle.sg_calls.specs.World.{Core, MayCall, extent}
 use Rattle.sg_engine.specs.World.{World}
 use Rattle.sg_script.specs.Known.{ScriptNames as Names}

@@ -14,7 +14,7 @@ use Rattle.sg_edge.specs.Sources.{Source}
 use Rattle.sg_edge.proofs.Writing.{gain-nil}
 use Rattle.sg_calls.specs.Known.{Known}
 use Rattle.sg_base.specs.Limits.{Extent}
-use Rattle.sg_setup.specs.Setup.{Setup}
+use Rattle.sg_calls.specs.Setup.{Setup}
 use Rattle.sg_calls.specs.World.{Core, extent}
 use Rattle.sg_states.specs.Actors.{is_over}
 use Rattle.sg_engine.specs.World.{World}

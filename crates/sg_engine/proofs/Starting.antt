@@ -13,7 +13,7 @@ use Rattle.sg_edge.specs.declared.sinks.Stream.{Stream}
 use Rattle.sg_edge.specs.Sources.{Source}
 use Rattle.sg_calls.specs.Known.{Known}
 use Rattle.sg_kernel.specs.Start.{first_known, capacities_in}
-use Rattle.sg_setup.specs.Setup.{setup_of, home_of, capacity_of}
+use Rattle.sg_calls.specs.Setup.{setup_of, home_of, capacity_of}
 use Rattle.sg_states.specs.Actors.{first_actor}
 use Rattle.sg_states.specs.declared.state.Actor.{Actor}
 use Rattle.sg_calls.specs.World.{extent}

@@ -6,7 +6,7 @@ use Rattle.sg_base.specs.declared.trace_record.Record.{Record}
 use Rattle.sg_edge.specs.Sources.{Source}
 use Rattle.sg_states.specs.declared.state.Actor.{Actor}
 use Rattle.sg_kernel.specs.Start.{capacities_in}
-use Rattle.sg_setup.specs.Setup.{setup_of}
+use Rattle.sg_calls.specs.Setup.{setup_of}
 use Rattle.sg_calls.specs.World.{Core}
 use Rattle.sg_states.specs.Actors.{blocked_of, is_alive}
 use Rattle.sg_rows.specs.Platform.{Platform}

@@ -15,7 +15,7 @@ use Rattle.sg_activity.specs.Links.{Capacities}
 use Rattle.sg_activity.specs.Underway.{work_of}
 use Rattle.sg_calls.specs.declared.stop.Stop.{Stop}
 use Rattle.sg_calls.specs.declared.stop.Stop.TheVariants as stop
-use Rattle.sg_setup.specs.Setup.{Setup}
+use Rattle.sg_calls.specs.Setup.{Setup}
 use Rattle.sg_calls.specs.World.{Core, state_of}
 use Rattle.sg_states.specs.Actors.{inbox_of, is_ended, is_over, is_ready, is_unstarted}
 use Rattle.sg_engine.specs.World.{World}

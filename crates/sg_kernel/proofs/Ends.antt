@@ -3,7 +3,7 @@ use Rattle.std.proofs.Common.{◌≡◌, ◌≢◌, ℕ, Bool, cond, Option, Non
 use Rattle.sg_activity.specs.Task.{Task, phase_after, task_at}
 use Rattle.sg_mailbox.specs.declared.owners.How.TheVariants as how
 use Rattle.sg_calls.specs.declared.stop.Stop.TheVariants.{Budget}
-use Rattle.sg_setup.specs.Setup.{Setup}
+use Rattle.sg_calls.specs.Setup.{Setup}
 use Rattle.sg_calls.specs.World.{Core, whose_at}
 use Rattle.sg_calls.specs.Steps.{Step, stops, counted}
 use Rattle.sg_calls.specs.Answers.{with_over}

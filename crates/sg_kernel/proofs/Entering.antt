@@ -15,7 +15,7 @@ use Rattle.sg_base.specs.declared.trace_record.Record.{Record}
 use Rattle.sg_calls.specs.declared.simulation_state.Fields.{Fields}
 use Rattle.sg_calls.specs.declared.stop.Stop.TheVariants.{Budget}
 use Rattle.sg_calls.specs.Known.{Known, after}
-use Rattle.sg_setup.specs.Setup.{Setup}
+use Rattle.sg_calls.specs.Setup.{Setup}
 use Rattle.sg_calls.specs.World.{Core}
 use Rattle.sg_calls.specs.Steps.{all_of, and_then, goes_on, stops}
 use Rattle.sg_kernel.specs.Passes.{all_fail, applied, applied_if, changes, enters, enters_one, entry_stretches}

@@ -42,7 +42,7 @@ use Rattle.sg_kernel.specs.Start.{first_known, capacities_in, first_objects}
 use Rattle.sg_calls.specs.Meetings.{posts_from}
 use Rattle.sg_kernel.specs.kept.First.{first_states, objects_of}
 use Rattle.sg_mailbox.specs.Owners.{Owned}
-use Rattle.sg_setup.specs.Setup.{host_cap, power_of_row, link_cap, caps_in, caps_of, link_caps, home_of, capacity_of, replays, setup_of}
+use Rattle.sg_calls.specs.Setup.{host_cap, power_of_row, link_cap, caps_in, caps_of, link_caps, home_of, capacity_of, replays, setup_of}
 use Rattle.sg_calls.specs.World.{extent}
 use Rattle.sg_calls.specs.kept.Sound.{point_number, IsSound, HasRoom, known_of, setup_in, is_idle, AwaitsMade, IsMade, IsOwner, IsTimely, IsTimetable, AreMeeting, AreHeld, AreLimited}
 use Rattle.sg_states.specs.States.{ActorStates}

@@ -48,7 +48,7 @@ use Rattle.sg_calls.specs.Meetings.{answer_of_over, both_fail, comer_fails, come
 use Rattle.sg_kernel.specs.Passes.{all_fail, changes, core_later, ends, ends_by, ends_in, ends_one, enters_one, entry_stretches, fails, fails_one, next_span, pass_at, pass_of, settled, stretches}
 use Rattle.sg_kernel.specs.Start.{first_core}
 use Rattle.sg_calls.specs.Steps.{Step, goes_on, stops, counted, follows, and_then, each, all_of, readied, at_once}
-use Rattle.sg_setup.specs.Setup.{Setup}
+use Rattle.sg_calls.specs.Setup.{Setup}
 use Rattle.sg_calls.specs.World.{Core, host_of, is_suspended, state_of, whose_at, with_suspended}
 use Rattle.sg_calls.proofs.Each.{all_of-two}
 use Rattle.sg_kernel.proofs.Hits.{rest_is_hit}

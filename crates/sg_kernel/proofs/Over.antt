@@ -12,7 +12,7 @@ use Rattle.sg_route.specs.Roads.{Roads, roads_of}
 use Rattle.sg_route.specs.Route.{Route, route_of}
 use Rattle.sg_route.specs.Good.{IsGoodRoute, RoutesAreGood}
 use Rattle.sg_calls.specs.Roads.{AreOver, IsOver}
-use Rattle.sg_setup.specs.Setup.{caps_in, caps_of, link_cap, link_caps}
+use Rattle.sg_calls.specs.Setup.{caps_in, caps_of, link_cap, link_caps}
 
 row_counts : (policy : Policy) (first latency bandwidth : ℕ) → length (ends_of first latency policy) ≡ length (caps_of policy bandwidth)
 row_counts Shared first latency bandwidth = refl

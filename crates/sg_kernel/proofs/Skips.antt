@@ -18,7 +18,7 @@ use Rattle.sg_calls.specs.declared.stop.Stop.TheVariants.{Budget}
 use Rattle.sg_calls.specs.Answers.{answers, answers_by, answers_side, bare_side, finishes, for_receiver, awaits_side, with_over}
 use Rattle.sg_kernel.specs.Passes.{ends, ends_by, ends_in, ends_one}
 use Rattle.sg_calls.specs.Steps.{Step, stops, counted, follows, and_then, each}
-use Rattle.sg_setup.specs.Setup.{Setup}
+use Rattle.sg_calls.specs.Setup.{Setup}
 use Rattle.sg_calls.specs.World.{Core, state_of, whose_at}
 
 -- ---- answers leave the running activities as they are

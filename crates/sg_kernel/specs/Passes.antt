@@ -13,7 +13,7 @@ use Rattle.sg_rows.specs.declared.network.Network.{Network}
 use Rattle.sg_rows.specs.Network.{bandwidth_over}
 use Rattle.sg_mailbox.specs.declared.owners.How.TheVariants as how
 use Rattle.sg_calls.specs.declared.stop.Stop.TheVariants.{Deadlock, Starved}
-use Rattle.sg_setup.specs.Setup.{Setup}
+use Rattle.sg_calls.specs.Setup.{Setup}
 use Rattle.sg_calls.specs.World.{Core}
 use Rattle.sg_calls.specs.Steps.{Step, goes_on, stops, counted, unless_used, each, all_of}
 use Rattle.sg_calls.specs.Answers.{finishes}

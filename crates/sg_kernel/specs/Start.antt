@@ -6,7 +6,7 @@ use Rattle.sg_profile.specs.Profiles.{first_turns}
 use Rattle.sg_rows.specs.Platform.{Platform}
 use Rattle.sg_sync.specs.Objects.{Objects}
 use Rattle.sg_states.specs.Actors.{first_actor}
-use Rattle.sg_setup.specs.Setup.{Setup, host_cap, link_caps}
+use Rattle.sg_calls.specs.Setup.{Setup, host_cap, link_caps}
 use Rattle.sg_calls.specs.World.{Core}
 use Rattle.sg_calls.specs.Known.{Known}
 

@@ -3,11 +3,12 @@
 ghost use Rattle.std.specs.Prelude.{◌≡◌, ◌≤◌, ◌^◌, IfOk};
 ghost use Rattle.sg_rows.specs.Deployment.{IsDeployedOn};
 ghost use Rattle.sg_kernel.specs.Start.{capacities_in, first_known};
-ghost use Rattle.sg_setup.specs.Setup.{setup_of};
+ghost use Rattle.sg_calls.specs.Setup.{setup_of};
 ghost use Rattle.sg_kernel.specs.kept.First.{AreActors, AreObjects, IsIdle};
 ghost use Rattle.sg_calls.specs.kept.Sound.{known_of};
 ghost use Rattle.sg_calls.specs.kept.Whole.{IsWhole};
 
+use crate::setup::{capacities, homes, hosts, links, members, starts};
 use sg_activity::Activities;
 use sg_base::{Memory, PointId};
 use sg_calls::Fields;
@@ -15,7 +16,6 @@ use sg_mailbox::{Boxes, Owners};
 use sg_profile::Profiles;
 use sg_requests::Requests;
 use sg_rows::{Deployment, PlatformText};
-use sg_setup::{capacities, homes, hosts, links, members, starts};
 use sg_states::States;
 use sg_sync::Sync;
 use std::alloc::Global;

@@ -14,7 +14,7 @@ ghost use Rattle.sg_calls.specs.Lives.{created};
 ghost use Rattle.sg_calls.specs.declared.stop.Stop.TheVariants as stop;
 ghost use Rattle.sg_calls.specs.Steps.{result_of};
 ghost use Rattle.sg_kernel.specs.Start.{capacities_in, first_known};
-ghost use Rattle.sg_setup.specs.Setup.{setup_of};
+ghost use Rattle.sg_calls.specs.Setup.{setup_of};
 ghost use Rattle.sg_calls.specs.Roads.{AreOver};
 ghost use Rattle.sg_kernel.specs.Passes.{pass_of};
 ghost use Rattle.sg_calls.specs.Known.{after, after_call};

@@ -4,7 +4,7 @@ use Rattle.std.specs.Option.{option_map_or}
 use Rattle.std.specs.Result.{result_map_both}
 use Rattle.sg_churn.specs.Generated.{platform_of_seed, deployed_of_seed}
 use Rattle.sg_edge.specs.Sources.{Source}
-use Rattle.sg_setup.specs.Setup.{replays}
+use Rattle.sg_calls.specs.Setup.{replays}
 use Rattle.sg_rows.specs.Deployment.{Deployed, started_number}
 use Rattle.sg_platform.specs.DeploymentOf.{deployment_of}
 use Rattle.sg_rows.specs.Platform.{Platform}

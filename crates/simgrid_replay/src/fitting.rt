@@ -1,6 +1,6 @@
 //! Whether a deployment suits a run.
 ghost use Rattle.std.specs.Prelude.{◌≡◌, ◌≤◌, count_by, position, IfOk, IfErr};
-ghost use Rattle.sg_setup.specs.Setup.{is_replay as is_replay_spec, replays};
+ghost use Rattle.sg_calls.specs.Setup.{is_replay as is_replay_spec, replays};
 ghost use Rattle.sg_rows.specs.Deployment.{starts, started_number};
 ghost use Rattle.simgrid_replay.specs.kept.Reading.{IsOfDeployment};
 ghost use Rattle.simgrid_replay.specs.Settings.{fitting as fitting_spec, or_few_contexts};

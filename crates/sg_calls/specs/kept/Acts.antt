@@ -9,7 +9,7 @@ use Rattle.sg_mailbox.specs.declared.sides.Side.{Side}
 use Rattle.sg_mailbox.specs.Posts.{IsFound}
 use Rattle.sg_route.specs.declared.router.RouteFault.{RouteFault}
 use Rattle.sg_route.specs.Roads.{Roads}
-use Rattle.sg_setup.specs.Setup.{Setup}
+use Rattle.sg_calls.specs.Setup.{Setup}
 use Rattle.sg_states.specs.Actors.{joined_by}
 use Rattle.sg_states.specs.Records.{IsTellable}
 use Rattle.sg_states.specs.States.{CanCall}

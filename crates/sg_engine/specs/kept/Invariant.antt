@@ -23,7 +23,7 @@ use Rattle.sg_engine.specs.declared.ended.Ended.TheVariants as ended
 use Rattle.sg_engine.specs.declared.plan.Plan.{Plan}
 use Rattle.sg_engine.specs.declared.simulation.Simulation.{Simulation}
 use Rattle.sg_calls.specs.Known.{Known}
-use Rattle.sg_setup.specs.Setup.{setup_of}
+use Rattle.sg_calls.specs.Setup.{setup_of}
 use Rattle.sg_calls.specs.World.{Core, MayCall, extent, state_of}
 use Rattle.sg_states.specs.Actors.{is_unstarted}
 use Rattle.sg_states.specs.declared.state.Actor.{Actor}

@@ -13,7 +13,7 @@ use Rattle.sg_sync.specs.Objects.{Objects}
 use Rattle.sg_kernel.specs.declared.beginning.FirstActors.{FirstActors}
 use Rattle.sg_kernel.specs.declared.beginning.FirstObjects.{FirstObjects}
 use Rattle.sg_kernel.specs.declared.beginning.Idle.{Idle}
-use Rattle.sg_setup.specs.Setup.{host_cap, link_caps, capacity_of, replays}
+use Rattle.sg_calls.specs.Setup.{host_cap, link_caps, capacity_of, replays}
 
 -- no activity runs on the hosts and links of the platform, and nobody is in the mailboxes
 pub record IsIdle (platform : Platform) (idle : Idle) : Type 0 where

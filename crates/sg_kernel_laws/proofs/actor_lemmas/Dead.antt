@@ -13,7 +13,7 @@ use Rattle.sg_states.specs.Actors.{blocking_in, is_alive, is_answered, is_unstar
 use Rattle.sg_calls.specs.declared.stop.Stop.TheVariants.{Budget}
 use Rattle.sg_calls.specs.Calls.{answer_of_ask, answered, answered_call, told}
 use Rattle.sg_calls.specs.Steps.{Step, goes_on, stops, counted, readied}
-use Rattle.sg_setup.specs.Setup.{Setup}
+use Rattle.sg_calls.specs.Setup.{Setup}
 use Rattle.sg_calls.specs.World.{Core, MayCall, state_of}
 use Rattle.sg_kernel_laws.specs.actors.Dead.{AnswersStay, DeadStayDead, HasEnded, IsOfAnother, LeavesDead}
 use Rattle.sg_kernel_laws.proofs.actor_lemmas.Kept.{either, finishes_kept, pass_kept, still}

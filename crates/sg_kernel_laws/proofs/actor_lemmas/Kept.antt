@@ -30,7 +30,7 @@ use Rattle.sg_calls.specs.Kills.{gives_up, gives_up_by}
 use Rattle.sg_calls.specs.Locks.{all_wake, joiners_wake, wakes, wakes_from}
 use Rattle.sg_kernel.specs.Passes.{all_fail, applied_if, changes, core_later, ends, ends_by, ends_in, ends_one, enters, enters_one, entry_stretches, fails, next_span, pass_at, pass_of, settled, stretches}
 use Rattle.sg_calls.specs.Steps.{Step, goes_on, stops, counted, follows, and_then, each, all_of, replied}
-use Rattle.sg_setup.specs.Setup.{Setup}
+use Rattle.sg_calls.specs.Setup.{Setup}
 use Rattle.sg_calls.specs.World.{Core, state_of, whose_at}
 
 -- it holds after the step, and the other of each record

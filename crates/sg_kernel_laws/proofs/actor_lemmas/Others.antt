@@ -38,7 +38,7 @@ use Rattle.sg_calls.specs.Locks.{all_wake, caller_first, caller_gets, caller_las
 use Rattle.sg_calls.specs.Meetings.{answer_of_over, both_fail, comer_fails, comes, comes_by, fails_with, joined, joins_over, joins_with, other_fails, posted, posts_at, receiver_of, receives_by, route_between, sender_of, sends_by, takes_part, takes_part_failed, waits_by, waits_until, way_with}
 use Rattle.sg_calls.specs.Steps.{Step, goes_on, counted, and_then, each, all_of, at_once, blocked_by}
 use Rattle.sg_calls.specs.Suspensions.{held_by, held_if, held_on, suspended_to}
-use Rattle.sg_setup.specs.Setup.{Setup}
+use Rattle.sg_calls.specs.Setup.{Setup}
 use Rattle.sg_calls.specs.World.{Core, host_of, is_suspended, state_of, whose_at, with_suspended}
 use Rattle.sg_kernel_laws.specs.actors.Dead.{IsOfAnother}
 use Rattle.sg_kernel_laws.proofs.actor_lemmas.Kept.{Kept, Closed, Replying, Flowing, still, one_made, either, both, each_kept, none_kept, more_kept, all_kept, joiners_kept, side_kept, gives_up_kept}

@@ -45,7 +45,7 @@ use Rattle.sg_calls.specs.Meetings.{answer_of_over, both_fail, comer_fails, come
 use Rattle.sg_calls.specs.Steps.{Step, all_of, and_then, at_once, blocked_by, counted, each, follows, goes_on, readied, replied, stops}
 use Rattle.sg_calls.specs.Suspensions.{held_by, held_if, held_on, suspended_to}
 use Rattle.sg_kernel.specs.Passes.{all_fail, changes, core_later, ends, ends_by, ends_in, ends_one, enters_one, entry_stretches, fails, fails_one, next_span, pass_at, pass_of, settled, stretches}
-use Rattle.sg_setup.specs.Setup.{Setup}
+use Rattle.sg_calls.specs.Setup.{Setup}
 use Rattle.sg_calls.specs.World.{Core, host_of, is_suspended, state_of, whose_at, with_suspended}
 
 -- it holds where the actors do the same and no record is made, for one stretch and the next, and for an answer to an actor that is blocked

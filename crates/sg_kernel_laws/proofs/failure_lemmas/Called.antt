@@ -37,7 +37,7 @@ use Rattle.sg_calls.specs.Lives.{joins_by, with_actor_ended}
 use Rattle.sg_calls.specs.Locks.{all_wake, caller_first, caller_gets, caller_last, wakes, wakes_from, with_objects}
 use Rattle.sg_calls.specs.Meetings.{answer_of_over, both_fail, comer_fails, comes, comes_by, fails_with, joined, joins_over, joins_with, other_fails, posts_at, receiver_of, receives_by, route_between, sender_of, sends_by, takes_part, takes_part_failed, waits_by, waits_until}
 use Rattle.sg_calls.specs.Steps.{Step, stops, counted, follows, and_then, each, all_of, at_once}
-use Rattle.sg_setup.specs.Setup.{Setup}
+use Rattle.sg_calls.specs.Setup.{Setup}
 use Rattle.sg_calls.specs.World.{Core, state_of, whose_at}
 use Rattle.sg_calls.proofs.Each.{eq_no}
 use Rattle.sg_calls.proofs.Finishes.{answers_side_goes}

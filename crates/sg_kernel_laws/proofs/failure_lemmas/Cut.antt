@@ -29,7 +29,7 @@ use Rattle.sg_states.specs.Actors.{blocking_in}
 use Rattle.sg_calls.specs.Answers.{answers, answers_by, answers_side, bare_side, finishes, for_receiver, awaits_side, with_over}
 use Rattle.sg_kernel.specs.Passes.{all_fail, applied_if, changes, core_later, ends, ends_by, ends_in, ends_one, enters_one, entry_stretches, fails, pass_at, settled, stretches}
 use Rattle.sg_calls.specs.Steps.{Step, stops, counted, follows, and_then, each, all_of}
-use Rattle.sg_setup.specs.Setup.{Setup}
+use Rattle.sg_calls.specs.Setup.{Setup}
 use Rattle.sg_calls.specs.World.{Core, state_of, whose_at}
 use Rattle.sg_calls.proofs.Each.{all_of-two}
 use Rattle.sg_kernel.proofs.Skips.{finishes_leaves, none_there}

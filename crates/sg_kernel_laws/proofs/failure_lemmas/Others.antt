@@ -57,7 +57,7 @@ use Rattle.sg_kernel.specs.Passes.{all_fail, changes, core_later, ends, ends_by,
 use Rattle.sg_kernel.specs.Start.{first_core}
 use Rattle.sg_calls.specs.Steps.{Step, goes_on, stops, counted, follows, and_then, each, all_of, at_once, blocked_by, readied, replied}
 use Rattle.sg_calls.specs.Suspensions.{held_by, held_if, held_on, held_to, resumes, suspended_to, suspends}
-use Rattle.sg_setup.specs.Setup.{Setup}
+use Rattle.sg_calls.specs.Setup.{Setup}
 use Rattle.sg_calls.specs.World.{Core, host_of, is_suspended, state_of, whose_at, with_suspended}
 use Rattle.sg_kernel.proofs.Hits.{rest_is_hit}
 use Rattle.sg_calls.proofs.Postings.{found_post}

@@ -13,7 +13,7 @@ use Rattle.sg_calls.specs.Calls.{answered, told}
 use Rattle.sg_calls.specs.Lives.{created}
 use Rattle.sg_kernel.specs.Passes.{pass_of}
 use Rattle.sg_calls.specs.Steps.{Step}
-use Rattle.sg_setup.specs.Setup.{Setup}
+use Rattle.sg_calls.specs.Setup.{Setup}
 use Rattle.sg_calls.specs.World.{Core, MayCall, state_of}
 
 abbrev pub HasEnded : ℕ → Core → Type 0

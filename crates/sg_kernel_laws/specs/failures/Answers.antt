@@ -12,7 +12,7 @@ use Rattle.sg_calls.specs.Lives.{created}
 use Rattle.sg_calls.specs.Steps.{Step}
 use Rattle.sg_calls.specs.World.{Core, state_of}
 use Rattle.sg_kernel.specs.Passes.{pass_of}
-use Rattle.sg_setup.specs.Setup.{Setup}
+use Rattle.sg_calls.specs.Setup.{Setup}
 use Rattle.sg_kernel_laws.specs.failures.Laws.{is_failed}
 
 -- one of the records is of the actor, and is of a failed call; an actor's place is one below its id

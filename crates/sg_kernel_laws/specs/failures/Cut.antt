@@ -13,7 +13,7 @@ use Rattle.sg_mailbox.specs.declared.owners.How.{How}
 use Rattle.sg_mailbox.specs.declared.owners.How.TheVariants as how
 use Rattle.sg_mailbox.specs.declared.owners.Whose.TheVariants.{Over}
 use Rattle.sg_kernel.specs.Passes.{next_span, pass_of, settled}
-use Rattle.sg_setup.specs.Setup.{Setup}
+use Rattle.sg_calls.specs.Setup.{Setup}
 use Rattle.sg_calls.specs.Steps.{Step}
 use Rattle.sg_calls.specs.World.{Core, whose_at}
 use Rattle.sg_kernel_laws.specs.failures.Laws.{is_over}

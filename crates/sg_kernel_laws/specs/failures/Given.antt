@@ -10,7 +10,7 @@ use Rattle.sg_calls.specs.Calls.{answered}
 use Rattle.sg_calls.specs.Kills.{awaited}
 use Rattle.sg_calls.specs.Steps.{Step}
 use Rattle.sg_calls.specs.World.{Core, state_of, whose_at}
-use Rattle.sg_setup.specs.Setup.{Setup}
+use Rattle.sg_calls.specs.Setup.{Setup}
 use Rattle.sg_kernel_laws.specs.failures.Laws.{is_over}
 
 -- the activity has failed where the killed actor awaited it, and is as it was where not; ids are from 1 on

@@ -29,7 +29,7 @@ use Rattle.sg_calls.specs.Calls.{answered}
 use Rattle.sg_calls.specs.Kills.{awaited}
 use Rattle.sg_calls.specs.Meetings.{comer_of, posts_at, receiver_of, route_between, sender_of, way_with}
 use Rattle.sg_kernel.specs.Passes.{pass_of}
-use Rattle.sg_setup.specs.Setup.{Setup}
+use Rattle.sg_calls.specs.Setup.{Setup}
 use Rattle.sg_calls.specs.World.{Core, MayCall, host_of, state_of, whose_at}
 
 -- ---- time advances

@@ -35,7 +35,7 @@ use Rattle.sg_calls.specs.Locks.{joiners_wake}
 use Rattle.sg_calls.specs.Meetings.{receives_by, sends_by}
 use Rattle.sg_calls.specs.Steps.{Step, goes_on, stops, counted, each, all_of, at_once, readied}
 use Rattle.sg_calls.specs.Suspensions.{held_by, held_if, held_on, held_to, suspended_to}
-use Rattle.sg_setup.specs.Setup.{Setup}
+use Rattle.sg_calls.specs.Setup.{Setup}
 use Rattle.sg_calls.specs.World.{Core, MayCall, host_of, is_suspended, state_of, whose_at, with_suspended}
 use Rattle.sg_calls.proofs.Each.{each_on}
 use Rattle.sg_run_laws.specs.awaits.Awaits.{names}

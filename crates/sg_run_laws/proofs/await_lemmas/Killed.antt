@@ -7,7 +7,7 @@ use Rattle.sg_route.specs.Roads.{roads_of}
 use Rattle.sg_states.specs.Actors.{is_alive, is_ended}
 use Rattle.sg_calls.specs.declared.stop.Stop.{Stop}
 use Rattle.sg_calls.specs.Calls.{answered}
-use Rattle.sg_setup.specs.Setup.{setup_of, Setup}
+use Rattle.sg_calls.specs.Setup.{setup_of, Setup}
 use Rattle.sg_calls.specs.Steps.{Step}
 use Rattle.sg_calls.specs.World.{Core, IsActor, state_of}
 use Rattle.sg_engine.specs.World.{World}

@@ -24,7 +24,7 @@ use Rattle.sg_mailbox.specs.declared.owners.Whose.TheVariants.{Over, Alone, Post
 use Rattle.sg_calls.specs.Answers.{answers_side, for_receiver, with_over}
 use Rattle.sg_calls.specs.Meetings.{answer_of_over, asks_for, await, both_fail, comer_fails, comes, comes_by, comm_over, fails_with, joined, joins_over, joins_with, other_fails, posted, posts_at, receiver_of, route_between, sender_of, takes_part, takes_part_failed, waits_by, waits_until, way_with}
 use Rattle.sg_calls.specs.Steps.{Step, counted, and_then}
-use Rattle.sg_setup.specs.Setup.{Setup}
+use Rattle.sg_calls.specs.Setup.{Setup}
 use Rattle.sg_calls.specs.World.{Core, whose_at}
 use Rattle.sg_calls.proofs.Postings.{found_post}
 use Rattle.sg_kernel_laws.proofs.actor_lemmas.Kept.{either, side_kept}

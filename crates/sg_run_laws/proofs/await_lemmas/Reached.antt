@@ -20,7 +20,7 @@ use Rattle.sg_calls.specs.Calls.{answered}
 use Rattle.sg_calls.specs.Kills.{awaited, kills}
 use Rattle.sg_kernel.specs.Passes.{pass_of}
 use Rattle.sg_kernel.specs.Start.{capacities_in, first_core, first_objects}
-use Rattle.sg_setup.specs.Setup.{home_of, Setup}
+use Rattle.sg_calls.specs.Setup.{home_of, Setup}
 use Rattle.sg_calls.specs.Steps.{Step, stops, counted}
 use Rattle.sg_calls.specs.World.{Core, state_of, whose_at}
 use Rattle.sg_kernel_laws.specs.actors.Dead.{HasEnded, LeavesDead}

@@ -2,7 +2,7 @@
 use Rattle.std.proofs.Common.{ℕ, ◌+◌}
 use Rattle.sg_route.specs.Roads.{roads_of}
 use Rattle.sg_kernel.specs.Start.{capacities_in, first_core}
-use Rattle.sg_setup.specs.Setup.{setup_of}
+use Rattle.sg_calls.specs.Setup.{setup_of}
 use Rattle.sg_calls.specs.World.{Core}
 use Rattle.sg_engine.specs.Run.{then_unless_ended}
 use Rattle.sg_run_laws.specs.awaits.Reached.{Reached, Reaches, here}

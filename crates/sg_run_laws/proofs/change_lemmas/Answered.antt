@@ -10,7 +10,7 @@ use Rattle.sg_states.specs.Records.{end_by, record_of}
 use Rattle.sg_mailbox.specs.declared.owners.How.{How}
 use Rattle.sg_mailbox.specs.declared.owners.Whose.TheVariants.{Over}
 use Rattle.sg_kernel.specs.Passes.{pass_of}
-use Rattle.sg_setup.specs.Setup.{Setup}
+use Rattle.sg_calls.specs.Setup.{Setup}
 use Rattle.sg_calls.specs.World.{Core, state_of, whose_at}
 use Rattle.sg_kernel_laws.specs.failures.Laws.{TellsHow, over_by}
 use Rattle.sg_kernel_laws.proofs.failure_lemmas.Passed.{passes_tell}

@@ -45,7 +45,7 @@ use Rattle.sg_calls.specs.Meetings.{answer_of_over, both_fail, comer_fails, come
 use Rattle.sg_kernel.specs.Passes.{all_fail, applied_if, changes, ends, ends_by, ends_in, ends_one, enters_one, entry_stretches, fails}
 use Rattle.sg_calls.specs.Steps.{Step, goes_on, stops, counted, and_then, each, all_of, at_once, readied}
 use Rattle.sg_calls.specs.Suspensions.{held_by, held_if, held_on, held_to, suspended_to}
-use Rattle.sg_setup.specs.Setup.{Setup}
+use Rattle.sg_calls.specs.Setup.{Setup}
 use Rattle.sg_calls.specs.World.{Core, host_of, is_suspended, state_of, whose_at, with_suspended}
 use Rattle.sg_kernel_laws.proofs.actor_lemmas.Kept.{Closed, Kept, Replying, all_kept, both, each_kept, either, finishes_kept, gives_up_kept, joiners_kept, more_kept, none_kept, one_made, side_kept}
 use Rattle.sg_run_laws.proofs.await_lemmas.Objects.{AtMost, acquired_most, locked_most, released_most, unlocked_most}

@@ -48,7 +48,7 @@ use Rattle.sg_calls.specs.Locks.{all_wake, caller_first, caller_gets, caller_las
 use Rattle.sg_calls.specs.Meetings.{answer_of_over, asks_for, await, both_fail, comer_fails, comes, comes_by, comm_over, fails_with, joined, joins_over, joins_with, other_fails, party_of, posted, posts_at, receiver_of, receives_by, route_between, sender_of, sends_by, takes_part, takes_part_failed, waits_by, waits_until, way_with}
 use Rattle.sg_calls.specs.Steps.{Step, goes_on, stops, counted, and_then, each, at_once, readied}
 use Rattle.sg_calls.specs.Suspensions.{held_by, held_if, held_on, held_to, suspended_to}
-use Rattle.sg_setup.specs.Setup.{Setup}
+use Rattle.sg_calls.specs.Setup.{Setup}
 use Rattle.sg_calls.specs.World.{Core, host_of, is_suspended, state_of, whose_at, with_suspended}
 use Rattle.sg_calls.proofs.Finishes.{answers_side_goes}
 use Rattle.sg_calls.proofs.Postings.{found_post}

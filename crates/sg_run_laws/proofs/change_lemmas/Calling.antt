@@ -12,7 +12,7 @@ use Rattle.sg_calls.specs.Calls.{answered, answered_call}
 use Rattle.sg_calls.specs.Steps.{stops}
 use Rattle.sg_calls.specs.World.{Core, MayCall, state_of}
 use Rattle.sg_calls.proofs.Each.{eq_yes}
-use Rattle.sg_setup.specs.Setup.{Setup}
+use Rattle.sg_calls.specs.Setup.{Setup}
 use Rattle.sg_engine.specs.World.{World}
 use Rattle.sg_engine.specs.declared.ended.Ended.{Ended}
 use Rattle.sg_engine.specs.Run.{Scene, Answering, Progress, and_then_by, ask_step, at_world, calls_from, created_by, creates, if_call, in_world, is_ask, one_call, other_call, then_unless_ended, with_front}

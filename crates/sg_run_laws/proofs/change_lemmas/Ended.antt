@@ -4,7 +4,7 @@ use Rattle.sg_base.specs.declared.awaits.Await.{Await}
 use Rattle.sg_requests.specs.Requested.{queue_at}
 use Rattle.sg_states.specs.Actors.{is_ended}
 use Rattle.sg_kernel.specs.Passes.{pass_of}
-use Rattle.sg_setup.specs.Setup.{Setup}
+use Rattle.sg_calls.specs.Setup.{Setup}
 use Rattle.sg_calls.specs.World.{Core, state_of}
 use Rattle.sg_engine.specs.Run.{Progress, Scene, run_from}
 use Rattle.sg_kernel_laws.specs.actors.Dead.{IsOfAnother}

@@ -4,7 +4,7 @@ use Rattle.std.proofs.lemmas.List.{get_or-replicate, length-map, length-replicat
 use Rattle.sg_activity.specs.Underway.{power_at, work_of}
 use Rattle.sg_kernel.specs.Passes.{pass_of}
 use Rattle.sg_kernel.specs.Start.{capacities_in}
-use Rattle.sg_setup.specs.Setup.{host_cap}
+use Rattle.sg_calls.specs.Setup.{host_cap}
 use Rattle.sg_calls.specs.World.{Core}
 use Rattle.sg_engine.specs.World.{World}
 use Rattle.sg_engine.specs.declared.ended.Ended.{Ended}

@@ -24,7 +24,7 @@ use Rattle.sg_calls.specs.Steps.{Step, and_then, counted}
 use Rattle.sg_calls.specs.World.{Core, state_of, whose_at}
 use Rattle.sg_calls.proofs.Postings.{found_post}
 use Rattle.sg_kernel.specs.Passes.{next_span, pass_at, pass_of, settled}
-use Rattle.sg_setup.specs.Setup.{Setup}
+use Rattle.sg_calls.specs.Setup.{Setup}
 use Rattle.sg_engine.specs.World.{World}
 use Rattle.sg_engine.specs.declared.ended.Ended.{Ended}
 use Rattle.sg_engine.specs.declared.ended.Ended.TheVariants as ended

@@ -11,7 +11,7 @@ use Rattle.sg_calls.specs.Answers.{finishes}
 use Rattle.sg_kernel.specs.Failures.{NothingOffIsUsed, UsesNothingOff}
 use Rattle.sg_kernel.specs.Passes.{all_fail, changes, core_later, ends, ends_by, ends_in, ends_one, enters_one, entry_stretches, fails, next_span, pass_at, pass_of, settled, stretches}
 use Rattle.sg_kernel.specs.Start.{capacities_in}
-use Rattle.sg_setup.specs.Setup.{setup_of, Setup}
+use Rattle.sg_calls.specs.Setup.{setup_of, Setup}
 use Rattle.sg_calls.specs.Steps.{Step, and_then, all_of, counted, each, follows, goes_on, stops}
 use Rattle.sg_calls.specs.World.{Core}
 use Rattle.sg_calls.proofs.Finishes.{finishes_goes}

@@ -27,7 +27,7 @@ use Rattle.sg_calls.specs.kept.Sound.{is_posted}
 use Rattle.sg_calls.specs.Answers.{answer_to, answers, answers_by, answers_side, bare_side, finishes, for_receiver, awaits_side, party_eq, tells_bytes, with_over}
 use Rattle.sg_kernel.specs.Passes.{all_fail, changes, core_later, ends, ends_by, ends_in, ends_one, enters_one, entry_stretches, fails, fails_one, next_span, pass_at, pass_of, settled, stretches}
 use Rattle.sg_calls.specs.Steps.{Step, goes_on, stops, counted, and_then, each, all_of, replied}
-use Rattle.sg_setup.specs.Setup.{Setup}
+use Rattle.sg_calls.specs.Setup.{Setup}
 use Rattle.sg_calls.specs.World.{Core, state_of, whose_at}
 use Rattle.sg_calls.proofs.Finishes.{answers_side_goes}
 use Rattle.sg_kernel.proofs.Hits.{rest_is_hit}

@@ -28,7 +28,7 @@ use Rattle.sg_calls.specs.Answers.{answers_by, answers_side, for_receiver, side_
 use Rattle.sg_calls.specs.Calls.{answered, answered_call}
 use Rattle.sg_calls.specs.Meetings.{asks_for, await, comer_fails, comer_of, comes, comes_by, fails_with, joins_over, joins_with, party_of, posts_at, receiver_of, receives_by, route_between, sender_of, sends_by}
 use Rattle.sg_calls.specs.Steps.{Step, and_then, counted, goes_on, readied, replied, stops}
-use Rattle.sg_setup.specs.Setup.{Setup}
+use Rattle.sg_calls.specs.Setup.{Setup}
 use Rattle.sg_calls.specs.World.{Core, MayCall, state_of}
 use Rattle.sg_calls.proofs.Each.{eq_no}
 use Rattle.sg_calls.proofs.Postings.{found_post}

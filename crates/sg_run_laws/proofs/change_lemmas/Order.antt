@@ -32,7 +32,7 @@ use Rattle.sg_calls.specs.Kills.{awaited, blocked_on, gives_up, gives_up_by, kil
 use Rattle.sg_calls.specs.Lives.{exits, with_actor_ended}
 use Rattle.sg_calls.specs.Locks.{joiners_wake, wakes, wakes_from}
 use Rattle.sg_calls.specs.Steps.{Step, goes_on, stops, counted, follows, and_then, each, all_of, at_once, replied}
-use Rattle.sg_setup.specs.Setup.{Setup}
+use Rattle.sg_calls.specs.Setup.{Setup}
 use Rattle.sg_calls.specs.World.{Core, MayCall, state_of, whose_at}
 use Rattle.sg_calls.proofs.Each.{all_of-two, each_on, eq_no, eq_yes}
 use Rattle.sg_calls.proofs.Stated.{blocking_is}

@@ -9,7 +9,7 @@ use Rattle.sg_sync.specs.Objects.{Objects, waiting}
 use Rattle.sg_calls.specs.declared.stop.Stop.TheVariants.{Budget}
 use Rattle.sg_calls.specs.Kills.{kills}
 use Rattle.sg_kernel.specs.Passes.{core_later, next_span, pass_at, settled, stretches}
-use Rattle.sg_setup.specs.Setup.{setup_of, Setup}
+use Rattle.sg_calls.specs.Setup.{setup_of, Setup}
 use Rattle.sg_calls.specs.Steps.{stops, all_of, counted}
 use Rattle.sg_calls.specs.World.{Core, IsActor, MayCall, state_of}
 use Rattle.sg_engine.specs.Run.{Progress}

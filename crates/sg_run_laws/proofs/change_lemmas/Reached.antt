@@ -3,7 +3,7 @@ use Rattle.std.proofs.Common.{◌⊎◌, ◌-◌, inl, inr, [], length, refl}
 use Rattle.sg_activity.specs.Links.{Capacities}
 use Rattle.sg_route.specs.Roads.{Roads, roads_of}
 use Rattle.sg_kernel.specs.Start.{first_core}
-use Rattle.sg_setup.specs.Setup.{setup_of, Setup}
+use Rattle.sg_calls.specs.Setup.{setup_of, Setup}
 use Rattle.sg_calls.specs.World.{Core, whose_at}
 use Rattle.sg_kernel_laws.proofs.failure_lemmas.Others.{none_asked, none_blocked}
 use Rattle.sg_run_laws.specs.awaits.Reached.{Reaches, Reached, here, calls, creates, asks, passes}

@@ -16,7 +16,7 @@ use Rattle.sg_calls.specs.Steps.{Step, all_of, and_then, counted, each, follows,
 use Rattle.sg_calls.specs.World.{Core}
 use Rattle.sg_calls.proofs.Each.{all_of-two}
 use Rattle.sg_kernel.specs.Passes.{all_fail, changes, core_later, ends, ends_by, ends_in, ends_one, enters_one, entry_stretches, fails, fails_one, pass_at, settled, stretches}
-use Rattle.sg_setup.specs.Setup.{Setup}
+use Rattle.sg_calls.specs.Setup.{Setup}
 use Rattle.sg_kernel_laws.proofs.actor_lemmas.Kept.{Kept, either, each_kept, finishes_kept, still}
 use Rattle.sg_run_laws.proofs.await_lemmas.Over.{anything}
 use Rattle.sg_run_laws.specs.changes.Order.{Rise, serial_before}

@@ -35,7 +35,7 @@ use Rattle.sg_calls.specs.Meetings.{answer_of_over, comer_of, comes, comes_by, f
 use Rattle.sg_calls.specs.Steps.{Step, at_once, counted, goes_on, readied, stops}
 use Rattle.sg_calls.specs.Suspensions.{held_by, held_if, held_on, suspended_to}
 use Rattle.sg_calls.specs.World.{Core, host_of, is_suspended, state_of, whose_at, with_suspended}
-use Rattle.sg_setup.specs.Setup.{Setup}
+use Rattle.sg_calls.specs.Setup.{Setup}
 use Rattle.sg_kernel_laws.specs.failures.Laws.{is_over, kills_one, meeting_fails, side_fails, way_fails}
 use Rattle.sg_kernel_laws.proofs.failure_lemmas.Passed.{set_there}
 use Rattle.sg_kernel_laws.proofs.actor_lemmas.Kept.{Kept, Replying, all_kept, both, either, joiners_kept, one_made, still}

@@ -9,7 +9,7 @@ use Rattle.sg_sync.specs.Objects.{Objects}
 use Rattle.sg_calls.specs.declared.stop.Stop.TheVariants.{Budget}
 use Rattle.sg_kernel.specs.Passes.{core_later, next_span, pass_at, pass_of, settled, stretches}
 use Rattle.sg_calls.specs.Steps.{Step, stops, all_of}
-use Rattle.sg_setup.specs.Setup.{Setup}
+use Rattle.sg_calls.specs.Setup.{Setup}
 use Rattle.sg_calls.specs.World.{Core}
 use Rattle.sg_run_laws.proofs.change_lemmas.Around.{Lasting, Served, stretches_then}
 

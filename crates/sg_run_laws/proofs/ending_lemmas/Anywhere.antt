@@ -16,7 +16,7 @@ use Rattle.sg_calls.specs.declared.stop.Stop.{Stop}
 use Rattle.sg_calls.specs.declared.stop.Stop.TheVariants.{Budget}
 use Rattle.sg_kernel.specs.Passes.{all_fail, changes, core_later, ends, ends_by, ends_one, enters_one, entry_stretches, fails, fails_one, pass_at, pass_of, settled}
 use Rattle.sg_calls.specs.Steps.{Step, all_of, and_then, each, follows, goes_on, stops, unless_used}
-use Rattle.sg_setup.specs.Setup.{Setup}
+use Rattle.sg_calls.specs.Setup.{Setup}
 use Rattle.sg_calls.specs.World.{Core, state_of}
 use Rattle.sg_calls.proofs.Each.{all_of-two, eq_yes}
 use Rattle.sg_engine.specs.World.{World}

@@ -42,7 +42,7 @@ use Rattle.sg_calls.specs.Meetings.{answer_of_over, both_fail, comer_fails, come
 use Rattle.sg_kernel.specs.Passes.{pass_of}
 use Rattle.sg_calls.specs.Steps.{Step, goes_on, counted, and_then, each, at_once, blocked_by}
 use Rattle.sg_calls.specs.Suspensions.{held_by, held_if, held_on, held_to, suspended_to}
-use Rattle.sg_setup.specs.Setup.{Setup}
+use Rattle.sg_calls.specs.Setup.{Setup}
 use Rattle.sg_calls.specs.World.{Core, host_of, is_suspended, state_of, whose_at, with_suspended, with_state}
 use Rattle.sg_calls.proofs.Alone.{alone_goes}
 use Rattle.sg_calls.proofs.Each.{both_on}

@@ -19,7 +19,7 @@ use Rattle.sg_calls.specs.Calls.{answer_of_ask, answered, answered_call}
 use Rattle.sg_calls.specs.Lives.{created}
 use Rattle.sg_kernel.specs.Passes.{all_fail, changes, core_later, ends, ends_by, ends_in, ends_one, enters_one, entry_stretches, fails, fails_one, next_span, pass_at, pass_of, settled, stretches}
 use Rattle.sg_calls.specs.Steps.{Step, goes_on, stops, counted, follows, and_then, each, all_of, readied}
-use Rattle.sg_setup.specs.Setup.{Setup}
+use Rattle.sg_calls.specs.Setup.{Setup}
 use Rattle.sg_calls.specs.World.{Core, state_of}
 use Rattle.sg_calls.proofs.Each.{all_of-two}
 use Rattle.sg_calls.proofs.Finishes.{finishes_goes}

@@ -24,7 +24,7 @@ use Rattle.sg_calls.specs.declared.stop.Stop.TheVariants as stop
 use Rattle.sg_calls.specs.Answers.{finishes}
 use Rattle.sg_kernel.specs.Passes.{all_fail, applied_if, changes, core_later, ends, ends_by, ends_in, ends_one, enters, enters_one, entry_stretches, fails, fails_one, next_span, pass_at, pass_of, settled, span_to, stretches}
 use Rattle.sg_calls.specs.Steps.{Step, goes_on, stops, counted, follows, and_then, each, all_of}
-use Rattle.sg_setup.specs.Setup.{Setup}
+use Rattle.sg_calls.specs.Setup.{Setup}
 use Rattle.sg_calls.specs.World.{Core}
 use Rattle.sg_calls.proofs.Finishes.{finishes_goes}
 use Rattle.sg_kernel_laws.proofs.actor_lemmas.Kept.{finishes_kept, still}

@@ -10,7 +10,7 @@ use Rattle.sg_mailbox.specs.declared.owners.Whose.{Whose}
 use Rattle.sg_mailbox.specs.declared.owners.Whose.TheVariants.{Over, Alone, Posted, Pair}
 use Rattle.sg_calls.specs.Calls.{answered}
 use Rattle.sg_calls.specs.Kills.{awaited}
-use Rattle.sg_setup.specs.Setup.{Setup}
+use Rattle.sg_calls.specs.Setup.{Setup}
 use Rattle.sg_calls.specs.World.{Core, IsActor, MayCall, state_of, whose_at}
 use Rattle.sg_kernel_laws.specs.actors.Dead.{HasEnded}
 use Rattle.sg_run_laws.specs.awaits.Reached.{Reaches, Reached}

@@ -3,7 +3,7 @@ use Rattle.std.specs.Prelude.{◌≡◌, ℕ, ◌+◌, []}
 use Rattle.sg_base.specs.declared.ids.ActorId.{ActorId}
 use Rattle.sg_requests.specs.Requested.{queue_at}
 use Rattle.sg_route.specs.Roads.{roads_of}
-use Rattle.sg_setup.specs.Setup.{setup_of}
+use Rattle.sg_calls.specs.Setup.{setup_of}
 use Rattle.sg_calls.specs.World.{Core}
 use Rattle.sg_kernel_laws.specs.actors.Dead.{HasEnded}
 use Rattle.sg_run_laws.specs.awaits.Awaits.{AwaitsAll, IsUnnamed}

@@ -12,7 +12,7 @@ use Rattle.sg_calls.specs.Calls.{answered, told}
 use Rattle.sg_calls.specs.Lives.{created}
 use Rattle.sg_kernel.specs.Passes.{pass_of}
 use Rattle.sg_kernel.specs.Start.{capacities_in, first_core}
-use Rattle.sg_setup.specs.Setup.{setup_of, Setup}
+use Rattle.sg_calls.specs.Setup.{setup_of, Setup}
 use Rattle.sg_calls.specs.World.{Core, MayCall, state_of}
 
 -- A run reaches a core from another: by calls of actors that may call, actors that are created, fetched lines that are

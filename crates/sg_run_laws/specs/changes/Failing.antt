@@ -16,7 +16,7 @@ use Rattle.sg_mailbox.specs.declared.owners.Whose.TheVariants.{Over}
 use Rattle.sg_calls.specs.Kills.{awaited}
 use Rattle.sg_calls.specs.Meetings.{comer_of, posts_at}
 use Rattle.sg_kernel.specs.Passes.{next_span, settled}
-use Rattle.sg_setup.specs.Setup.{Setup}
+use Rattle.sg_calls.specs.Setup.{Setup}
 use Rattle.sg_calls.specs.World.{Core, state_of, whose_at}
 use Rattle.sg_engine.specs.Run.{Progress, anyone_ready, are_completed}
 use Rattle.sg_kernel_laws.specs.failures.Cut.{over_in}

@@ -17,7 +17,7 @@ use Rattle.sg_calls.specs.Meetings.{comer_of, party_of, posts_at, sender_of}
 use Rattle.sg_calls.specs.Steps.{Step}
 use Rattle.sg_mailbox.specs.declared.owners.How.TheVariants as how
 use Rattle.sg_mailbox.specs.declared.owners.Whose.TheVariants.{Over}
-use Rattle.sg_setup.specs.Setup.{Setup}
+use Rattle.sg_calls.specs.Setup.{Setup}
 use Rattle.sg_calls.specs.World.{Core, MayCall, state_of, whose_at}
 use Rattle.sg_kernel_laws.specs.failures.Laws.{call_fails}
 

@@ -7,7 +7,7 @@ use Rattle.sg_route.specs.Roads.{Roads}
 use Rattle.sg_calls.specs.Calls.{answered}
 use Rattle.sg_calls.specs.World.{Core}
 use Rattle.sg_kernel.specs.Passes.{pass_of}
-use Rattle.sg_setup.specs.Setup.{Setup}
+use Rattle.sg_calls.specs.Setup.{Setup}
 use Rattle.sg_run_laws.specs.changes.Order.{id_in}
 
 -- no two of these records are of one actor

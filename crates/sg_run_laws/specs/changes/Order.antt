@@ -12,7 +12,7 @@ use Rattle.sg_states.specs.Records.{record_of}
 use Rattle.sg_calls.specs.Calls.{answered}
 use Rattle.sg_calls.specs.Kills.{blocked_on}
 use Rattle.sg_calls.specs.Steps.{Step}
-use Rattle.sg_setup.specs.Setup.{Setup}
+use Rattle.sg_calls.specs.Setup.{Setup}
 use Rattle.sg_calls.specs.World.{Core, MayCall, state_of}
 use Rattle.sg_kernel_laws.specs.failures.Laws.{TellsJoiner, TellsOther}
 use Rattle.sg_run_laws.specs.changes.Told.{IsTold}

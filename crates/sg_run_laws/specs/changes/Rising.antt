@@ -5,7 +5,7 @@ use Rattle.sg_profile.specs.Profiles.{rows_due}
 use Rattle.sg_kernel.specs.Passes.{next_span, pass_of, settled}
 use Rattle.sg_calls.specs.Steps.{Step}
 use Rattle.sg_calls.specs.World.{Core}
-use Rattle.sg_setup.specs.Setup.{Setup}
+use Rattle.sg_calls.specs.Setup.{Setup}
 use Rattle.sg_run_laws.specs.changes.Order.{Rise, serial_before}
 
 -- one after another

@@ -9,7 +9,7 @@ use Rattle.sg_calls.specs.Lives.{created}
 use Rattle.sg_calls.specs.Meetings.{comer_of}
 use Rattle.sg_calls.specs.Steps.{Step}
 use Rattle.sg_calls.specs.World.{Core, whose_at}
-use Rattle.sg_setup.specs.Setup.{Setup}
+use Rattle.sg_calls.specs.Setup.{Setup}
 use Rattle.sg_kernel_laws.specs.failures.Laws.{is_over, kills_one, side_fails}
 
 -- an activity that has not ended before has not ended after it

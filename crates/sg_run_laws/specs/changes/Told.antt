@@ -15,7 +15,7 @@ use Rattle.sg_mailbox.specs.declared.owners.Whose.TheVariants.{Over}
 use Rattle.sg_calls.specs.Calls.{answered}
 use Rattle.sg_calls.specs.Kills.{awaited}
 use Rattle.sg_kernel.specs.Passes.{pass_of}
-use Rattle.sg_setup.specs.Setup.{setup_of, Setup}
+use Rattle.sg_calls.specs.Setup.{setup_of, Setup}
 use Rattle.sg_calls.specs.Steps.{Step}
 use Rattle.sg_calls.specs.World.{Core, MayCall, state_of, whose_at}
 use Rattle.sg_kernel_laws.specs.failures.Laws.{TellsCaller, over_by}

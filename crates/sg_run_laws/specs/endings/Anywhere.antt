@@ -8,7 +8,7 @@ use Rattle.sg_rows.specs.Platform.{IsPlatform}
 use Rattle.sg_engine.specs.declared.ended.Ended.TheVariants as ended
 use Rattle.sg_engine.specs.Run.{anyone_ready, are_completed}
 use Rattle.sg_kernel.specs.Passes.{changes, core_later, ends, enters_one, fails, next_span, settled}
-use Rattle.sg_setup.specs.Setup.{Setup}
+use Rattle.sg_calls.specs.Setup.{Setup}
 use Rattle.sg_calls.specs.Steps.{Step, and_then, each, goes_on, unless_used}
 use Rattle.sg_calls.specs.World.{Core}
 use Rattle.sg_run_laws.specs.awaits.Runs.{Run, parts_in, run_to, scene_in, whole}

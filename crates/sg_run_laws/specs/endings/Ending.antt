@@ -6,7 +6,7 @@ use Rattle.sg_engine.specs.Run.{Scene, Answering, Progress, anyone_ready, are_co
 use Rattle.sg_engine.specs.World.{World}
 use Rattle.sg_kernel.specs.Passes.{next_span, settled}
 use Rattle.sg_calls.specs.World.{Core}
-use Rattle.sg_setup.specs.Setup.{Setup}
+use Rattle.sg_calls.specs.Setup.{Setup}
 use Rattle.sg_run_laws.specs.awaits.Runs.{IsCoreOf, Run, first_in, parts_in, scene_in, whole}
 
 -- A run continues with scheduling rounds and time advances until it ends: here all have ended that began, or the next

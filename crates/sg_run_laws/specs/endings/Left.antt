@@ -8,7 +8,7 @@ use Rattle.sg_states.specs.Actors.{is_ended}
 use Rattle.sg_engine.specs.declared.ended.Ended.TheVariants as ended
 use Rattle.sg_engine.specs.Run.{anyone_ready}
 use Rattle.sg_kernel.specs.Passes.{next_span, settled}
-use Rattle.sg_setup.specs.Setup.{Setup}
+use Rattle.sg_calls.specs.Setup.{Setup}
 use Rattle.sg_calls.specs.World.{Core, state_of}
 use Rattle.sg_run_laws.specs.awaits.Runs.{Run, calls_in, parts_in, run_to, scene_in, whole}
 

@@ -2,7 +2,7 @@ use Rattle.std.proofs.Common.{◌-◌, sym, ap, subst}
 use Rattle.sg_base.specs.declared.call.Call.TheVariants as call
 use Rattle.sg_states.specs.Records.{IsTellable}
 use Rattle.sg_calls.specs.Known.{Known}
-use Rattle.sg_setup.specs.Setup.{Setup}
+use Rattle.sg_calls.specs.Setup.{Setup}
 use Rattle.sg_calls.specs.World.{extent}
 use Rattle.sg_calls.specs.kept.Whole.{IsWholeFor}
 use Rattle.sg_calls.proofs.Alone.{can_name}

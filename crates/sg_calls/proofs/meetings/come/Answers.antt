@@ -3,7 +3,7 @@ use Rattle.sg_base.specs.declared.ids.LinkId.{LinkId}
 use Rattle.sg_mailbox.specs.declared.sides.Post.{Post}
 use Rattle.sg_mailbox.specs.Posts.{partner_side}
 use Rattle.sg_route.specs.Route.{Route}
-use Rattle.sg_setup.specs.Setup.{Setup}
+use Rattle.sg_calls.specs.Setup.{Setup}
 use Rattle.sg_calls.specs.declared.simulation_state.Fields.{Fields}
 use Rattle.sg_calls.specs.Meetings.{comes, joins_on, point_of, posts, receiver_of, sender_of}
 use Rattle.sg_calls.specs.Roads.{IsOver}

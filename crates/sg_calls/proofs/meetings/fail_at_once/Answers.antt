@@ -6,7 +6,7 @@ use Rattle.sg_mailbox.specs.declared.owners.Whose.TheVariants.{Over}
 use Rattle.sg_calls.specs.Known.{Known, after_call}
 use Rattle.sg_calls.specs.Meetings.{both_fail}
 use Rattle.sg_calls.specs.World.{Core, extent}
-use Rattle.sg_setup.specs.Setup.{Setup}
+use Rattle.sg_calls.specs.Setup.{Setup}
 use Rattle.sg_mailbox.specs.Owners.{Owned}
 use Rattle.sg_calls.specs.kept.Sound.{known_of, IsSide}
 use Rattle.sg_calls.specs.kept.Whole.{IsWholeFor}

@@ -3,7 +3,7 @@ use Rattle.sg_calls.specs.declared.simulation_state.Fields.{Fields}
 use Rattle.sg_calls.specs.declared.stop.Stop.TheVariants.{Budget}
 use Rattle.sg_calls.specs.Known.{Known, after}
 use Rattle.sg_kernel.specs.Passes.{all_fail, enters_one}
-use Rattle.sg_setup.specs.Setup.{Setup}
+use Rattle.sg_calls.specs.Setup.{Setup}
 use Rattle.sg_calls.specs.Steps.{Step, result_of}
 use Rattle.sg_calls.specs.kept.Sound.{core_of, known_of, setup_in}
 use Rattle.sg_calls.specs.kept.Whole.{IsPassing}

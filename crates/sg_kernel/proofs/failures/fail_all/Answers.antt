@@ -6,7 +6,7 @@ use Rattle.sg_calls.specs.Answers.{finishes}
 use Rattle.sg_calls.specs.Known.{Known}
 use Rattle.sg_kernel.specs.Passes.{fails}
 use Rattle.sg_calls.specs.Steps.{result_of}
-use Rattle.sg_setup.specs.Setup.{Setup}
+use Rattle.sg_calls.specs.Setup.{Setup}
 use Rattle.sg_calls.specs.kept.Sound.{known_of, setup_in}
 use Rattle.sg_calls.specs.kept.Whole.{IsPassing}
 use Rattle.sg_kernel.specs.kept.Coming.{LeavesDue}

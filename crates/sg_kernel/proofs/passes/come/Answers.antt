@@ -2,7 +2,7 @@ use Rattle.std.proofs.Common.{◌≡◌, ◌≢◌, Some, [], sym, ap, ◌∙◌
 use Rattle.sg_calls.specs.Known.{Known, after}
 use Rattle.sg_kernel.specs.Passes.{changes, ends}
 use Rattle.sg_calls.specs.Steps.{Step, each, result_of}
-use Rattle.sg_setup.specs.Setup.{Setup}
+use Rattle.sg_calls.specs.Setup.{Setup}
 use Rattle.sg_calls.specs.kept.Sound.{core_of, known_of, setup_in}
 use Rattle.sg_kernel.specs.kept.Coming.{rows_now}
 use Rattle.sg_kernel.proofs.Counting.{counts_both}

@@ -3,7 +3,7 @@ use Rattle.sg_calls.specs.declared.simulation_state.Fields.{Fields}
 use Rattle.sg_calls.specs.Known.{Known}
 use Rattle.sg_kernel.specs.Passes.{ends}
 use Rattle.sg_calls.specs.Steps.{result_of}
-use Rattle.sg_setup.specs.Setup.{Setup}
+use Rattle.sg_calls.specs.Setup.{Setup}
 use Rattle.sg_calls.specs.kept.Sound.{known_of, setup_in}
 use Rattle.sg_calls.specs.kept.Whole.{IsPassing}
 use Rattle.sg_kernel.proofs.Counting.{counted_more, counts_all, counts_used}

@@ -4,7 +4,7 @@ ghost use Rattle.std.specs.List.{count_by};
 ghost use Rattle.sg_rows.specs.Deployment.{starts};
 ghost use Rattle.sg_rows.specs.Network.{IsNetwork};
 ghost use Rattle.sg_rows.specs.Platform.{IsLinkRow};
-ghost use Rattle.sg_setup.specs.Setup.{capacity_of, caps_in, host_cap, is_replay, link_cap, link_caps, power_of_row, replays};
+ghost use Rattle.sg_calls.specs.Setup.{capacity_of, caps_in, host_cap, is_replay, link_cap, link_caps, power_of_row, replays};
 
 use sg_base::{Memory, PointId};
 use sg_lives::{HostCap, LinkCap, Power};
@@ -30,7 +30,7 @@ fn power(row: &HostRow) -> Option<Power>
 }
 
 /// Returns what the host of each row offers and draws, in the order of the rows.
-pub fn hosts(alloc: Global, rows: &[HostRow]) -> Result<Vec<HostCap>, Memory>
+pub(crate) fn hosts(alloc: Global, rows: &[HostRow]) -> Result<Vec<HostCap>, Memory>
     ensures { IfOk result (λ hosts. hosts.items ≡ map host_cap rows.now) }
 {
     let mut hosts = Vec::new(alloc);
@@ -70,7 +70,11 @@ fn add_links(links: &mut Vec<LinkCap>, network: Network, row: &LinkRow) -> Resul
 
 /// Returns the links in declared order, whose bandwidths have the network's factor, and last the loopback, which has
 /// none.
-pub fn links(alloc: Global, network: Network, rows: &[LinkRow]) -> Result<Vec<LinkCap>, Memory>
+pub(crate) fn links(
+    alloc: Global,
+    network: Network,
+    rows: &[LinkRow],
+) -> Result<Vec<LinkCap>, Memory>
     requires network { IsNetwork network }
     requires rows { All IsLinkRow rows.now }
     ensures { IfOk result (λ links. links.items ≡ link_caps network rows.now) }
@@ -84,7 +88,7 @@ pub fn links(alloc: Global, network: Network, rows: &[LinkRow]) -> Result<Vec<Li
 }
 
 /// Returns the host of each actor.
-pub fn homes(alloc: Global, actors: &[ActorRow]) -> Result<Vec<PointId>, Memory>
+pub(crate) fn homes(alloc: Global, actors: &[ActorRow]) -> Result<Vec<PointId>, Memory>
     ensures { IfOk result (λ homes. homes.items ≡ map (λ actor. actor.host) actors.now) }
 {
     let mut homes = Vec::new(alloc);
@@ -95,7 +99,7 @@ pub fn homes(alloc: Global, actors: &[ActorRow]) -> Result<Vec<PointId>, Memory>
 }
 
 /// Returns whether each actor starts with the run.
-pub fn starts(alloc: Global, actors: &[ActorRow]) -> Result<Vec<bool>, Memory>
+pub(crate) fn starts(alloc: Global, actors: &[ActorRow]) -> Result<Vec<bool>, Memory>
     ensures { IfOk result (λ starting. starting.items ≡ map starts actors.now) }
 {
     let mut starts = Vec::new(alloc);
@@ -106,7 +110,7 @@ pub fn starts(alloc: Global, actors: &[ActorRow]) -> Result<Vec<bool>, Memory>
 }
 
 /// Returns the capacity of each semaphore.
-pub fn capacities(alloc: Global, rows: &[SemaphoreRow]) -> Result<Vec<u64>, Memory>
+pub(crate) fn capacities(alloc: Global, rows: &[SemaphoreRow]) -> Result<Vec<u64>, Memory>
     ensures { IfOk result (λ capacities. capacities.items ≡ map capacity_of rows.now) }
 {
     let mut capacities = Vec::new(alloc);
@@ -126,7 +130,7 @@ fn is_replay(function: &Function) -> bool
 }
 
 /// Returns how many actors replay.
-pub fn members(actors: &[ActorRow]) -> u32
+pub(crate) fn members(actors: &[ActorRow]) -> u32
     requires { length actors.now ≤ 65536 }
     ensures { result ≡ count_by replays actors.now }
 {
