@@ -18,9 +18,9 @@ use Rattle.sg_calls.specs.Setup.{Setup}
 use Rattle.sg_calls.specs.World.{Core, host_of, is_suspended}
 use Rattle.sg_calls.specs.Steps.{Step, goes_on, counted, unless_used, readied, blocked_by, at_once}
 use Rattle.sg_calls.specs.Answers.{side_of}
-use Rattle.sg_calls.specs.Meetings.{sends_by, receives_by, comes, waits}
+use Rattle.sg_calls.specs.Meetings.{Meeting, arrives, comer_of, meeting_of, receives_by, sends_by, unless_unrouted, waits}
 use Rattle.sg_calls.specs.Locks.{caller_first, caller_last}
-use Rattle.sg_calls.specs.Lives.{created, exits, joins_one}
+use Rattle.sg_calls.specs.Lives.{answers_create, exits, joins_one}
 use Rattle.sg_calls.specs.Kills.{kills}
 use Rattle.sg_calls.specs.Suspensions.{held_if, resumes, suspends}
 
@@ -60,31 +60,37 @@ computes setup actor flops priority core =
 abbrev pub with_sleep : ℕ → ℕ → Core → Core
 with_sleep actor ns core = blocks_on (timer_of ns) actor (call.Sleep ns) core
 
--- The answer to a call. A call that fetches the next line is refused if nobody gives the actor that line, and a Create
--- if nobody gives the named actor a context.
+-- What a call leads to once it is counted, with whom its endpoint meets. A call that fetches the next line is refused if
+-- nobody gives the actor that line, and a Create if nobody gives the named actor a context.
+abbrev pub acts : Option Meeting → Setup → ℕ → Call → Core → Step
+acts meeting setup actor call.Ask core = goes_on (readied actor answer.Refused core) []
+acts meeting setup actor (call.Compute flops priority) core = computes setup actor flops priority core
+acts meeting setup actor (call.Sleep ns) core = goes_on (with_sleep actor ns core) []
+acts meeting setup actor (call.Send mailbox bytes message rate) core =
+    arrives meeting setup (sends_by (side_of actor bytes message rate) (call.Send mailbox bytes message rate) true mailbox) core
+acts meeting setup actor (call.Recv mailbox) core = arrives meeting setup (receives_by actor (call.Recv mailbox) true mailbox) core
+acts meeting setup actor (call.ISend mailbox bytes message rate) core =
+    arrives meeting setup (sends_by (side_of actor bytes message rate) (call.ISend mailbox bytes message rate) false mailbox) core
+acts meeting setup actor (call.IRecv mailbox) core = arrives meeting setup (receives_by actor (call.IRecv mailbox) false mailbox) core
+acts meeting setup actor call.Wait core = waits actor core
+acts meeting setup actor (call.Lock mutex) core = caller_first (locked (actor_of actor) mutex core.objects) actor (call.Lock mutex) core
+acts meeting setup actor (call.Unlock mutex) core = caller_first (unlocked (actor_of actor) mutex core.objects) actor (call.Unlock mutex) core
+acts meeting setup actor (call.Acquire semaphore) core = caller_first (acquired (actor_of actor) semaphore core.objects) actor (call.Acquire semaphore) core
+acts meeting setup actor (call.Release semaphore) core = caller_first (released semaphore core.objects) actor (call.Release semaphore) core
+acts meeting setup actor call.Barrier core = caller_last (arrived (actor_of actor) core.objects) actor call.Barrier core
+acts meeting setup actor (call.Create target) core = answers_create false actor target core
+acts meeting setup actor (call.Join target) core = joins_one actor target core
+acts meeting setup actor (call.Kill target) core = kills actor target core
+acts meeting setup actor (call.Suspend target) core = suspends actor target core
+acts meeting setup actor (call.Resume target) core = resumes actor target core
+acts meeting setup actor call.Yield core = at_once actor call.Yield 0 answer.Done core
+acts meeting setup actor call.Exit core = exits actor core
+
+-- The answer to a call: the route comes first, then the count, and then what the call leads to. A missing or too long
+-- route stops the run before the count.
 abbrev pub answered_call : Roads → Setup → Core → ℕ → Call → Step
-answered_call roads setup core actor call.Ask = goes_on (readied actor answer.Refused (counted core)) []
-answered_call roads setup core actor (call.Compute flops priority) = computes setup actor flops priority (counted core)
-answered_call roads setup core actor (call.Sleep ns) = goes_on (with_sleep actor ns (counted core)) []
-answered_call roads setup core actor (call.Send mailbox bytes message rate) =
-    comes roads setup (sends_by (side_of actor bytes message rate) (call.Send mailbox bytes message rate) true mailbox) core
-answered_call roads setup core actor (call.Recv mailbox) = comes roads setup (receives_by actor (call.Recv mailbox) true mailbox) core
-answered_call roads setup core actor (call.ISend mailbox bytes message rate) =
-    comes roads setup (sends_by (side_of actor bytes message rate) (call.ISend mailbox bytes message rate) false mailbox) core
-answered_call roads setup core actor (call.IRecv mailbox) = comes roads setup (receives_by actor (call.IRecv mailbox) false mailbox) core
-answered_call roads setup core actor call.Wait = waits actor (counted core)
-answered_call roads setup core actor (call.Lock mutex) = caller_first (locked (actor_of actor) mutex core.objects) actor (call.Lock mutex) (counted core)
-answered_call roads setup core actor (call.Unlock mutex) = caller_first (unlocked (actor_of actor) mutex core.objects) actor (call.Unlock mutex) (counted core)
-answered_call roads setup core actor (call.Acquire semaphore) = caller_first (acquired (actor_of actor) semaphore core.objects) actor (call.Acquire semaphore) (counted core)
-answered_call roads setup core actor (call.Release semaphore) = caller_first (released semaphore core.objects) actor (call.Release semaphore) (counted core)
-answered_call roads setup core actor call.Barrier = caller_last (arrived (actor_of actor) core.objects) actor call.Barrier (counted core)
-answered_call roads setup core actor (call.Create target) = created false actor target core
-answered_call roads setup core actor (call.Join target) = joins_one actor target (counted core)
-answered_call roads setup core actor (call.Kill target) = kills actor target (counted core)
-answered_call roads setup core actor (call.Suspend target) = suspends actor target (counted core)
-answered_call roads setup core actor (call.Resume target) = resumes actor target (counted core)
-answered_call roads setup core actor call.Yield = at_once actor call.Yield 0 answer.Done (counted core)
-answered_call roads setup core actor call.Exit = exits actor (counted core)
+answered_call roads setup core actor what =
+    unless_unrouted (meeting_of roads setup core (comer_of actor what)) core (λ meeting. acts meeting setup actor what (counted core))
 
 -- a call is answered as one event; with the budget used up the run stops before it
 abbrev pub answered : Roads → Setup → Core → ℕ → Call → Step

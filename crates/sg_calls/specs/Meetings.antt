@@ -183,25 +183,54 @@ joins_on route setup comer serial other core =
     then fails_with comer serial other core
     else joins_with route setup comer serial other core
 
--- a missing or too long route stops the run, with all as it was
-abbrev pub joins_over : Result Route RouteFault → Setup → Comer → Post → Core → Step
-joins_over (Err why) setup comer post core =
-    stops core [] (stop_of (point_of setup (sender_of comer post.side)) (point_of setup (receiver_of comer post.side)) why)
-joins_over (Ok route) setup comer post core = joins_on route setup comer post.serial post.side (counted core)
-
 -- an endpoint without a match is posted: it waits in its mailbox
 abbrev pub posts : Comer → Core → Step
 posts comer core = takes_part comer.waits comer (length core.under.tasks + 1) (posted comer core)
 
--- an endpoint arrives: it is posted, or begins a communication with the match that it finds
-abbrev pub comes_by : Option Post → Roads → Setup → Comer → Core → Step
-comes_by None roads setup comer core = posts comer (counted core)
-comes_by (Some post) roads setup comer core =
-    joins_over (route_between roads setup (sender_of comer post.side) (receiver_of comer post.side)) setup comer post core
+-- whom an arriving endpoint matches, and the route between them
+pub record Meeting : Type 0 where
+  pub post : Post
+  pub route : Route
 
--- an endpoint matches the one with the least activity id of those that wait for it in its mailbox
+-- an endpoint arrives: it is posted, or begins a communication with the match that it finds, over the route to it
+abbrev pub arrives : Option Meeting → Setup → Comer → Core → Step
+arrives None setup comer core = posts comer core
+arrives (Some meeting) setup comer core = joins_on meeting.route setup comer meeting.post.serial meeting.post.side core
+
+-- ---- the route comes first, then the count, and then what the call leads to
+-- an arriving endpoint meets this match over the route between them; a missing or too long one stops the run
+abbrev pub meeting_over : Result Route RouteFault → Setup → Comer → Post → Result (Option Meeting) Stop
+meeting_over (Err why) setup comer post = Err (stop_of (point_of setup (sender_of comer post.side)) (point_of setup (receiver_of comer post.side)) why)
+meeting_over (Ok route) setup comer post = Ok (Some (record { post = post; route = route }))
+
+-- whom an endpoint meets, by the match that it finds: without one it needs no route
+abbrev pub meeting_by : Option Post → Roads → Setup → Comer → Result (Option Meeting) Stop
+meeting_by None roads setup comer = Ok None
+meeting_by (Some post) roads setup comer =
+    meeting_over (route_between roads setup (sender_of comer post.side) (receiver_of comer post.side)) setup comer post
+
+-- Whom the endpoint of a call meets, if it brings one. It matches the one with the least activity id of those that wait
+-- for it in its mailbox.
+abbrev pub meeting_of : Roads → Setup → Core → Option Comer → Result (Option Meeting) Stop
+meeting_of roads setup core None = Ok None
+meeting_of roads setup core (Some comer) = meeting_by (partner comer.sends (posts_at comer.mailbox core)) roads setup comer
+
+-- without the route that it needs, the run stops with all as it was
+abbrev pub unless_unrouted : Result (Option Meeting) Stop → Core → (Option Meeting → Step) → Step
+unless_unrouted (Err why) core next = stops core [] why
+unless_unrouted (Ok meeting) core next = next meeting
+
+-- what an endpoint that arrives leads to, as one event, by the route to its match
+abbrev pub joins_over : Result Route RouteFault → Setup → Comer → Post → Core → Step
+joins_over route setup comer post core = unless_unrouted (meeting_over route setup comer post) core (λ meeting. arrives meeting setup comer (counted core))
+
+-- what it leads to by its match, if it has one
+abbrev pub comes_by : Option Post → Roads → Setup → Comer → Core → Step
+comes_by found roads setup comer core = unless_unrouted (meeting_by found roads setup comer) core (λ meeting. arrives meeting setup comer (counted core))
+
+-- what it leads to by the match that it finds
 abbrev pub comes : Roads → Setup → Comer → Core → Step
-comes roads setup comer core = comes_by (partner comer.sends (posts_at comer.mailbox core)) roads setup comer core
+comes roads setup comer core = unless_unrouted (meeting_of roads setup core (Some comer)) core (λ meeting. arrives meeting setup comer (counted core))
 
 -- ---- Wait
 -- what an actor that waits for an activity is answered at once; none: it isn't over

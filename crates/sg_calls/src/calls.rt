@@ -42,8 +42,8 @@ fn comer_of(actor: ActorId, call: Call) -> Option<Comer>
     }
 }
 
-/// Answers a call, unless the budget is used up: it is counted, and then the arms are the rows of `answered_call`. A
-/// missing or too long route stops the run before the count. The route is written to `links`.
+/// Answers a call, unless the budget is used up: it is counted, and then the arms are the rows of `acts`. A missing or
+/// too long route stops the run before the count. The route is written to `links`.
 pub fn answer_call(
     fields: &mut Fields,
     actor: ActorId,
