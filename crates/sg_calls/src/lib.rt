@@ -2,7 +2,7 @@
 //! One enters by `Fields`, in which a simulation is kept, and by `answer_call`. `event` counts an event, within the
 //! budget. `go_on` answers an actor that fetched its next line, `create` one that starts another, and `answer_owners`
 //! the waiters of an activity that ended.
-//! It stands on one crate for each thing that it keeps: `sg_states`, `sg_activity`, `sg_mailbox`, `sg_mailbox`,
+//! It stands on one crate for each thing that it keeps: `sg_states`, `sg_activity`, `sg_mailbox`,
 //! `sg_requests`, `sg_sync` and `sg_profile`; and on `sg_route` for routes.
 #![tactic(auto)]
 
