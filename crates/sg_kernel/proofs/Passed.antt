@@ -112,7 +112,7 @@ sound_later fields doing span to was =
     let long : length doing.under.tasks ≡ length fields.doing.under.tasks = ap (λ (d : Doing). length d.under.tasks) to ∙ length-map fields.doing.under.tasks (option_map (passed fields.doing.under span)) in
     sound_with fields doing fields.whose fields.boxes (was.numbered ∙ sym long) (omega (arith, long, was.few)) (ap (λ (d : Doing). d.under.capacities) to) was
 
-pub passing_began : (fields : Fields) (doing : Doing) (states : ActorStates) (date : ℕ) → IsNextDate fields date → doing ≡ later_in (date - fields.doing.under.date) fields.doing → states ≡ record fields.states { passing = true } → fields.events ≢ fields.budget →
+pub passing_began : (fields : Fields) (doing : Doing) (states : ActorStates) (date : ℕ) → IsNextDate fields date → doing ≡ later_in (date - fields.doing.under.date) fields.doing → states ≡ record fields.states { passing = true; trimmed = false } → fields.events ≢ fields.budget →
     IsWhole fields → IsPassing (record fields { doing = doing; states = states })
 passing_began fields doing states date next to began go was =
     let span = date - fields.doing.under.date in
@@ -138,7 +138,7 @@ passing_began fields doing states date next to began go was =
     }
 
 -- ---- the time advance has ended
-pub whole_passed : (fields stopped : Fields) (states : ActorStates) (date : ℕ) → IsNextDate fields date → stopped.doing.under.date ≡ date → fields.events < stopped.events → states ≡ record stopped.states { passing = false } →
+pub whole_passed : (fields stopped : Fields) (states : ActorStates) (date : ℕ) → IsNextDate fields date → stopped.doing.under.date ≡ date → fields.events < stopped.events → states ≡ record stopped.states { passing = false; trimmed = false } →
     IsPassing stopped → IsWhole (record stopped { states = states })
 whole_passed fields stopped states date next at more over passing =
     let same = ap (λ (s : ActorStates). s.actors) over in

@@ -28,10 +28,10 @@ answered_idle (Blocked c w o) e = absurd (true≢false (sym e))
 answered_idle Ended e = absurd (true≢false (sym e))
 
 -- ---- an actor becomes another, with what goes with it
-pub kept_change : (states : ActorStates) (made fits now will : ℕ) (actor : ℕ) (next : Actor) (actors : List Actor) (records : List Record) (room : ℕ) (passing : Bool) → IsActor states.actors actor → actors ≡ put_actor states.actors actor next → KeepsLimits states.extent next.state → AreRecords states.extent records
+pub kept_change : (states : ActorStates) (made fits now will : ℕ) (actor : ℕ) (next : Actor) (actors : List Actor) (records : List Record) (room : ℕ) (passing trimmed : Bool) → IsActor states.actors actor → actors ≡ put_actor states.actors actor next → KeepsLimits states.extent next.state → AreRecords states.extent records
     → will ≡ fits → now + room + one_if (is_blocked next.state) ≤ made + states.room + one_if (is_blocked (state_at states.actors actor))
-    → IsKept states made fits → IsKept (record { extent = states.extent; actors = actors; records = records; room = room; passing = passing }) now will
-kept_change states made fits now will actor next actors records room passing is same limited told alike less was =
+    → IsKept states made fits → IsKept (record { extent = states.extent; actors = actors; records = records; room = room; passing = passing; trimmed = trimmed }) now will
+kept_change states made fits now will actor next actors records room passing trimmed is same limited told alike less was =
     let place : actor - 1 < length states.actors = omega (arith, is.from, is.to) in
     let counted : count_by blocks actors + one_if (is_blocked (state_at states.actors actor)) ≡ count_by blocks states.actors + one_if (is_blocked next.state) =
     ap (λ xs. count_by blocks xs + one_if (is_blocked (state_at states.actors actor))) same ∙ count_set blocks states.actors (actor - 1) next (not_suspended Ended) place in
@@ -55,9 +55,9 @@ none_blocked : (starts : List Bool) → count_by blocks (map first_actor starts)
 none_blocked [] = refl
 none_blocked (b ∷ more) = omega (arith, count-cons blocks (first_actor b) (map first_actor more), none_blocked more, ap one_if (first_free b))
 
-pub kept_first : (extent : Extent) (starts : List Bool) (actors : List Actor) (records : List Record) (passing : Bool) (made room : ℕ) → extent.actors ≡ length starts → actors ≡ map first_actor starts → records ≡ [] → made ≡ 0
-    → IsKept (record { extent = extent; actors = actors; records = records; room = 0; passing = passing }) made room
-kept_first extent starts actors records passing made room many same none zero_made = record {
+pub kept_first : (extent : Extent) (starts : List Bool) (actors : List Actor) (records : List Record) (passing trimmed : Bool) (made room : ℕ) → extent.actors ≡ length starts → actors ≡ map first_actor starts → records ≡ [] → made ≡ 0
+    → IsKept (record { extent = extent; actors = actors; records = records; room = 0; passing = passing; trimmed = trimmed }) made room
+kept_first extent starts actors records passing trimmed made room many same none zero_made = record {
   number = ap length same ∙ (length-map starts first_actor ∙ sym many);
   actors_limited = subst (All (λ (a : Actor). KeepsLimits extent a.state)) (sym same) (All-map (λ (a : Actor). KeepsLimits extent a.state) first_actor starts (λ k d within. first_limited extent (get_or starts k d)));
   records_limited = subst (AreRecords extent) (sym none) (λ k d within. absurd (omega (arith, within)));

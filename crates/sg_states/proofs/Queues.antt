@@ -5,7 +5,7 @@ use Rattle.std.specs.List.{list_any}
 use Rattle.std.specs.List.Sorted.{IsPermutation, IsNonDecreasingBy}
 use Rattle.std.proofs.lemmas.Bool.{cases_eq, cases_lt, eqb-true, eq-eqb}
 use Rattle.std.proofs.lemmas.List.{get_or_past, get_or-set_same, get_or-set_other, length-set, length-append}
-use Rattle.std.proofs.lemmas.List.Elements.{All-filter, All-push}
+use Rattle.std.proofs.lemmas.List.Elements.{All-filter, All-push, filter_passes}
 use Rattle.std.proofs.lemmas.List.Kept.{AllPairs-filter}
 use Rattle.std.proofs.lemmas.List.Sorted.{All-permutation, sum_by-IsPermutation}
 use Rattle.std.proofs.lemmas.List.Sums.{sum_by-append}
@@ -13,7 +13,7 @@ use Rattle.sg_base.specs.declared.ids.ActorId.{ActorId}
 use Rattle.sg_states.specs.declared.state.Actor.{Actor}
 use Rattle.sg_states.specs.declared.state.State.TheVariants.{Ended}
 use Rattle.sg_states.specs.Actors.{is_ready, not_suspended}
-use Rattle.sg_states.specs.Queue.{is_ready_in, IsIdOf, IsQueue}
+use Rattle.sg_states.specs.Queue.{is_ready_in, AreReady, IsIdOf, IsQueue}
 use Rattle.sg_states.specs.kept.Standing.{HasAnswered}
 use Rattle.sg_states.proofs.Counts.{count-cons, count_any, count_set, counted_less, counted_one}
 
@@ -81,6 +81,10 @@ queue_filtered actors queue old = record {
   ids = All-filter (λ (actor : ActorId). is_ready_in actors actor.0) (IsIdOf actors) queue old.ids;
   has_ready = λ actor from ready. let has = old.has_ready actor from ready in contains_filter (λ (a : ActorId). is_ready_in actors a.0) queue actor has.0 has.1 has.2 ready;
 }
+
+-- what is left of a list without those that aren't ready
+pub filter_ready : (actors : List Actor) (queue : List ActorId) → AreReady actors (filter (λ (actor : ActorId). is_ready_in actors actor.0) queue)
+filter_ready actors queue = filter_passes (λ (actor : ActorId). is_ready_in actors actor.0) queue
 
 -- ---- during a time advance
 none_ready : (actors : List Actor) (i : ℕ) → count_by is_ready actors ≡ 0 → is_ready (get_or actors i (not_suspended Ended)) ≡ false

@@ -23,7 +23,7 @@ pub standing_moved : (standing : Standing) (queue queued : List ActorId) (list l
     → new.ready + one_if (is_ready (actor_at standing.actors actor.0)) ≡ old.ready + one_if (is_ready next)
     → new.over + one_if (is_over (actor_at standing.actors actor.0)) ≡ old.over + one_if (is_over next)
     → new.queue_room ≡ old.queue_room → new.joiners_room ≡ old.joiners_room
-    → IsStanding standing queue list old → IsStanding (record { actors = actors; passing = standing.passing }) queued listed new
+    → IsStanding standing queue list old → IsStanding (record { actors = actors; passing = standing.passing; trimmed = false }) queued listed new
 standing_moved standing queue queued list listed old new actor next actors is same follows waits ready over queue_room joiners_room was =
     let place : actor.0 - 1 < length standing.actors = omega (arith, is.from, is.to) in
     let long : length actors ≡ length standing.actors = ap length same ∙ length-set standing.actors (actor.0 - 1) next in
@@ -34,6 +34,7 @@ standing_moved standing queue queued list listed old new actor next actors is sa
       ready_count = omega (arith, ready, was.ready_count, counted is_ready);
       over_count = omega (arith, over, was.over_count, counted is_over);
       queued = subst (λ xs. IsQueued standing.passing xs queued) (sym same) follows;
+      trimmed = λ is. absurd (true≢false (sym is));
       waiting = subst (λ xs. AreWaiting xs listed) (sym same) waits;
       queue_fits = omega (arith, long, queue_room, was.queue_fits);
       joiners_fit = omega (arith, long, joiners_room, was.joiners_fit);
@@ -56,7 +57,7 @@ blank_at n id = elim (cases_lt (id - 1) n) [
 counts_none : (p : Actor → Bool) (n : ℕ) → p (first_actor false) ≡ false → count_by p (none_of n) ≡ 0
 counts_none p n none = omega (arith, count_replicate p n (first_actor false), ap (λ b. n * cond b 1 0) none)
 
-pub standing_blank : (n queue_room joiners_room : ℕ) → n < 2 ^ 32 → n ≤ queue_room → n ≤ joiners_room → IsStanding (record { actors = none_of n; passing = false }) [] [] (record { ready = 0; over = n; queue_room = queue_room; joiners_room = joiners_room })
+pub standing_blank : (n queue_room joiners_room : ℕ) → n < 2 ^ 32 → n ≤ queue_room → n ≤ joiners_room → IsStanding (record { actors = none_of n; passing = false; trimmed = false }) [] [] (record { ready = 0; over = n; queue_room = queue_room; joiners_room = joiners_room })
 standing_blank n queue_room joiners_room few queue_fits joiners_fit =
     let long = length-replicate n (first_actor false) in
     record {
@@ -68,6 +69,7 @@ standing_blank n queue_room joiners_room few queue_fits joiners_fit =
         ids = λ k d within. absurd (omega (arith, within));
         has_ready = λ actor from ready. absurd (true≢false (sym ready ∙ (blank_at n actor.0).0));
       };
+      trimmed = λ is. absurd (true≢false (sym is));
       waiting = record {
         rises = λ i j d less within. absurd (omega (arith, within));
         ids = λ k d within. absurd (omega (arith, within));

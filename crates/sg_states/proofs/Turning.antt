@@ -31,7 +31,7 @@ queued_idle false actors queue actor next is was will queued = queue_kept actors
 
 -- one that has an answer gets another
 pub standing_answered : (standing : Standing) (queue : List ActorId) (list : List Joiner) (counts : Counts) (actor : ActorId) (answer : Answer) (actors : List Actor) → IsActor standing.actors actor.0 → IsTrue (is_answered (state_at standing.actors actor.0)) → standing.passing ≡ false
-    → actors ≡ put_state standing.actors actor.0 (Ready answer) → IsStanding standing queue list counts → IsStanding (record { actors = actors; passing = standing.passing }) queue list counts
+    → actors ≡ put_state standing.actors actor.0 (Ready answer) → IsStanding standing queue list counts → IsStanding (record { actors = actors; passing = standing.passing; trimmed = false }) queue list counts
 standing_answered standing queue list counts actor answer actors is answered round same was =
     let there : Actor = actor_at standing.actors actor.0 in
     let next : Actor = record { state = Ready answer; suspended = there.suspended } in

@@ -11,6 +11,10 @@ is_ready_in actors id = is_ready (actor_at actors id)
 abbrev pub IsIdOf : List Actor → ActorId → Type 0
 IsIdOf actors actor = (0 < actor.0) × (actor.0 ≤ length actors)
 
+-- each of them is to take a turn
+abbrev pub AreReady : List Actor → List ActorId → Type 0
+AreReady actors = All (λ (actor : ActorId). IsTrue (is_ready_in actors actor.0))
+
 -- Actors in rising order of their ids, among them each one that is to take a turn.
 pub record IsQueue (actors : List Actor) (queue : List ActorId) : Type 0 where
   pub rises : AllPairs (λ a b. a.0 < b.0) queue

@@ -11,13 +11,14 @@ use Rattle.sg_states.specs.Actors.{is_alive, put_state, put_suspended, state_at,
 use Rattle.sg_states.specs.Records.{record_of, IsTellable}
 
 -- what calls may name; what each actor does; the records that aren't cleared; room for so many calls; whether a time advance
--- runs
+-- runs; whether the run queue is known to list ready actors alone
 pub record ActorStates : Type 0 where
   pub extent : Extent
   pub actors : List Actor
   pub records : List Record
   pub room : ℕ
   pub passing : Bool
+  pub trimmed : Bool
 
 -- a call of the actor can be answered: it may make one, there is room for it, and no time advance is running
 pub record CanCall (states : ActorStates) (actor : ℕ) : Type 0 where
@@ -39,11 +40,11 @@ pub record IsAlive (states : ActorStates) (actor : ℕ) : Type 0 where
 
 -- the actor does that from now on
 abbrev pub with_state : ℕ → State → ActorStates → ActorStates
-with_state actor state states = record states { actors = put_state states.actors actor state }
+with_state actor state states = record states { actors = put_state states.actors actor state; trimmed = false }
 
 -- the actor is suspended from now on, or isn't any more
 abbrev pub with_suspended : ℕ → Bool → ActorStates → ActorStates
-with_suspended actor on states = record states { actors = put_suspended states.actors actor on }
+with_suspended actor on states = record states { actors = put_suspended states.actors actor on; trimmed = false }
 
 -- it does that by a call, which takes its room
 abbrev pub by_call : ℕ → State → ActorStates → ActorStates

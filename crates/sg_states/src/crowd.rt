@@ -3,7 +3,7 @@ ghost use Rattle.std.specs.Prelude.{◌≡◌, ◌-◌, ◌<◌, ◌≤◌, ◌+
 ghost use Rattle.std.specs.List.{list_all, list_any};
 ghost use Rattle.sg_states.specs.declared.state.State.TheVariants.{Blocked, Ready};
 ghost use Rattle.sg_states.specs.Actors.{actor_at, first_actor, is_answered, is_blocked, is_over, is_ready, joined_in, joiners, put_state, put_suspended, state_at, IsActor, IsJoiner};
-ghost use Rattle.sg_states.specs.Queue.{is_ready_in, IsQueue};
+ghost use Rattle.sg_states.specs.Queue.{is_ready_in, AreReady, IsQueue};
 ghost use Rattle.sg_states.specs.kept.Standing.{CanAnswer, CanPut};
 ghost use Rattle.sg_states.specs.kept.Waiting.{is_joining};
 
@@ -16,7 +16,7 @@ use std::marker::Model;
 
 /// What each actor does, who is to take a turn, and who waits for another to end.
 ///
-/// Contracts see the actors, and whether a time advance is running.
+/// Contracts see the actors, whether a time advance is running, and whether the queue was trimmed.
 #[derive(Drop)]
 pub(crate) struct Crowd {
     /// By id from 1 on.
@@ -24,6 +24,8 @@ pub(crate) struct Crowd {
     /// By rising id all actors that are ready, and those that were since the scheduling round began; during a time
     /// advance only the ready ones, in any order.
     queue: Vec<ActorId>,
+    /// Whether no actor has changed since those that aren't ready were removed from the queue.
+    trimmed: bool,
     /// Those that are blocked by a join, by whom they join, and then by id.
     joiners: Vec<Joiner>,
     passing: bool,
@@ -39,10 +41,10 @@ impl Model for Crowd {
 
     ghost Value = { Standing };
 
-    ghost view = { λ s. record { actors = s.actors.items; passing = s.passing } };
+    ghost view = { λ s. record { actors = s.actors.items; passing = s.passing; trimmed = s.trimmed } };
 
     ghost invariant = { λ s. IsStanding
-        (record { actors = s.actors.items; passing = s.passing })
+        (record { actors = s.actors.items; passing = s.passing; trimmed = s.trimmed })
         s.queue.items
         s.joiners.items
         (record {
@@ -106,6 +108,7 @@ impl Crowd {
         ensures { IfOk result (λ crowd. crowd ≡ record {
           actors = replicate n (first_actor false);
           passing = false;
+          trimmed = false;
         }) }
     {
         Ok(Crowd {
@@ -113,6 +116,7 @@ impl Crowd {
             queue: Vec::with_capacity(alloc, n)?,
             joiners: Vec::with_capacity(alloc, n)?,
             passing: false,
+            trimmed: false,
             ready: 0,
             over: n,
         })
@@ -123,6 +127,7 @@ impl Crowd {
         ensures { IfOk result (λ crowd. crowd ≡ record {
           actors = map first_actor starts.now;
           passing = false;
+          trimmed = false;
         }) }
     {
         let Ok(n) = u32::try_from(starts.len()) else {
@@ -158,8 +163,10 @@ impl Crowd {
         requires turn { self.old.passing ≡ true → is_ready_in self.old.actors actor.0 ≡ false }
         requires once { is_joining (actor_at self.old.actors actor.0) ≡ true
             → joined_in state ≡ None }
-        ensures { self.new
-            ≡ record self.old { actors = put_state self.old.actors actor.0 state } }
+        ensures { self.new ≡ record self.old {
+          actors = put_state self.old.actors actor.0 state;
+          trimmed = false;
+        } }
     {
         let old = self.actors[actor.index()];
         let next = Actor { state, ..old };
@@ -168,15 +175,19 @@ impl Crowd {
         self.ready = counted(self.ready, old.is_ready(), next.is_ready());
         self.over = counted(self.over, old.is_over(), next.is_over());
         self.actors[actor.index()] = next;
+        self.trimmed = false;
     }
 
     /// Gives an actor that has an answer this one. It is ready as before, so only its state is touched.
     pub(crate) fn put_answer(&mut self, actor: ActorId, answer: Answer)
         requires { CanAnswer self.old actor.0 }
-        ensures { self.new
-            ≡ record self.old { actors = put_state self.old.actors actor.0 (Ready answer) } }
+        ensures { self.new ≡ record self.old {
+          actors = put_state self.old.actors actor.0 (Ready answer);
+          trimmed = false;
+        } }
     {
         self.actors[actor.index()].state = State::Ready(answer);
+        self.trimmed = false;
     }
 
     /// Blocks an actor that has an answer.
@@ -184,20 +195,24 @@ impl Crowd {
         requires { CanAnswer self.old actor.0 }
         ensures { self.new ≡ record self.old {
           actors = put_state self.old.actors actor.0 (Blocked what since on);
+          trimmed = false;
         } }
     {
         joiners::enter_by(&mut self.joiners, &self.actors, actor, what);
         let suspended = self.actors[actor.index()].suspended;
         self.ready = without_one(self.ready, suspended);
         self.actors[actor.index()].state = State::Blocked(what, since, on);
+        self.trimmed = false;
     }
 
     /// Gives a blocked actor this answer.
     pub(crate) fn put_reply(&mut self, actor: ActorId, answer: Answer)
         requires actor { IsActor self.old.actors actor.0 }
         requires blocked { IsTrue (is_blocked (state_at self.old.actors actor.0)) }
-        ensures { self.new
-            ≡ record self.old { actors = put_state self.old.actors actor.0 (Ready answer) } }
+        ensures { self.new ≡ record self.old {
+          actors = put_state self.old.actors actor.0 (Ready answer);
+          trimmed = false;
+        } }
     {
         let suspended = self.actors[actor.index()].suspended;
         queue::join_unless(
@@ -210,13 +225,16 @@ impl Crowd {
         joiners::let_go(&mut self.joiners, &self.actors, actor);
         self.ready = with_one(self.ready, suspended);
         self.actors[actor.index()].state = State::Ready(answer);
+        self.trimmed = false;
     }
 
     /// Suspends or resumes an actor.
     pub(crate) fn put_suspended(&mut self, actor: ActorId, on: bool)
         requires { CanPut self.old actor.0 }
-        ensures { self.new
-            ≡ record self.old { actors = put_suspended self.old.actors actor.0 on } }
+        ensures { self.new ≡ record self.old {
+          actors = put_suspended self.old.actors actor.0 on;
+          trimmed = false;
+        } }
     {
         let old = self.actors[actor.index()];
         let after = Actor {
@@ -226,21 +244,24 @@ impl Crowd {
         queue::follow(&mut self.queue, &self.actors, self.passing, actor, after);
         self.ready = counted(self.ready, old.is_ready(), after.is_ready());
         self.actors[actor.index()] = after;
+        self.trimmed = false;
     }
 
     /// Begins a scheduling round: removes those from the queue that aren't ready.
     pub(crate) fn keep_ready(&mut self)
         requires { self.old.passing ≡ false }
-        ensures { self.new ≡ self.old }
+        ensures { self.new ≡ record self.old { trimmed = true } }
     {
         queue::keep_ready(&mut self.queue, &self.actors);
+        self.trimmed = true;
     }
 
     /// Begins a time advance, when nobody is ready.
     pub(crate) fn begin_pass(&mut self)
         requires { list_any is_ready self.old.actors ≡ false }
-        ensures { self.new ≡ record self.old { passing = true } }
+        ensures { self.new ≡ record self.old { passing = true; trimmed = false } }
     {
+        self.trimmed = false;
         self.queue.clear();
         self.passing = true;
     }
@@ -248,16 +269,19 @@ impl Crowd {
     /// Ends a time advance.
     pub(crate) fn end_pass(&mut self)
         requires { self.old.passing ≡ true }
-        ensures { self.new ≡ record self.old { passing = false } }
+        ensures { self.new ≡ record self.old { passing = false; trimmed = false } }
     {
+        self.trimmed = false;
         queue::sort(&mut self.queue);
         self.passing = false;
     }
 
-    /// Returns who is to take a turn: by rising id all actors that are ready, and perhaps some that were.
+    /// Returns who is to take a turn: by rising id all actors that are ready, and perhaps some that were, unless the
+    /// queue was trimmed.
     pub(crate) fn queue(&self) -> &[ActorId]
         requires { self.now.passing ≡ false }
-        ensures { IsQueue self.now.actors result.now }
+        ensures lists { IsQueue self.now.actors result.now }
+        ensures trimmed { IsTrue self.now.trimmed → AreReady self.now.actors result.now }
     {
         self.queue.as_slice()
     }

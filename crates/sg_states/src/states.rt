@@ -5,7 +5,7 @@ ghost use Rattle.sg_base.specs.declared.call.Answer.TheVariants as answer;
 ghost use Rattle.sg_base.specs.Limits.{IsAmount, IsAnswer};
 ghost use Rattle.sg_states.specs.declared.state.State.TheVariants.{Unstarted, Ready, Blocked, Ended};
 ghost use Rattle.sg_states.specs.Actors.{actor_at, blocked_of, first_actor, inbox_of, is_blocked, is_over, is_ready, is_unstarted, joiners, state_at, IsActor, IsJoiner};
-ghost use Rattle.sg_states.specs.Queue.{IsQueue};
+ghost use Rattle.sg_states.specs.Queue.{AreReady, IsQueue};
 ghost use Rattle.sg_states.specs.Records.{AreRecords, IsTellable};
 ghost use Rattle.sg_states.specs.States.{by_call, with_reply, with_state, with_suspended, CanCall, CanReserve, IsAlive, KeepsLimits};
 
@@ -19,9 +19,10 @@ use std::marker::Model;
 /// What each actor does, who is to take a turn, who waits for another to end, and the records of what was answered.
 ///
 /// Contracts see what calls may name, the states, the records that aren't cleared, for how many calls there is room,
-/// and whether a time advance is running. No call costs more with more actors, except for a binary search in the run
-/// queue when an actor gets ready in a scheduling round, the same among the joiners when one joins another or
-/// continues, with the shift of those after it, and for the sorting of the queue at the end of a time advance.
+/// whether a time advance is running, and whether the run queue was trimmed since an actor changed. No call costs more
+/// with more actors, except for a binary search in the run queue when an actor gets ready in a scheduling round, the
+/// same among the joiners when one joins another or continues, with the shift of those after it, and for the sorting of
+/// the queue at the end of a time advance.
 pub struct States {
     crowd: Crowd,
     /// The records that aren't cleared.
@@ -81,6 +82,7 @@ impl States {
           records = [];
           room = 0;
           passing = false;
+          trimmed = false;
         }) }
     {
         Ok(States {
@@ -99,7 +101,9 @@ impl States {
         requires { CanReserve n self.old }
         ensures room { OnOk result (self.new.room ≡ n) }
         ensures most { self.new.room ≤ n }
-        ensures kept { self.new ≡ record self.old { room = self.new.room } }
+        ensures trimmed { OnOk result (IsTrue self.new.trimmed) }
+        ensures kept { self.new
+            ≡ record self.old { room = self.new.room; trimmed = self.new.trimmed } }
     {
         let Some(most) = n.checked_add(self.crowd.len()) else {
             return Err(Memory);
@@ -113,7 +117,7 @@ impl States {
     /// Begins a scheduling round for which there is room: removes those from the run queue that aren't ready.
     pub fn keep_ready(&mut self)
         requires { self.old.passing ≡ false }
-        ensures { self.new ≡ self.old }
+        ensures { self.new ≡ record self.old { trimmed = true } }
     {
         self.crowd.keep_ready();
     }
@@ -233,7 +237,7 @@ impl States {
     /// Begins a time advance, when nobody is ready.
     pub fn begin_pass(&mut self)
         requires idle { list_any is_ready self.old.actors ≡ false }
-        ensures { self.new ≡ record self.old { passing = true } }
+        ensures { self.new ≡ record self.old { passing = true; trimmed = false } }
     {
         self.crowd.begin_pass();
     }
@@ -241,7 +245,7 @@ impl States {
     /// Ends a time advance.
     pub fn end_pass(&mut self)
         requires { self.old.passing ≡ true }
-        ensures { self.new ≡ record self.old { passing = false } }
+        ensures { self.new ≡ record self.old { passing = false; trimmed = false } }
     {
         self.crowd.end_pass();
     }
@@ -253,11 +257,12 @@ impl States {
         self.crowd.len()
     }
 
-    /// Returns who is to take a turn: by rising id all actors that are ready, and perhaps some that were since
-    /// `reserve_round`. It costs nothing.
+    /// Returns who is to take a turn: by rising id all actors that are ready, and those that were since the queue was
+    /// trimmed, by `reserve_round` or `keep_ready`. It costs nothing.
     pub fn run_queue(&self) -> &[ActorId]
         requires { self.now.passing ≡ false }
-        ensures { IsQueue self.now.actors result.now }
+        ensures lists { IsQueue self.now.actors result.now }
+        ensures trimmed { IsTrue self.now.trimmed → AreReady self.now.actors result.now }
     {
         self.crowd.queue()
     }

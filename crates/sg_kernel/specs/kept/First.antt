@@ -30,6 +30,7 @@ first_states mutexes semaphores starting = record {
   records = [];
   room = 0;
   passing = false;
+  trimmed = false;
 }
 
 -- the actors of the deployment, of which none has asked for anything

@@ -15,6 +15,7 @@ states_of number mutexes semaphores standing records room = record {
   records = records;
   room = room;
   passing = standing.passing;
+  trimmed = standing.trimmed;
 }
 
 -- There is room for a record of each call that may come, and of each actor that is blocked.

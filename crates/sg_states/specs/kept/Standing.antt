@@ -5,7 +5,7 @@ use Rattle.sg_base.specs.declared.ids.ActorId.{ActorId}
 use Rattle.sg_states.specs.declared.joiners.Joiner.{Joiner}
 use Rattle.sg_states.specs.declared.state.Actor.{Actor}
 use Rattle.sg_states.specs.Actors.{is_answered, is_over, is_ready, put_actor, state_at, IsActor}
-use Rattle.sg_states.specs.Queue.{is_ready_in, IsIdOf, IsQueue}
+use Rattle.sg_states.specs.Queue.{is_ready_in, AreReady, IsIdOf, IsQueue}
 use Rattle.sg_states.specs.kept.Waiting.{AreWaiting}
 
 -- just who is to take a turn, each once, in any order: whom a time advance has answered so far
@@ -35,10 +35,11 @@ pub record HasBecome (passing : Bool) (actors : List Actor) (actor : ActorId) (n
   pub queued : IsQueued passing (put_actor actors actor.0 next) new.items
   pub capacity : vec_capacity new ≡ vec_capacity old
 
--- what the actors do, and whether a time advance is running
+-- what the actors do, whether a time advance is running, and whether the run queue is known to list ready actors alone
 pub record Standing : Type 0 where
   pub actors : List Actor
   pub passing : Bool
+  pub trimmed : Bool
 
 -- between time advances, there is such an actor
 pub record CanPut (standing : Standing) (one : ℕ) : Type 0 where
@@ -63,6 +64,7 @@ pub record IsStanding (standing : Standing) (queue : List ActorId) (joiners : Li
   pub ready_count : counts.ready ≡ count_by is_ready standing.actors
   pub over_count : counts.over ≡ count_by is_over standing.actors
   pub queued : IsQueued standing.passing standing.actors queue
+  pub trimmed : IsTrue standing.trimmed → AreReady standing.actors queue
   pub waiting : AreWaiting standing.actors joiners
   pub queue_fits : length standing.actors ≤ counts.queue_room
   pub joiners_fit : length standing.actors ≤ counts.joiners_room

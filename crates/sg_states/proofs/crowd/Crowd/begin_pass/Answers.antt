@@ -1,4 +1,4 @@
-use Rattle.std.proofs.Common.{◌≡◌, false, sym, subst, ap, arith, ◌∙◌}
+use Rattle.std.proofs.Common.{◌≡◌, false, true≢false, sym, subst, ap, arith, ◌∙◌}
 use Rattle.std.specs.List.{list_any}
 use Rattle.sg_states.specs.Actors.{is_ready}
 use Rattle.sg_states.specs.kept.Standing.{HasAnswered, Standing}
@@ -14,6 +14,7 @@ invariant_of-self c =
       few = kept.few;
       ready_count = kept.ready_count;
       over_count = kept.over_count;
+      trimmed = λ is. absurd (true≢false (sym is));
       queued = subst (HasAnswered actors) (sym c.clear.ensures.items) (answered_none actors idle);
       waiting = kept.waiting;
       queue_fits = omega (arith, kept.queue_fits, c.clear.ensures.capacity);

@@ -1,4 +1,4 @@
-use Rattle.std.proofs.Common.{◌≡◌, true, subst, ap, arith, ◌∙◌}
+use Rattle.std.proofs.Common.{◌≡◌, true, true≢false, sym, subst, ap, arith, ◌∙◌}
 use Rattle.sg_states.specs.kept.Standing.{IsQueued, Standing}
 use Rattle.sg_states.proofs.Queues.{answered_sorted}
 use Rattle.sg_states.proofs.crowd.Crowd.end_pass.Goals as goal
@@ -13,6 +13,7 @@ invariant_of-self c =
       few = kept.few;
       ready_count = kept.ready_count;
       over_count = kept.over_count;
+      trimmed = λ is. absurd (true≢false (sym is));
       queued = answered_sorted _ _ _ answered c.sort.ensures.moves c.sort.ensures.rises;
       waiting = kept.waiting;
       queue_fits = omega (arith, kept.queue_fits, c.sort.ensures.capacity);

@@ -11,7 +11,7 @@ pub invariant_of-self : goal.invariant_of-self
 invariant_of-self c =
     let o = c.self.inside in
     let id = c.args.actor.0 in
-    let old : Standing = record { actors = o.actors.items; passing = o.passing } in
+    let old : Standing = record { actors = o.actors.items; passing = o.passing; trimmed = o.trimmed } in
     let is : IsActor old.actors id = subst (λ (s : Standing). IsActor s.actors id) (sym c.self.view_is) c.requires.actor in
     let answered = subst (λ (s : Standing). IsTrue (is_answered (state_at s.actors id))) (sym c.self.view_is) c.requires.answered in
     let round : o.passing ≡ false = ap (λ (s : Standing). s.passing) c.self.view_is ∙ c.requires.round in

@@ -11,7 +11,7 @@ use Rattle.sg_states.proofs.crowd.Crowd.put_suspended.Goals as goal
 pub invariant_of-self : goal.invariant_of-self
 invariant_of-self c =
     let o = c.self.inside in
-    let old : Standing = record { actors = o.actors.items; passing = o.passing } in
+    let old : Standing = record { actors = o.actors.items; passing = o.passing; trimmed = o.trimmed } in
     let is : IsActor old.actors c.args.actor.0 = subst (λ (s : Standing). IsActor s.actors c.args.actor.0) (sym c.self.view_is) c.requires.actor in
     let next : Actor = record { state = c.index-old.result.now.state; suspended = c.args.on } in
     let same : set o.actors.items c.index-2.result next ≡ put_actor o.actors.items c.args.actor.0 next = ap (λ i. set o.actors.items i next) c.index-2.ensures in

@@ -23,6 +23,6 @@ invariant_of-self c =
     let caller = able.caller in
     let made = record_limited old.extent c.args.actor c.args.what c.args.date c.args.bytes c.args.answer c.args.date (caller.from, omega (arith, caller.to, kept.number)) what c.requires.bytes c.requires.date in
     let next : Actor = record { state = Ready c.args.answer; suspended = (actor_at o.crowd.actors id).suspended } in
-    kept_change old _ _ _ _ id next _ _ (o.room - 1) _ (record { from = caller.from; to = caller.to }) (ap (λ (s : Standing). s.actors) c.put_answer.ensures) answer
+    kept_change old _ _ _ _ id next _ _ (o.room - 1) _ _ (record { from = caller.from; to = caller.to }) (ap (λ (s : Standing). s.actors) c.put_answer.ensures) answer
     (records_more old.extent o.records.items _ c.record_of.result _ c.push_reserved.ensures.items c.record_of.ensures made kept.records_limited)
     c.push_reserved.ensures.capacity (omega (arith, c.push_reserved.ensures.len, able.room, (answered_idle (actor_at o.crowd.actors id).state caller.ready).0)) kept

@@ -18,5 +18,5 @@ invariant_of-self c =
     let what = subst (λ (s : ActorStates). IsTellable s.extent c.args.what) (sym c.self.view_is) c.requires.what in
     let next : Actor = record { state = Blocked c.args.what c.args.date c.args.on; suspended = (actor_at o.crowd.actors id).suspended } in
     let caller = able.caller in
-    kept_change old _ _ _ _ id next _ o.records.items (o.room - 1) _ (record { from = caller.from; to = caller.to }) (ap (λ (s : Standing). s.actors) c.put_blocked.ensures) what c.self.invariant.records_limited
+    kept_change old _ _ _ _ id next _ o.records.items (o.room - 1) _ _ (record { from = caller.from; to = caller.to }) (ap (λ (s : Standing). s.actors) c.put_blocked.ensures) what c.self.invariant.records_limited
     refl (omega (arith, able.room, (answered_idle (actor_at o.crowd.actors id).state caller.ready).0)) c.self.invariant

@@ -23,6 +23,6 @@ invariant_of-self c =
     let kept = c.self.invariant in
     let made = record_limited old.extent c.args.actor c.args.blocking.what c.args.blocking.since c.args.bytes c.args.answer c.args.date (is.from, omega (arith, is.to, kept.number)) what c.requires.bytes c.requires.date in
     let next : Actor = record { state = Ready c.args.answer; suspended = (actor_at o.crowd.actors id).suspended } in
-    kept_change old _ _ _ _ id next _ _ o.room _ is (ap (λ (s : Standing). s.actors) c.put_reply.ensures) answer
+    kept_change old _ _ _ _ id next _ _ o.room _ _ is (ap (λ (s : Standing). s.actors) c.put_reply.ensures) answer
     (records_more old.extent o.records.items _ c.record_of.result _ c.push_reserved.ensures.items c.record_of.ensures made kept.records_limited)
     c.push_reserved.ensures.capacity (omega (arith, c.push_reserved.ensures.len, ap one_if blocked)) kept
