@@ -4,7 +4,7 @@ use Rattle.std.specs.List.{flat_map}
 use Rattle.std.proofs.lemmas.List.{reverse-reverse}
 use Rattle.std.proofs.lemmas.List.Elements.{filter_map-append}
 use Rattle.sg_collectives.specs.declared.step.Step.TheVariants.{Recv, Send, Compute}
-use Rattle.sg_collectives.specs.Expansion.{from_children, reduce, to_parent}
+use Rattle.sg_collectives.specs.Expansion.{reduce}
 use Rattle.sg_collectives.specs.Tree.{children, parent_rank}
 use Rattle.sg_collectives.specs.Together.{ReduceTakesEachOnce}
 use Rattle.sg_collectives.specs.Messages.{FoldsIn, receiver_in, receivers, sender_in, senders}
@@ -12,22 +12,22 @@ use Rattle.sg_collectives.proofs.Messages.{empty_behind, first_told, map-cond, n
 use Rattle.sg_collectives.proofs.Turns.{bcast_receivers, none_above, one_above, parent_below}
 
 reduce_senders : (bytes flops rank members : ℕ) → senders (reduce bytes flops rank members) ≡ children rank members
-unfolding reduce from_children
+unfolding reduce
 reduce_senders bytes flops rank members =
-    filter_map-append sender_in (from_children flops rank members) (to_parent bytes rank)
+    filter_map-append sender_in (flat_map (λ child. Recv child ∷ Compute flops ∷ []) (children rank members)) (cond (ltb 0 rank) (Send (parent_rank rank) bytes ∷ []) [])
     ∙ ap₂ (λ xs ys. xs ++ ys) (first_told sender_in (λ from. Recv from) (λ _. Compute flops) (λ n. refl) (λ n. refl) (children rank members))
     (one_silent sender_in (ltb 0 rank) (Send (parent_rank rank) bytes) refl)
     ∙ empty_behind (children rank members)
 
 reduce_receivers : (bytes flops rank members : ℕ) → receivers (reduce bytes flops rank members) ≡ cond (ltb 0 rank) (parent_rank rank ∷ []) []
-unfolding reduce from_children
+unfolding reduce
 reduce_receivers bytes flops rank members =
-    filter_map-append receiver_in (from_children flops rank members) (to_parent bytes rank)
+    filter_map-append receiver_in (flat_map (λ child. Recv child ∷ Compute flops ∷ []) (children rank members)) (cond (ltb 0 rank) (Send (parent_rank rank) bytes ∷ []) [])
     ∙ ap₂ (λ xs ys. xs ++ ys) (neither_told receiver_in (λ from. Recv from) (λ _. Compute flops) (λ n. refl) (λ n. refl) (children rank members))
     (one_told receiver_in (ltb 0 rank) (λ to. Send to bytes) (parent_rank rank) refl)
 
 folds_in : (bytes flops rank members : ℕ) → FoldsIn bytes flops (reduce bytes flops rank members)
-unfolding reduce from_children
+unfolding reduce
 folds_in bytes flops rank members =
     ap₂ (λ xs ys. xs ++ ys)
     (ap (flat_map (λ from. Recv from ∷ Compute flops ∷ [])) (sym (reduce_senders bytes flops rank members)))

@@ -1,6 +1,6 @@
 -- Amounts of a collective's steps, and that its actions keep to the limits.
-use Rattle.std.proofs.Common.{◌≡◌, ℕ, ◌+◌, ◌-◌, ◌*◌, ◌%◌, ◌<◌, ltb, List, ◌++◌, map, reverse, replicate, length, get_or, Some, sym, subst, ◌∙◌, arith}
-use Rattle.std.specs.List.{All, range_with_len, slice_get}
+use Rattle.std.proofs.Common.{◌≡◌, ℕ, ◌+◌, ◌-◌, ◌*◌, ◌%◌, ◌<◌, cond, ltb, List, ◌++◌, map, reverse, replicate, length, get_or, Some, sym, subst, ◌∙◌, arith, ◌∷◌, []}
+use Rattle.std.specs.List.{All, range_with_len, slice_get, flat_map}
 use Rattle.std.specs.Prelude.{⊤}
 use Rattle.std.proofs.lemmas.List.Elements.{All-append, All-get_or, All-map, All-replicate}
 use Rattle.std.proofs.lemmas.Option.{slice_get-get_or, slice_get_within, same_Some}
@@ -11,7 +11,7 @@ use Rattle.sg_collectives.specs.declared.collective.Collective.{Collective}
 use Rattle.sg_collectives.specs.declared.collective.Collective.TheVariants.{Bcast, Reduce, Allreduce, Alltoall}
 use Rattle.sg_collectives.specs.declared.step.Step.{Step}
 use Rattle.sg_collectives.specs.declared.step.Step.TheVariants.{Recv, Send, Compute, IRecv, ISend, Wait}
-use Rattle.sg_collectives.specs.Expansion.{alltoall, bcast, expansion, from_children, from_parent, reduce, to_children, to_parent}
+use Rattle.sg_collectives.specs.Expansion.{alltoall, bcast, expansion, reduce}
 use Rattle.sg_collectives.specs.Members.{HasAmounts}
 use Rattle.sg_collectives.specs.Tree.{children, parent_rank}
 use Rattle.sg_collectives.proofs.MemberLemmas.{step_names_member}
@@ -27,16 +27,16 @@ HasStepAmount (ISend peer bytes) = IsAmount bytes
 HasStepAmount Wait = ⊤
 
 bcast_amounts : (bytes rank members : ℕ) → IsAmount bytes → All HasStepAmount (bcast bytes rank members)
-unfolding bcast to_children
+unfolding bcast
 bcast_amounts bytes rank members are =
-    All-append HasStepAmount (from_parent rank) (to_children bytes rank members)
+    All-append HasStepAmount (cond (ltb 0 rank) (Recv (parent_rank rank) ∷ []) []) (map (λ child. Send child bytes) (reverse (children rank members)))
     (All-if HasStepAmount (ltb 0 rank) (Recv (parent_rank rank)) (λ some. tt))
     (All-map HasStepAmount (λ child. Send child bytes) (reverse (children rank members)) (λ k d less. are))
 
 reduce_amounts : (bytes flops rank members : ℕ) → IsAmount bytes → IsAmount flops → All HasStepAmount (reduce bytes flops rank members)
-unfolding reduce from_children
+unfolding reduce
 reduce_amounts bytes flops rank members are are' =
-    All-append HasStepAmount (from_children flops rank members) (to_parent bytes rank)
+    All-append HasStepAmount (flat_map (λ child. Recv child ∷ Compute flops ∷ []) (children rank members)) (cond (ltb 0 rank) (Send (parent_rank rank) bytes ∷ []) [])
     (All-pairs HasStepAmount (λ child. Recv child) (λ child. Compute flops) (children rank members)
     (λ k d less. tt) (λ k d less. are'))
     (All-if HasStepAmount (ltb 0 rank) (Send (parent_rank rank) bytes) (λ some. are))

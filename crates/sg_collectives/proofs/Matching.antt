@@ -1,6 +1,6 @@
 -- How many steps of an expansion pass a test, and that sends are received and requests awaited.
 use Rattle.std.proofs.Common.{◌≡◌, ℕ, ◌+◌, ◌-◌, ◌*◌, ◌%◌, ◌<◌, ◌≤◌, inl, inr, Bool, true, false, cond, ◌&&◌, ltb, eqb, List, [], ◌∷◌, ◌++◌, map, reverse, replicate, refl, sym, ap, ap₂, ◌∙◌, mod-eq_of_lt, arith}
-use Rattle.std.specs.List.{count_by, range_with_len}
+use Rattle.std.specs.List.{count_by, range_with_len, flat_map}
 use Rattle.std.proofs.Math.Nat.{add-mod_right}
 use Rattle.std.proofs.lemmas.Bool.{cases_lt}
 use Rattle.std.proofs.lemmas.Bool.Decides.{Decides-eqb, Decides-like, same_from_decides}
@@ -9,7 +9,7 @@ use Rattle.sg_collectives.specs.declared.collective.Collective.{Collective}
 use Rattle.sg_collectives.specs.declared.collective.Collective.TheVariants.{Bcast, Reduce, Allreduce, Alltoall}
 use Rattle.sg_collectives.specs.declared.step.Step.{Step}
 use Rattle.sg_collectives.specs.declared.step.Step.TheVariants.{Recv, Send, Compute, IRecv, ISend, Wait}
-use Rattle.sg_collectives.specs.Expansion.{alltoall, bcast, expansion, from_children, from_parent, reduce, to_children, to_parent}
+use Rattle.sg_collectives.specs.Expansion.{alltoall, bcast, expansion, reduce}
 use Rattle.sg_collectives.specs.Laws.{KindsAgree, RequestsAreAwaited, SendsAreReceived, is_irecv, is_isend, is_recv, is_send, is_wait, makes_request}
 use Rattle.sg_collectives.specs.Tree.{children, parent_rank}
 use Rattle.sg_collectives.proofs.Ranges.{count_by-append, count_by-each, count_by-map, count_by-none, count_by-pairs, count_by-replicate, count_by-reverse, count_by_agree}
@@ -26,19 +26,19 @@ off false = refl
 
 count_bcast : (p : Step → Bool) (bytes rank members : ℕ) → count_by p (bcast bytes rank members)
     ≡ cond (ltb 0 rank && p (Recv (parent_rank rank))) 1 0 + count_by (λ child. p (Send child bytes)) (children rank members)
-unfolding bcast to_children
+unfolding bcast
 count_bcast p bytes rank members =
     let send : ℕ → Step = λ child. Send child bytes in
-    count_by-append p (from_parent rank) (to_children bytes rank members)
+    count_by-append p (cond (ltb 0 rank) (Recv (parent_rank rank) ∷ []) []) (map (λ child. Send child bytes) (reverse (children rank members)))
     ∙ ap₂ (λ x y. x + y) (count_if p (ltb 0 rank) (Recv (parent_rank rank)))
     (count_by-map p send (reverse (children rank members)) ∙ count_by-reverse (λ child. p (send child)) (children rank members))
 
 count_reduce : (p : Step → Bool) (bytes flops rank members : ℕ) → count_by p (reduce bytes flops rank members)
     ≡ (count_by (λ child. p (Recv child)) (children rank members) + count_by (λ child. p (Compute flops)) (children rank members))
     + cond (ltb 0 rank && p (Send (parent_rank rank) bytes)) 1 0
-unfolding reduce from_children
+unfolding reduce
 count_reduce p bytes flops rank members =
-    count_by-append p (from_children flops rank members) (to_parent bytes rank)
+    count_by-append p (flat_map (λ child. Recv child ∷ Compute flops ∷ []) (children rank members)) (cond (ltb 0 rank) (Send (parent_rank rank) bytes ∷ []) [])
     ∙ ap₂ (λ x y. x + y) (count_by-pairs p (λ child. Recv child) (λ child. Compute flops) (children rank members))
     (count_if p (ltb 0 rank) (Send (parent_rank rank) bytes))
 

@@ -1,14 +1,14 @@
 -- The peers of a rank's steps are other members.
 use Rattle.std.proofs.Common.{◌≡◌, ℕ, ◌+◌, ◌-◌, ◌*◌, ◌%◌, ◌^◌, ◌<◌, ◌≤◌, inl, inr, Bool, true, false, cond, ltb, List, [], ◌∷◌, ◌++◌, map, reverse, replicate, refl, ltb-true, mod-lt, pow_pos, arith}
-use Rattle.std.specs.List.{All, filter, range_with_len}
+use Rattle.std.specs.List.{All, filter, range_with_len, flat_map}
 use Rattle.std.proofs.lemmas.Bool.{cases_lt}
 use Rattle.std.proofs.lemmas.List.Elements.{All-append, All-cons, All-map, All-nil, All-replicate, All-same, All-weaker, filter_passes}
 use Rattle.sg_collectives.specs.declared.collective.Collective.TheVariants.{Bcast, Reduce, Allreduce, Alltoall}
 use Rattle.sg_collectives.specs.declared.step.Step.{Step}
 use Rattle.sg_collectives.specs.declared.step.Step.TheVariants.{Recv, Send, Compute, IRecv, ISend, Wait}
-use Rattle.sg_collectives.specs.Expansion.{alltoall, bcast, from_children, from_parent, reduce, to_children, to_parent}
+use Rattle.sg_collectives.specs.Expansion.{alltoall, bcast, reduce}
 use Rattle.sg_collectives.specs.Laws.{AloneDoesNothing, IsOther, NamesOther, PeersAreOthers}
-use Rattle.sg_collectives.specs.Tree.{children, low, parent_rank, power_from}
+use Rattle.sg_collectives.specs.Tree.{children, low, parent_rank}
 use Rattle.sg_collectives.proofs.Matching.{over, under}
 use Rattle.sg_collectives.proofs.Powers.{lowest_within}
 use Rattle.sg_collectives.proofs.Ranges.{All-pairs, All-range, All-reverse}
@@ -35,20 +35,20 @@ All-if P true x holds = All-cons P x [] (holds refl) (All-nil P)
 All-if P false x holds = All-nil P
 
 bcast_others : (bytes rank members : ℕ) → rank < members → All (NamesOther rank members) (bcast bytes rank members)
-unfolding bcast to_children
+unfolding bcast
 bcast_others bytes rank members within =
     let P : Step → Type 0 = NamesOther rank members in
-    All-append P (from_parent rank) (to_children bytes rank members)
+    All-append P (cond (ltb 0 rank) (Recv (parent_rank rank) ∷ []) []) (map (λ child. Send child bytes) (reverse (children rank members)))
     (All-if P (ltb 0 rank) (Recv (parent_rank rank)) (λ some. parent_is_other rank members within (ltb-true 0 rank some)))
     (All-map P (λ child. Send child bytes) (reverse (children rank members))
     (All-reverse (IsOther rank members) (children rank members) (children_are_others rank members)))
 
 reduce_others : (bytes flops rank members : ℕ) → rank < members →
     All (NamesOther rank members) (reduce bytes flops rank members)
-unfolding reduce from_children
+unfolding reduce
 reduce_others bytes flops rank members within =
     let P : Step → Type 0 = NamesOther rank members in
-    All-append P (from_children flops rank members) (to_parent bytes rank)
+    All-append P (flat_map (λ child. Recv child ∷ Compute flops ∷ []) (children rank members)) (cond (ltb 0 rank) (Send (parent_rank rank) bytes ∷ []) [])
     (All-pairs P (λ child. Recv child) (λ child. Compute flops) (children rank members)
     (children_are_others rank members) (λ k d less. tt))
     (All-if P (ltb 0 rank) (Send (parent_rank rank) bytes) (λ some. parent_is_other rank members within (ltb-true 0 rank some)))
@@ -98,7 +98,7 @@ peers_are_others (Alltoall bytes) rank members within = alltoall_others bytes ra
 
 -- ---- one member
 pub alone_does_nothing : AloneDoesNothing
-unfolding bcast reduce alltoall to_children from_children children power_from
+unfolding bcast reduce alltoall children low
 alone_does_nothing (Bcast bytes) = refl
 alone_does_nothing (Reduce bytes flops) = refl
 alone_does_nothing (Allreduce bytes flops) = refl

@@ -1,5 +1,5 @@
 -- What stands at a place of an expansion, and how long it is.
-use Rattle.std.proofs.Common.{◌≡◌, ℕ, zero, suc, ◌+◌, ◌-◌, ◌*◌, ◌/◌, ◌%◌, ◌^◌, ◌<◌, ◌≤◌, cond, List, [], ◌∷◌, ◌++◌, map, reverse, length, get_or, replicate, Some, None, refl, sym, ap, ◌∙◌, lt-ltb, le-ltb, length-append, arith}
+use Rattle.std.proofs.Common.{◌≡◌, ℕ, zero, suc, ◌+◌, ◌-◌, ◌*◌, ◌/◌, ◌%◌, ◌^◌, ◌<◌, ◌≤◌, cond, List, [], ◌∷◌, ◌++◌, map, reverse, length, get_or, replicate, Some, None, refl, sym, ap, ◌∙◌, lt-ltb, le-ltb, length-append, arith, ltb}
 use Rattle.std.specs.List.{flat_map, range_with_len, slice_get}
 use Rattle.std.specs.Option.{option_map}
 use Rattle.std.proofs.lemmas.List.{get_or-replicate, get_or-reverse, length-map, length-replicate, length-reverse}
@@ -7,7 +7,7 @@ use Rattle.std.proofs.lemmas.List.FromFn.{get_or-map-range_with_len, length-map-
 use Rattle.std.proofs.lemmas.Option.{slice_get-get_or, slice_get-map, slice_get_past}
 use Rattle.sg_collectives.specs.declared.step.Step.{Step}
 use Rattle.sg_collectives.specs.declared.step.Step.TheVariants.{Recv, Send, Compute, IRecv, ISend, Wait}
-use Rattle.sg_collectives.specs.Expansion.{alltoall, bcast, from_children, from_parent, reduce, to_children, to_parent}
+use Rattle.sg_collectives.specs.Expansion.{alltoall, bcast, reduce}
 use Rattle.sg_collectives.specs.Tree.{children, doubling_from, parent_rank}
 
 -- ---- joined lists
@@ -58,12 +58,11 @@ get-doubling rank count k less =
     ∙ ap Some (at_doubling rank count k less)
 
 to_children_is : (bytes rank members count : ℕ) → children rank members ≡ doubling_from rank count →
-    to_children bytes rank members ≡ map (λ child. Send child bytes) (reverse (doubling_from rank count))
-unfolding to_children
+    map (λ child. Send child bytes) (reverse (children rank members)) ≡ map (λ child. Send child bytes) (reverse (doubling_from rank count))
 to_children_is bytes rank members count e = ap (λ xs. map (λ child. Send child bytes) (reverse xs)) e
 
 length-to_children : (bytes rank members count : ℕ) → children rank members ≡ doubling_from rank count →
-    length (to_children bytes rank members) ≡ count
+    length (map (λ child. Send child bytes) (reverse (children rank members))) ≡ count
 length-to_children bytes rank members count e =
     ap length (to_children_is bytes rank members count e)
     ∙ length-map (reverse (doubling_from rank count)) (λ child. Send child bytes)
@@ -71,7 +70,7 @@ length-to_children bytes rank members count e =
 
 pub to_child_at : (bytes rank members count place : ℕ) → children rank members ≡ doubling_from rank count →
     place < count →
-    Some (Send (rank + 2 ^ (count - 1 - place)) bytes) ≡ slice_get (to_children bytes rank members) place
+    Some (Send (rank + 2 ^ (count - 1 - place)) bytes) ≡ slice_get (map (λ child. Send child bytes) (reverse (children rank members))) place
 to_child_at bytes rank members count place e less =
     let xs : List ℕ = doubling_from rank count in
     let long : length xs ≡ count = length-doubling rank count in
@@ -84,36 +83,36 @@ to_child_at bytes rank members count place e less =
     (slice_get-get_or (reverse xs) place 0 (omega (arith, length-reverse xs)) ∙ ap Some from_end))
 
 pub to_child_past : (bytes rank members count place : ℕ) → children rank members ≡ doubling_from rank count →
-    count ≤ place → None ≡ slice_get (to_children bytes rank members) place
+    count ≤ place → None ≡ slice_get (map (λ child. Send child bytes) (reverse (children rank members))) place
 to_child_past bytes rank members count place e past =
-    sym (slice_get_past (to_children bytes rank members) place (omega (arith, length-to_children bytes rank members count e)))
+    sym (slice_get_past (map (λ child. Send child bytes) (reverse (children rank members))) place (omega (arith, length-to_children bytes rank members count e)))
 
 -- ---- bcast
-from_parent_root : (rank : ℕ) → rank ≡ 0 → from_parent rank ≡ []
+from_parent_root : (rank : ℕ) → rank ≡ 0 → cond (ltb 0 rank) (Recv (parent_rank rank) ∷ []) [] ≡ []
 from_parent_root rank root = ap (λ b. cond b (Recv (parent_rank rank) ∷ []) []) (le-ltb 0 rank (omega arith))
 
-from_parent_other : (rank : ℕ) → 0 < rank → from_parent rank ≡ Recv (parent_rank rank) ∷ []
+from_parent_other : (rank : ℕ) → 0 < rank → cond (ltb 0 rank) (Recv (parent_rank rank) ∷ []) [] ≡ Recv (parent_rank rank) ∷ []
 from_parent_other rank some = ap (λ b. cond b (Recv (parent_rank rank) ∷ []) []) (lt-ltb 0 rank some)
 
-pub bcast_root : (bytes rank members : ℕ) → rank ≡ 0 → to_children bytes rank members ≡ bcast bytes rank members
+pub bcast_root : (bytes rank members : ℕ) → rank ≡ 0 → map (λ child. Send child bytes) (reverse (children rank members)) ≡ bcast bytes rank members
 unfolding bcast
 bcast_root bytes rank members root =
-    sym (ap (λ xs. xs ++ to_children bytes rank members) (from_parent_root rank root))
+    sym (ap (λ xs. xs ++ map (λ child. Send child bytes) (reverse (children rank members))) (from_parent_root rank root))
 
 bcast_other : (bytes rank members : ℕ) → 0 < rank →
-    bcast bytes rank members ≡ Recv (parent_rank rank) ∷ to_children bytes rank members
+    bcast bytes rank members ≡ Recv (parent_rank rank) ∷ map (λ child. Send child bytes) (reverse (children rank members))
 unfolding bcast
 bcast_other bytes rank members some =
-    ap (λ xs. xs ++ to_children bytes rank members) (from_parent_other rank some)
+    ap (λ xs. xs ++ map (λ child. Send child bytes) (reverse (children rank members))) (from_parent_other rank some)
 
 pub bcast_first : (bytes rank members : ℕ) → 0 < rank → Some (Recv (parent_rank rank)) ≡ slice_get (bcast bytes rank members) 0
 bcast_first bytes rank members some = sym (ap (λ xs. slice_get xs 0) (bcast_other bytes rank members some))
 
 pub bcast_behind : (bytes rank members place : ℕ) → 0 < rank → 0 < place →
-    slice_get (to_children bytes rank members) (place - 1) ≡ slice_get (bcast bytes rank members) place
+    slice_get (map (λ child. Send child bytes) (reverse (children rank members))) (place - 1) ≡ slice_get (bcast bytes rank members) place
 bcast_behind bytes rank members place some behind =
     sym (ap (λ xs. slice_get xs place) (bcast_other bytes rank members some)
-    ∙ at_behind (Recv (parent_rank rank) ∷ []) (to_children bytes rank members) place (place - 1) (omega arith))
+    ∙ at_behind (Recv (parent_rank rank) ∷ []) (map (λ child. Send child bytes) (reverse (children rank members))) place (place - 1) (omega arith))
 
 pub length_bcast_root : (bytes rank members count : ℕ) → children rank members ≡ doubling_from rank count →
     rank ≡ 0 → count ≡ length (bcast bytes rank members)
@@ -126,31 +125,30 @@ length_bcast_other bytes rank members count e some =
     omega (arith, ap length (bcast_other bytes rank members some), length-to_children bytes rank members count e)
 
 -- ---- reduce
-to_parent_root : (bytes rank : ℕ) → rank ≡ 0 → to_parent bytes rank ≡ []
+to_parent_root : (bytes rank : ℕ) → rank ≡ 0 → cond (ltb 0 rank) (Send (parent_rank rank) bytes ∷ []) [] ≡ []
 to_parent_root bytes rank root = ap (λ b. cond b (Send (parent_rank rank) bytes ∷ []) []) (le-ltb 0 rank (omega arith))
 
-to_parent_other : (bytes rank : ℕ) → 0 < rank → to_parent bytes rank ≡ Send (parent_rank rank) bytes ∷ []
+to_parent_other : (bytes rank : ℕ) → 0 < rank → cond (ltb 0 rank) (Send (parent_rank rank) bytes ∷ []) [] ≡ Send (parent_rank rank) bytes ∷ []
 to_parent_other bytes rank some = ap (λ b. cond b (Send (parent_rank rank) bytes ∷ []) []) (lt-ltb 0 rank some)
 
-pub to_parent_first : (bytes rank : ℕ) → 0 < rank → Some (Send (parent_rank rank) bytes) ≡ slice_get (to_parent bytes rank) 0
+pub to_parent_first : (bytes rank : ℕ) → 0 < rank → Some (Send (parent_rank rank) bytes) ≡ slice_get (cond (ltb 0 rank) (Send (parent_rank rank) bytes ∷ []) []) 0
 to_parent_first bytes rank some = sym (ap (λ xs. slice_get xs 0) (to_parent_other bytes rank some))
 
-pub to_parent_behind : (bytes rank place : ℕ) → 0 < place → None ≡ slice_get (to_parent bytes rank) place
+pub to_parent_behind : (bytes rank place : ℕ) → 0 < place → None ≡ slice_get (cond (ltb 0 rank) (Send (parent_rank rank) bytes ∷ []) []) place
 to_parent_behind bytes zero place behind = sym (ap (λ xs. slice_get xs place) (to_parent_root bytes zero refl))
 to_parent_behind bytes (suc r) place behind =
     sym (ap (λ xs. slice_get xs place) (to_parent_other bytes (suc r) (omega arith))
     ∙ slice_get_past (Send (parent_rank (suc r)) bytes ∷ []) place (omega arith))
 
-pub to_parent_none : (bytes rank place : ℕ) → rank ≡ 0 → None ≡ slice_get (to_parent bytes rank) place
+pub to_parent_none : (bytes rank place : ℕ) → rank ≡ 0 → None ≡ slice_get (cond (ltb 0 rank) (Send (parent_rank rank) bytes ∷ []) []) place
 to_parent_none bytes rank place root = sym (ap (λ xs. slice_get xs place) (to_parent_root bytes rank root))
 
 from_children_is : (flops rank members count : ℕ) → children rank members ≡ doubling_from rank count →
-    from_children flops rank members ≡ flat_map (λ child. Recv child ∷ Compute flops ∷ []) (doubling_from rank count)
-unfolding from_children
+    flat_map (λ child. Recv child ∷ Compute flops ∷ []) (children rank members) ≡ flat_map (λ child. Recv child ∷ Compute flops ∷ []) (doubling_from rank count)
 from_children_is flops rank members count e = ap (flat_map (λ child. Recv child ∷ Compute flops ∷ [])) e
 
 length-from_children : (flops rank members count : ℕ) → children rank members ≡ doubling_from rank count →
-    length (from_children flops rank members) ≡ 2 * count
+    length (flat_map (λ child. Recv child ∷ Compute flops ∷ []) (children rank members)) ≡ 2 * count
 length-from_children flops rank members count e =
     ap length (from_children_is flops rank members count e)
     ∙ length-pairs (λ child. Recv child) (λ child. Compute flops) (doubling_from rank count)
@@ -161,7 +159,7 @@ reduce_at : (bytes flops rank members count place : ℕ) → children rank membe
     ≡ slice_get (flat_map (λ child. Recv child ∷ Compute flops ∷ []) (doubling_from rank count)) place
 unfolding reduce
 reduce_at bytes flops rank members count place e less =
-    at_first (from_children flops rank members) (to_parent bytes rank) place
+    at_first (flat_map (λ child. Recv child ∷ Compute flops ∷ []) (children rank members)) (cond (ltb 0 rank) (Send (parent_rank rank) bytes ∷ []) []) place
     (omega (arith, length-from_children flops rank members count e))
     ∙ ap (λ xs. slice_get xs place) (from_children_is flops rank members count e)
 
@@ -182,18 +180,18 @@ reduce_compute bytes flops rank members count place e less odd =
 
 pub reduce_behind : (bytes flops rank members count place : ℕ) → children rank members ≡ doubling_from rank count →
     2 * count ≤ place →
-    slice_get (to_parent bytes rank) (place - 2 * count) ≡ slice_get (reduce bytes flops rank members) place
+    slice_get (cond (ltb 0 rank) (Send (parent_rank rank) bytes ∷ []) []) (place - 2 * count) ≡ slice_get (reduce bytes flops rank members) place
 unfolding reduce
 reduce_behind bytes flops rank members count place e behind =
-    sym (at_behind (from_children flops rank members) (to_parent bytes rank) place (place - 2 * count)
+    sym (at_behind (flat_map (λ child. Recv child ∷ Compute flops ∷ []) (children rank members)) (cond (ltb 0 rank) (Send (parent_rank rank) bytes ∷ []) []) place (place - 2 * count)
     (omega (arith, length-from_children flops rank members count e)))
 
 length-reduce : (bytes flops rank members count : ℕ) → children rank members ≡ doubling_from rank count →
-    length (reduce bytes flops rank members) ≡ 2 * count + length (to_parent bytes rank)
+    length (reduce bytes flops rank members) ≡ 2 * count + length (cond (ltb 0 rank) (Send (parent_rank rank) bytes ∷ []) [])
 unfolding reduce
 length-reduce bytes flops rank members count e =
-    length-append (from_children flops rank members) (to_parent bytes rank)
-    ∙ ap (λ n. n + length (to_parent bytes rank)) (length-from_children flops rank members count e)
+    length-append (flat_map (λ child. Recv child ∷ Compute flops ∷ []) (children rank members)) (cond (ltb 0 rank) (Send (parent_rank rank) bytes ∷ []) [])
+    ∙ ap (λ n. n + length (cond (ltb 0 rank) (Send (parent_rank rank) bytes ∷ []) [])) (length-from_children flops rank members count e)
 
 pub length_reduce_root : (bytes flops rank members count : ℕ) → children rank members ≡ doubling_from rank count →
     rank ≡ 0 → 2 * count ≡ length (reduce bytes flops rank members)

@@ -5,7 +5,7 @@ use Rattle.std.proofs.Math.Nat.{pow-suc, mul-div_cancel_left, eq_of_mul-eq-mul_l
 use Rattle.std.proofs.lemmas.Bool.{cases_lt, cases_eq, cases_Bool}
 use Rattle.std.proofs.lemmas.List.FromFn.{get_or-map-range_with_len, length-map-range_with_len}
 use Rattle.std.proofs.lemmas.List.Recursion.{found_at}
-use Rattle.sg_collectives.specs.Tree.{first_passing, lowest_bit, power_from, powers}
+use Rattle.sg_collectives.specs.Tree.{low, lowest_bit, powers}
 
 -- ---- powers
 pub below_power : (k : ℕ) → k < 2 ^ k
@@ -82,7 +82,7 @@ even_from_odd number i k p odd less = record {
 -- ---- the lowest set bit
 first_is : (test : ℕ → Bool) (numbers : List ℕ) (i : ℕ) → i < length numbers →
     ((k : ℕ) → k < i → test (get_or numbers k 0) ≡ false) → test (get_or numbers i 0) ≡ true →
-    first_passing test numbers ≡ get_or numbers i 0
+    unwrap_or (find test numbers) 0 ≡ get_or numbers i 0
 first_is test numbers i within before at =
     ap (λ o. unwrap_or o 0) (found_at (find test) test Some None refl (λ _ _. refl) numbers i 0 within before at)
 
@@ -129,9 +129,9 @@ lowest_within number some =
     let is : lowest_bit number ≡ 2 ^ part.0 = lowest_is number part.0 part.1 in
     (omega (arith, is, pow_pos part.0), omega (arith, is, power_within number part.0 part.1))
 
--- ---- the least power from a number on
+-- ---- of rank 0
 first_passes : (test : ℕ → Bool) (numbers : List ℕ) (i : ℕ) → i < length numbers →
-    test (get_or numbers i 0) ≡ true → test (first_passing test numbers) ≡ true
+    test (get_or numbers i 0) ≡ true → test (unwrap_or (find test numbers) 0) ≡ true
 first_passes test [] i within passes = absurd (omega arith)
 first_passes test (x ∷ numbers) zero within passes =
     subst (λ y. test y ≡ true) (sym (ap (λ b. unwrap_or (cond b (Some x) (find test numbers)) 0) passes)) passes
@@ -142,11 +142,11 @@ first_passes test (x ∷ numbers) (suc i) within passes = elim (cases_Bool (test
       (first_passes test numbers i (omega arith) passes)
 ]
 
-pub power_from_above : (number : ℕ) → number ≤ power_from number
-unfolding power_from
-power_from_above number =
-    let test : ℕ → Bool = λ m. leb number m in
-    leb-true number (first_passing test (powers (number + 1))) (first_passes test (powers (number + 1)) number
-    (omega (arith, length-powers (number + 1)))
-    (subst (λ m. test m ≡ true) (sym (power_at (number + 1) number (omega arith)))
-    (le-leb number (2 ^ number) (omega (arith, below_power number)))))
+pub low_of_root : (members : ℕ) → members ≤ low 0 members
+unfolding low
+low_of_root members =
+    let test : ℕ → Bool = λ m. leb members m in
+    leb-true members (unwrap_or (find test (powers (members + 1))) 0) (first_passes test (powers (members + 1)) members
+    (omega (arith, length-powers (members + 1)))
+    (subst (λ m. test m ≡ true) (sym (power_at (members + 1) members (omega arith)))
+    (le-leb members (2 ^ members) (omega (arith, below_power members)))))

@@ -8,14 +8,15 @@ use Rattle.std.proofs.lemmas.List.{length-map}
 use Rattle.std.proofs.lemmas.List.Sums.{length-filter}
 use Rattle.std.proofs.lemmas.Nat.{pow_below}
 use Rattle.std.proofs.lemmas.Nat.Bits.{bit_at-trailing_zeros}
-use Rattle.sg_collectives.specs.Tree.{children, doubling_from, low, lowest_bit, parent_rank, power_from}
-use Rattle.sg_collectives.proofs.Powers.{IsEvenTimes, IsOddTimes, below_power, even_below_odd, even_from_odd, exponent_less, lowest_by_bits, lowest_is, odd_part, power_from_above, power_within}
+use Rattle.sg_collectives.specs.Tree.{children, doubling_from, low, lowest_bit, parent_rank}
+use Rattle.sg_collectives.proofs.Powers.{IsEvenTimes, IsOddTimes, below_power, even_below_odd, even_from_odd, exponent_less, low_of_root, lowest_by_bits, lowest_is, odd_part, power_within}
 use Rattle.sg_collectives.proofs.Ranges.{filter_map_filter, filter_through, front_kept, none_kept, one_kept}
 
 -- ---- the lowest set bit of a rank
 pub low_above_root : (rank members : ℕ) → 0 < rank → low rank members ≡ lowest_bit rank
+unfolding low
 low_above_root rank members some =
-    ap (λ b. cond b (power_from members) (lowest_bit rank)) (ne_eqb rank 0 (λ e. omega (arith, e)))
+    ap (λ b. cond b (low 0 members) (lowest_bit rank)) (ne_eqb rank 0 (λ e. omega (arith, e)))
 
 pub lowest_by_zeros : (rank : ℕ) → 0 < rank → rank < 2 ^ 32 → lowest_bit rank ≡ 2 ^ trailing_zeros w32 rank
 lowest_by_zeros rank some fits =
@@ -32,7 +33,7 @@ lowest_by_zeros rank some fits =
 pub even_is_below : (rank members k : ℕ) → rank + 2 ^ k < members → IsEvenTimes rank k → 2 ^ k < low rank members
 even_is_below rank members k within even = elim (cases_eq rank 0) [
   | inl root ↦
-      subst (λ r. 2 ^ k < low r members) (sym root) (omega (arith, power_from_above members))
+      subst (λ r. 2 ^ k < low r members) (sym root) (omega (arith, low_of_root members))
   | inr other ↦
       let some : 0 < rank = omega arith in
       let part : (i : ℕ) × IsOddTimes rank i = odd_part rank rank (omega arith) some in

@@ -9,7 +9,7 @@ use Rattle.std.proofs.lemmas.List.FromFn.{get_or-map-range_with_len, length-map-
 use Rattle.std.proofs.lemmas.Option.{slice_get-get_or}
 use Rattle.sg_collectives.specs.declared.collective.Collective.TheVariants.{Bcast}
 use Rattle.sg_collectives.specs.declared.step.Step.TheVariants.{Recv, Send}
-use Rattle.sg_collectives.specs.Expansion.{bcast, from_parent, to_children}
+use Rattle.sg_collectives.specs.Expansion.{bcast}
 use Rattle.sg_collectives.specs.Tree.{children, doubling_from, parent_rank}
 use Rattle.sg_collectives.proofs.Powers.{IsOddTimes, below_power, even_below_odd, exponent_less, lowest_within, odd_part, power_within}
 use Rattle.sg_collectives.proofs.TreeLemmas.{IsCounted, children_counted, counted_more, counted_none}
@@ -19,22 +19,22 @@ use Rattle.sg_collectives.proofs.Messages.{all_told, empty_behind, map-cond, non
 
 -- ---- who sends to whom
 pub bcast_senders : (bytes rank members : ℕ) → senders (bcast bytes rank members) ≡ cond (ltb 0 rank) (parent_rank rank ∷ []) []
-unfolding bcast to_children
+unfolding bcast
 bcast_senders bytes rank members =
-    filter_map-append sender_in (from_parent rank) (to_children bytes rank members)
+    filter_map-append sender_in (cond (ltb 0 rank) (Recv (parent_rank rank) ∷ []) []) (map (λ child. Send child bytes) (reverse (children rank members)))
     ∙ ap₂ (λ xs ys. xs ++ ys) (one_told sender_in (ltb 0 rank) (λ from. Recv from) (parent_rank rank) refl)
     (none_told sender_in (λ to. Send to bytes) (λ n. refl) (reverse (children rank members)))
     ∙ empty_behind (cond (ltb 0 rank) (parent_rank rank ∷ []) [])
 
 pub bcast_receivers : (bytes rank members : ℕ) → receivers (bcast bytes rank members) ≡ reverse (children rank members)
-unfolding bcast to_children
+unfolding bcast
 bcast_receivers bytes rank members =
-    filter_map-append receiver_in (from_parent rank) (to_children bytes rank members)
+    filter_map-append receiver_in (cond (ltb 0 rank) (Recv (parent_rank rank) ∷ []) []) (map (λ child. Send child bytes) (reverse (children rank members)))
     ∙ ap₂ (λ xs ys. xs ++ ys) (one_silent receiver_in (ltb 0 rank) (Recv (parent_rank rank)) refl)
     (all_told receiver_in (λ to. Send to bytes) (λ n. refl) (reverse (children rank members)))
 
 hands_on : (bytes rank members : ℕ) → HandsOn bytes (bcast bytes rank members)
-unfolding bcast to_children
+unfolding bcast
 hands_on bytes rank members =
     ap₂ (λ xs ys. xs ++ ys)
     (map-cond (λ from. Recv from) (ltb 0 rank) (parent_rank rank) ∙ ap (map (λ from. Recv from)) (sym (bcast_senders bytes rank members)))

@@ -7,31 +7,19 @@ use Rattle.sg_collectives.specs.declared.step.Step.{Step}
 use Rattle.sg_collectives.specs.declared.step.Step.TheVariants.{Recv, Send, Compute, IRecv, ISend, Wait}
 use Rattle.sg_collectives.specs.Tree.{children, parent_rank}
 
--- from its parent, and to it; rank 0 has none
-abbrev pub from_parent : ℕ → List Step
-from_parent rank = if nat_lt 0 rank then Recv (parent_rank rank) ∷ [] else []
-
--- the bytes that a rank sends to its parent; rank 0 has none
-abbrev pub to_parent : ℕ → ℕ → List Step
-to_parent bytes rank = if nat_lt 0 rank then Send (parent_rank rank) bytes ∷ [] else []
-
--- to its children, the farthest first
-unfoldable pub to_children : ℕ → ℕ → ℕ → List Step
-to_children bytes rank members =
-    map (λ child. Send child bytes) (reverse (children rank members))
-
--- from its children, the nearest first; it computes after each
-unfoldable pub from_children : ℕ → ℕ → ℕ → List Step
-from_children flops rank members =
-    flat_map (λ child. Recv child ∷ Compute flops ∷ []) (children rank members)
-
--- a broadcast down the tree: a rank receives from its parent, then sends to its children
+-- a broadcast down the tree: a rank receives from its parent, and then sends to its children, the farthest first; rank 0
+-- has no parent
 unfoldable pub bcast : ℕ → ℕ → ℕ → List Step
-bcast bytes rank members = from_parent rank ++ to_children bytes rank members
+bcast bytes rank members =
+    (if nat_lt 0 rank then Recv (parent_rank rank) ∷ [] else [])
+    ++ map (λ child. Send child bytes) (reverse (children rank members))
 
--- a reduction up the tree: a rank receives from its children and computes, then sends to its parent
+-- a reduction up the tree: a rank receives from its children, the nearest first, and computes after each; then it sends
+-- to its parent
 unfoldable pub reduce : ℕ → ℕ → ℕ → ℕ → List Step
-reduce bytes flops rank members = from_children flops rank members ++ to_parent bytes rank
+reduce bytes flops rank members =
+    flat_map (λ child. Recv child ∷ Compute flops ∷ []) (children rank members)
+    ++ (if nat_lt 0 rank then Send (parent_rank rank) bytes ∷ [] else [])
 
 -- from each other rank, the one before it first, and to each, the one after it first; then it
 -- waits for all

@@ -1,31 +1,19 @@
 -- The tree of the ranks, with rank 0 at its root.
-use Rattle.std.specs.Prelude.{ℕ, Bool, ◌+◌, ◌-◌, ◌/◌, ◌%◌, ◌^◌, ◌==◌, List, map, if◌then◌else◌, nat_lt, nat_le, unwrap_or}
+use Rattle.std.specs.Prelude.{ℕ, ◌+◌, ◌-◌, ◌/◌, ◌%◌, ◌^◌, ◌==◌, List, map, if◌then◌else◌, nat_lt, nat_le, unwrap_or}
 use Rattle.std.specs.List.{filter, find, range_with_len}
 
 -- so many powers of two: 1, 2, 4, ..
 abbrev pub powers : ℕ → List ℕ
 powers count = map (λ k. 2 ^ k) (range_with_len 0 count)
 
--- the powers of two below a bound, rising
-abbrev pub powers_below : ℕ → List ℕ
-powers_below bound = filter (λ m. nat_lt m bound) (powers bound)
-
--- the first number of a list that passes
-abbrev pub first_passing : (ℕ → Bool) → List ℕ → ℕ
-first_passing test numbers = unwrap_or (find test numbers) 0
-
 -- the lowest set bit of a number above 0
 unfoldable pub lowest_bit : ℕ → ℕ
-lowest_bit number = first_passing (λ m. number / m % 2 == 1) (powers number)
-
--- the least power of two that is at least this number
-unfoldable pub power_from : ℕ → ℕ
-power_from number = first_passing (λ m. nat_le number m) (powers (number + 1))
+lowest_bit number = unwrap_or (find (λ m. number / m % 2 == 1) (powers number)) 0
 
 -- the lowest set bit of a rank; of rank 0 the least power of two that is at least the number of
 -- members
-abbrev pub low : ℕ → ℕ → ℕ
-low rank members = if rank == 0 then power_from members else lowest_bit rank
+unfoldable pub low : ℕ → ℕ → ℕ
+low rank members = if rank == 0 then unwrap_or (find (λ m. nat_le members m) (powers (members + 1))) 0 else lowest_bit rank
 
 -- whom a rank above 0 stands below
 abbrev pub parent_rank : ℕ → ℕ
@@ -34,7 +22,8 @@ parent_rank rank = rank - lowest_bit rank
 -- who stands right below a rank, rising: one member for each power of two below its lowest set bit
 unfoldable pub children : ℕ → ℕ → List ℕ
 children rank members =
-    filter (λ child. nat_lt child members) (map (λ m. rank + m) (powers_below (low rank members)))
+    filter (λ child. nat_lt child members)
+    (map (λ m. rank + m) (filter (λ m. nat_lt m (low rank members)) (powers (low rank members))))
 
 -- so many ranks: 1, 2, 4, .. above this one
 unfoldable pub doubling_from : ℕ → ℕ → List ℕ

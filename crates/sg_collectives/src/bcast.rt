@@ -1,6 +1,8 @@
 //! From rank 0 to all.
-ghost use Rattle.std.specs.Prelude.{◌≡◌, ℕ, ◌^◌, ◌<◌, ◌≤◌, length, slice_get};
-ghost use Rattle.sg_collectives.specs.Expansion.{bcast, to_children};
+ghost use Rattle.std.specs.Prelude.{◌≡◌, ℕ, ◌^◌, ◌<◌, ◌≤◌, length, map, reverse, slice_get};
+ghost use Rattle.sg_collectives.specs.Expansion.{bcast};
+ghost use Rattle.sg_collectives.specs.Tree.{children};
+ghost use Rattle.sg_collectives.specs.declared.step.Step.TheVariants.{Send};
 
 use crate::step::Step;
 use crate::tree::{Rank, child_count, parent};
@@ -8,7 +10,8 @@ use crate::tree::{Rank, child_count, parent};
 // Returns what a rank sends to its children, the farthest first.
 #[tactic(auto, using(crate::proofs::Places::to_child_at, crate::proofs::Places::to_child_past))]
 fn to_child(bytes: u64, rank: Rank, place: u64) -> Option<Step>
-    ensures { result ≡ slice_get (to_children bytes rank.number rank.members) place }
+    ensures { result
+        ≡ slice_get (map (λ child. Send child bytes) (reverse (children rank.number rank.members))) place }
 {
     let count = u64::from(child_count(rank));
     if place >= count {

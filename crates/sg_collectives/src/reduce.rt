@@ -1,6 +1,8 @@
 //! From all to rank 0.
-ghost use Rattle.std.specs.Prelude.{◌≡◌, ℕ, ◌^◌, ◌<◌, length, slice_get};
-ghost use Rattle.sg_collectives.specs.Expansion.{reduce, to_parent};
+ghost use Rattle.std.specs.Prelude.{◌≡◌, ℕ, ◌^◌, ◌<◌, [], ◌∷◌, if◌then◌else◌, length, nat_lt, slice_get};
+ghost use Rattle.sg_collectives.specs.Expansion.{reduce};
+ghost use Rattle.sg_collectives.specs.Tree.{parent_rank};
+ghost use Rattle.sg_collectives.specs.declared.step.Step.TheVariants.{Send};
 
 use crate::step::Step;
 use crate::tree::{Rank, child_count, parent};
@@ -8,7 +10,7 @@ use crate::tree::{Rank, child_count, parent};
 // Returns what a rank sends to its parent.
 #[tactic(auto, using(crate::proofs::Places::to_parent_first, crate::proofs::Places::to_parent_behind, crate::proofs::Places::to_parent_none))]
 fn to_parent(bytes: u64, rank: u32, place: u64) -> Option<Step>
-    ensures { result ≡ slice_get (to_parent bytes rank) place }
+    ensures { result ≡ slice_get (if nat_lt 0 rank then Send (parent_rank rank) bytes ∷ [] else []) place }
 {
     if rank > 0 && place == 0 {
         Some(Step::Send(parent(rank), bytes))
