@@ -14,14 +14,11 @@ host_name platform host = option_map_or (λ row. row.id) (slice_get platform.hos
 abbrev pub actor_name : Deployed → ActorId → List ℕ
 actor_name deployed actor = option_map_or (λ row. row.name) (slice_get deployed.actors (actor.0 - 1)) []
 
--- the name of the host on which an actor is deployed
-abbrev pub actor_host : Platform → Deployed → ActorId → List ℕ
-actor_host platform deployed actor = option_map_or (λ row. host_name platform row.host) (slice_get deployed.actors (actor.0 - 1)) []
-
--- HOST:ACTOR:(ID)
+-- HOST:ACTOR:(ID), with the host on which the actor is deployed
 abbrev pub actor_label : Platform → Deployed → ActorId → List ℕ
 actor_label platform deployed actor =
-    actor_host platform deployed actor ++ codes ":" ++ actor_name deployed actor ++ codes ":(" ++ decimal actor.0 ++ codes ")"
+    option_map_or (λ row. host_name platform row.host) (slice_get deployed.actors (actor.0 - 1)) [] ++ codes ":"
+    ++ actor_name deployed actor ++ codes ":(" ++ decimal actor.0 ++ codes ")"
 
 -- the name of a mutex, by its number from 0 on
 abbrev pub mutex_id : Deployed → ℕ → List ℕ

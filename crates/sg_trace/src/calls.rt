@@ -1,9 +1,10 @@
 //! The texts of calls.
-ghost use Rattle.std.specs.Prelude.{◌≡◌, ◌≤◌, ◌++◌, codes, decimal, length};
+ghost use Rattle.std.specs.Prelude.{◌≡◌, ◌≤◌, ◌++◌, [], codes, decimal, false, length, true};
+ghost use Rattle.std.specs.Option.{option_map_or};
 ghost use Rattle.sg_base.specs.Limits.{IsBoxIn, IsCall};
 ghost use Rattle.sg_base.specs.Lines.{HasLine};
 ghost use Rattle.sg_rows.specs.Deployment.{extent_of};
-ghost use Rattle.sg_trace.specs.Call.{brought_text, call_text, receiver_name, sender_name};
+ghost use Rattle.sg_trace.specs.Call.{call_text, peer_name};
 ghost use Rattle.sg_trace.specs.kept.Room.{HasRoom, GrowsBy};
 
 use crate::names::{Name, actor_name, mutex_name, push_name, semaphore_name};
@@ -15,7 +16,7 @@ use sg_rows::Deployment;
 // Returns the name of whom a sender names.
 fn receiver_name(deployment: &Deployment, mailbox: BoxId) -> Name<'_>
     requires { IsBoxIn (extent_of deployment.now) mailbox }
-    ensures { result.text.now ≡ receiver_name deployment.now mailbox }
+    ensures { result.text.now ≡ peer_name true deployment.now mailbox }
 {
     let receiver = match mailbox {
         BoxId::Pair(_, to) => to,
@@ -27,7 +28,7 @@ fn receiver_name(deployment: &Deployment, mailbox: BoxId) -> Name<'_>
 // Returns the name of whom a receiver names.
 fn sender_name(deployment: &Deployment, mailbox: BoxId) -> Name<'_>
     requires { IsBoxIn (extent_of deployment.now) mailbox }
-    ensures { result.text.now ≡ sender_name deployment.now mailbox }
+    ensures { result.text.now ≡ peer_name false deployment.now mailbox }
 {
     let sender = match mailbox {
         BoxId::Pair(from, _) => from,
@@ -61,7 +62,8 @@ fn push_sent<const N: usize>(lines: &mut ArrayString<N>, word: &str, receiver: N
 /// Adds the bytes that a receive brought, if it has completed.
 fn push_brought<const N: usize>(lines: &mut ArrayString<N>, brought: Option<u64>)
     requires room { HasRoom N lines.old 33 }
-    ensures bytes { lines.new.bytes ≡ lines.old.bytes ++ brought_text brought }
+    ensures bytes { lines.new.bytes
+        ≡ lines.old.bytes ++ option_map_or (λ bytes. codes " " ++ decimal bytes) brought [] }
     ensures len { GrowsBy lines.old lines.new 21 }
 {
     match brought {

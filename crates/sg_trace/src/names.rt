@@ -1,8 +1,9 @@
 //! The names in a line.
-ghost use Rattle.std.specs.Prelude.{◌≡◌, ◌<◌, ◌≤◌, ◌++◌, length};
+ghost use Rattle.std.specs.Prelude.{◌≡◌, ◌-◌, ◌<◌, ◌≤◌, ◌++◌, [], length, slice_get};
+ghost use Rattle.std.specs.Option.{option_map_or};
 ghost use Rattle.sg_base.specs.Limits.{IsActorIn, IsMutexIn, IsSemaphoreIn};
 ghost use Rattle.sg_rows.specs.Deployment.{IsDeployedOn, extent_of};
-ghost use Rattle.sg_trace.specs.Names.{actor_host, actor_label, actor_name, host_name, mutex_id, semaphore_id};
+ghost use Rattle.sg_trace.specs.Names.{actor_label, actor_name, host_name, mutex_id, semaphore_id};
 ghost use Rattle.sg_trace.specs.kept.Room.{HasRoom, GrowsBy};
 
 use crate::pieces::push_number;
@@ -37,7 +38,8 @@ pub fn host_name(platform: &PlatformText, host: PointId) -> Name<'_>
 fn actor_host<'a>(platform: &'a PlatformText, deployment: &Deployment, actor: ActorId) -> Name<'a>
     requires actor { IsActorIn (extent_of deployment.now) actor }
     requires deployed { IsDeployedOn platform.now deployment.now }
-    ensures { result.text.now ≡ actor_host platform.now deployment.now actor }
+    ensures { result.text.now ≡ option_map_or (λ row. host_name platform.now row.host)
+        (slice_get deployment.now.actors (actor.0 - 1)) [] }
 {
     host_name(platform, deployment.actors()[actor.index()].host)
 }

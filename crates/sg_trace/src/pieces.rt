@@ -1,8 +1,8 @@
 //! The pieces of a line, appended to a text. The limits on names, dates and numbers keep a line within 512 bytes.
-ghost use Rattle.std.specs.Prelude.{◌≡◌, ◌<◌, ◌^◌, ◌++◌, decimal, replicate};
+ghost use Rattle.std.specs.Prelude.{◌≡◌, ◌-◌, ◌<◌, ◌^◌, ◌++◌, decimal, length, replicate};
 ghost use Rattle.sg_base.specs.Limits.{IsEnd};
 ghost use Rattle.sg_units.specs.Date.{date_of};
-ghost use Rattle.sg_trace.specs.Energy.{energy_of, twelve_digits};
+ghost use Rattle.sg_trace.specs.Energy.{energy_of};
 ghost use Rattle.sg_trace.specs.Line.{IsDate, end_text};
 ghost use Rattle.sg_trace.specs.kept.Room.{HasRoom, GrowsBy};
 
@@ -42,7 +42,8 @@ fn push_zeros<const N: usize>(lines: &mut ArrayString<N>, count: usize)
 fn push_twelve_digits<const N: usize>(lines: &mut ArrayString<N>, number: u64)
     requires small { number < 10 ^ 12 }
     requires room { HasRoom N lines.old 12 }
-    ensures bytes { lines.new.bytes ≡ lines.old.bytes ++ twelve_digits number }
+    ensures bytes { lines.new.bytes
+        ≡ lines.old.bytes ++ (replicate (12 - length (decimal number)) 48 ++ decimal number) }
     ensures len { GrowsBy lines.old lines.new 12 }
 {
     let mut buffer = Buffer::new();
