@@ -1,24 +1,27 @@
 -- The generator, draw by draw.
-use Rattle.std.proofs.Common.{◌≡◌, ℕ, ◌+◌, ◌*◌, ◌%◌, codes, None, ap, ◌∙◌, refl, arith, add-one}
+use Rattle.std.proofs.Common.{◌≡◌, ℕ, zero, suc, ◌+◌, ◌*◌, ◌%◌, codes, None, ap, ◌∙◌, refl, arith, add-one}
+use Rattle.std.specs.Fn.{iterate}
 use Rattle.sg_base.specs.Draw.{drawn, next_state}
-use Rattle.sg_churn.specs.Generated.{drawn_after, churn_host, link_of, link_with, churn_name, state_after}
+use Rattle.sg_churn.specs.Generated.{drawn_after, churn_host, link_of, link_with, churn_name}
 use Rattle.sg_rows.specs.declared.rows.HostRow.{HostRow}
 use Rattle.sg_rows.specs.declared.rows.LinkRow.{LinkRow}
 
-pub begins : (seed : ℕ) → seed ≡ state_after seed 0
-unfolding state_after
-begins seed = refl
+-- the state after one draw more is that after as many from the next state
+drawn_first : (draws seed : ℕ) → next_state (iterate next_state draws seed) ≡ iterate next_state draws (next_state seed)
+drawn_first zero seed = refl
+drawn_first (suc draws) seed = drawn_first draws (next_state seed)
 
-more_draws : (seed draws : ℕ) → next_state (state_after seed draws) ≡ state_after seed (draws + 1)
-unfolding state_after
-more_draws seed draws = rw (add-one draws)
+more_draws : (seed draws : ℕ) → next_state (iterate next_state draws seed) ≡ iterate next_state (draws + 1) seed
+more_draws seed draws = rw (add-one draws) (drawn_first draws seed)
 
 -- the state after one draw more
-pub next_drawn : (seed draws more state next : ℕ) → more ≡ draws + 1 → state ≡ state_after seed draws → next ≡ next_state state → next ≡ state_after seed more
-next_drawn seed draws more state next one here drawn = drawn ∙ ap next_state here ∙ more_draws seed draws ∙ ap (λ n. state_after seed n) (omega arith)
+pub next_drawn : (seed draws more state next : ℕ) → more ≡ draws + 1 → state ≡ iterate next_state draws seed → next ≡ next_state state → next ≡ iterate next_state more seed
+next_drawn seed draws more state next one here made =
+    let same : draws + 1 ≡ more = omega arith in
+    made ∙ ap next_state here ∙ more_draws seed draws ∙ ap (λ (n : ℕ). iterate next_state n seed) same
 
 -- what is drawn in this state
-pub drawn_here : (seed draws most state n : ℕ) → state ≡ state_after seed draws → n ≡ 1 + drawn state % most → n ≡ drawn_after seed draws most
+pub drawn_here : (seed draws most state n : ℕ) → state ≡ iterate next_state draws seed → n ≡ 1 + drawn state % most → n ≡ drawn_after seed draws most
 unfolding drawn_after
 drawn_here seed draws most state n here drawn_now = drawn_now ∙ ap (λ s. 1 + drawn s % most) here
 

@@ -1,32 +1,42 @@
 -- The rows of a churn break no rule.
-use Rattle.std.proofs.Common.{◌≡◌, ◌≢◌, ℕ, ◌+◌, ◌*◌, ◌%◌, ◌<◌, ◌≤◌, List, [], ◌∷◌, ◌++◌, length, get_or, map, codes, IsTrue, refl, sym, subst, ap, arith, length-append}
+use Rattle.std.proofs.Common.{◌≡◌, ◌≢◌, ℕ, ◌+◌, ◌*◌, ◌%◌, ◌<◌, ◌≤◌, List, [], ◌∷◌, ◌++◌, length, get_or, map, codes, None, IsTrue, refl, sym, subst, ap, arith, length-append}
 use Rattle.std.proofs.lemmas.Fmt.{length-decimal-le}
 use Rattle.std.proofs.lemmas.List.Elements.{All-cons, All-nil}
 use Rattle.std.proofs.lemmas.List.FromFn.{length-range_with_len}
 use Rattle.std.proofs.lemmas.Nat.{mod_below}
 use Rattle.std.proofs.lemmas.Simd.{map-map}
+use Rattle.std.specs.Fn.{iterate}
 use Rattle.std.specs.List.{All, flat_map, range_with_len}
-use Rattle.sg_base.specs.Draw.{drawn}
+use Rattle.sg_base.specs.Draw.{drawn, next_state}
+use Rattle.sg_base.specs.declared.ids.LinkId.{LinkId}
 use Rattle.sg_base.specs.declared.ids.PointId.{PointId}
 use Rattle.sg_churn.proofs.GoodNames.{row_names_behind}
 use Rattle.sg_churn.proofs.NumberedRows.{all_rows, distinct_rows, length-rows}
-use Rattle.sg_churn.specs.Generated.{backbone, drawn_after, churn_host, link, link_of, churn_name, rows, spoke_of, star, state_after}
+use Rattle.sg_churn.specs.Generated.{drawn_after, churn_host, link_of, link_with, churn_name, rows, spoke_of}
 use Rattle.sg_rows.proofs.Networks.{plain_kept}
 use Rattle.sg_rows.specs.Ends.{ends_from, link_ends}
 use Rattle.sg_rows.specs.OfRows.{AreDistinct, AreNames, AreRows, IsOfRow, names_of_link, platform_with, point_names}
 use Rattle.sg_rows.specs.Platform.{Counts, IsHostRow, IsLinkList, IsLinkRow, IsPlatform, IsSpokeRow, IsZoneRow, counts_of}
 use Rattle.sg_rows.specs.declared.rows.HostRow.{HostRow}
 use Rattle.sg_rows.specs.declared.rows.LinkRow.{LinkRow}
+use Rattle.sg_rows.specs.declared.rows.Routing.TheVariants.{Star}
 use Rattle.sg_rows.specs.declared.rows.SpokeRow.{SpokeRow}
 use Rattle.sg_rows.specs.declared.rows.ZoneRow.{ZoneRow}
 use Rattle.sg_tree.specs.Spelling.{is_name}
+
+-- the zone, and the first link
+abbrev pub star : ZoneRow
+star = record { id = codes "z"; parent = None; routing = Star }
+
+abbrev pub backbone : LinkRow
+backbone = link_with (codes "bb") 1000000000 1000
 
 one_to : (n most : ℕ) → 0 < most → (1 ≤ 1 + n % most) × (1 + n % most ≤ most)
 one_to n most some = (omega arith, omega (arith, mod_below n most some))
 
 drawn_bounds : (seed draws most : ℕ) → 0 < most → (1 ≤ drawn_after seed draws most) × (drawn_after seed draws most ≤ most)
 unfolding drawn_after
-drawn_bounds seed draws most some = one_to (drawn (state_after seed draws)) most some
+drawn_bounds seed draws most some = one_to (drawn (iterate next_state draws seed)) most some
 
 pub name_short : (c row : ℕ) → row < 4096 → length (churn_name (c ∷ []) row) ≤ 64
 name_short c row few = omega (arith, length-decimal-le 5 (row + 1) (omega arith) (omega arith) (omega arith))
@@ -55,11 +65,11 @@ link_good seed row few =
       latency = omega (arith, latency.1);
     }
 
-two_links : (counts : Counts) (a b : ℕ) → a < counts.links → b < counts.links → IsLinkList counts (link a ∷ (link b ∷ []))
+two_links : (counts : Counts) (a b : LinkId) → a.0 < counts.links → b.0 < counts.links → IsLinkList counts (a ∷ (b ∷ []))
 two_links counts a b first second = record {
   some = omega arith;
   few = omega arith;
-  each = All-cons (λ l. l.0 < counts.links) (link a) (link b ∷ []) first (All-cons (λ l. l.0 < counts.links) (link b) [] second (All-nil (λ l. l.0 < counts.links)));
+  each = All-cons (λ l. l.0 < counts.links) a (b ∷ []) first (All-cons (λ l. l.0 < counts.links) b [] second (All-nil (λ l. l.0 < counts.links)));
 }
 
 spoke_good : (counts : Counts) (row : ℕ) → 0 < counts.zones → row < counts.points → row + 1 < counts.links → IsSpokeRow counts (spoke_of row)
@@ -67,8 +77,8 @@ spoke_good counts row some point own = record {
   zone = some;
   child = point;
   gateway = point;
-  up = two_links counts (row + 1) 0 own (omega arith);
-  down = two_links counts 0 (row + 1) (omega arith) own;
+  up = two_links counts (record { 0 = row + 1 }) (record { 0 = 0 }) own (omega arith);
+  down = two_links counts (record { 0 = 0 }) (record { 0 = row + 1 }) (omega arith) own;
 }
 
 -- each row of a link stands for one link
@@ -147,8 +157,10 @@ children_differ actors =
 
 four_links : (links : List LinkRow) (k : ℕ) → k + 1 + 1 < length (link_ends links) → 0 + 1 < length (link_ends links) → All (IsOfRow links) ((spoke_of k).up ++ (spoke_of k).down)
 four_links links k own shared =
-    All-cons (IsOfRow links) (link (k + 1)) (link 0 ∷ (link 0 ∷ (link (k + 1) ∷ []))) own (All-cons (IsOfRow links) (link 0) (link 0 ∷ (link (k + 1) ∷ [])) shared
-    (All-cons (IsOfRow links) (link 0) (link (k + 1) ∷ []) shared (All-cons (IsOfRow links) (link (k + 1)) [] own (All-nil (IsOfRow links)))))
+    let mine : LinkId = record { 0 = k + 1 } in
+    let bone : LinkId = record { 0 = 0 } in
+    All-cons (IsOfRow links) mine (bone ∷ (bone ∷ (mine ∷ []))) own (All-cons (IsOfRow links) bone (bone ∷ (mine ∷ [])) shared
+    (All-cons (IsOfRow links) bone (mine ∷ []) shared (All-cons (IsOfRow links) mine [] own (All-nil (IsOfRow links)))))
 
 ways_of_rows : (seed actors : ℕ) → All (λ spoke. All (IsOfRow (backbone ∷ rows (link_of seed) actors)) (spoke.up ++ spoke.down)) (rows spoke_of actors)
 ways_of_rows seed actors =

@@ -4,7 +4,8 @@ use Rattle.std.proofs.lemmas.Bool.Decides.{nat_tests}
 use Rattle.std.specs.List.{range_with_len}
 use Rattle.std.specs.Option.{option_or}
 use Rattle.sg_base.specs.declared.ids.ZoneId.{ZoneId}
-use Rattle.sg_churn.specs.Generated.{churn_host, platform_of_seed, spoke_of, star}
+use Rattle.sg_churn.proofs.GoodRows.{star}
+use Rattle.sg_churn.specs.Generated.{churn_host, platform_of_seed, spoke_of}
 use Rattle.sg_rows.specs.Platform.{Platform}
 use Rattle.sg_zones.proofs.FaultLemmas.{zones_good}
 use Rattle.sg_zones.specs.Faults.{first_along, spoke_gateway_fault, place, row_fault, spoke_fault, fault_if, tree_fault, zone_fault, zones_of}

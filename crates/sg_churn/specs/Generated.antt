@@ -1,9 +1,9 @@
 -- The platform and the deployment of a churn: a load that is made from a seed, a number of actors and a number of steps.
-use Rattle.std.specs.Prelude.{ℕ, zero, suc, ◌+◌, ◌-◌, ◌*◌, ◌%◌, ◌^◌, true, List, [], ◌∷◌, ◌++◌, None, map, codes, decimal}
+use Rattle.std.specs.Prelude.{ℕ, ◌+◌, ◌-◌, ◌*◌, ◌%◌, ◌^◌, true, List, [], ◌∷◌, ◌++◌, None, map, codes, decimal}
+use Rattle.std.specs.Fn.{iterate}
 use Rattle.std.specs.List.{range_with_len}
 use Rattle.sg_base.specs.Draw.{drawn, next_state}
 use Rattle.sg_base.specs.declared.ids.Child.TheVariants.{Point}
-use Rattle.sg_base.specs.declared.ids.LinkId.{LinkId}
 use Rattle.sg_rows.specs.Deployment.{Deployed}
 use Rattle.sg_rows.specs.OfRows.{deployed_with, platform_with}
 use Rattle.sg_rows.specs.Platform.{Platform}
@@ -14,16 +14,10 @@ use Rattle.sg_rows.specs.declared.rows.LinkRow.{LinkRow}
 use Rattle.sg_rows.specs.declared.rows.Policy.TheVariants.{Shared}
 use Rattle.sg_rows.specs.declared.rows.Routing.TheVariants.{Star}
 use Rattle.sg_rows.specs.declared.rows.SpokeRow.{SpokeRow}
-use Rattle.sg_rows.specs.declared.rows.ZoneRow.{ZoneRow}
-
--- the state of the generator after so many draws
-unfoldable pub state_after : ℕ → ℕ → ℕ
-state_after seed zero = seed
-state_after seed (suc draws) = next_state (state_after seed draws)
 
 -- a number from 1 to `most`, by the draw after so many others
 unfoldable pub drawn_after : ℕ → ℕ → ℕ → ℕ
-drawn_after seed draws most = 1 + drawn (state_after seed draws) % most
+drawn_after seed draws most = 1 + drawn (iterate next_state draws seed) % most
 
 -- the rows from 0 on, so many of them
 abbrev pub rows : {A : Type 0} → (ℕ → A) → ℕ → List A
@@ -35,30 +29,18 @@ churn_name letter row = letter ++ decimal (row + 1)
 
 -- ---- the platform: one Star zone, and for each actor a host, whose link leads to the backbone
 
--- the one zone of the platform, with Star routing and no parent
-abbrev pub star : ZoneRow
-star = record { id = codes "z"; parent = None; routing = Star }
-
 -- a SHARED link of this name, bandwidth and latency
 abbrev pub link_with : List ℕ → ℕ → ℕ → LinkRow
 link_with id bandwidth latency = record { id = id; bandwidth = bandwidth; latency = latency; policy = Shared }
 
--- the link that all routes share: the first
-abbrev pub backbone : LinkRow
-backbone = link_with (codes "bb") 1000000000 1000
-
--- the identifier of the link with this number, where the backbone has number 0
-abbrev pub link : ℕ → LinkId
-link number = record { 0 = number }
-
--- the spoke of a host: up over its own link and the backbone, down over the same links reversed
+-- the spoke of a host: up over its own link and the backbone, link 0, and down over the same links reversed
 abbrev pub spoke_of : ℕ → SpokeRow
 spoke_of row = record {
   zone = record { 0 = 0 };
   child = Point (record { 0 = row });
   gateway = record { 0 = row };
-  up = link (row + 1) ∷ (link 0 ∷ []);
-  down = link 0 ∷ (link (row + 1) ∷ []);
+  up = record { 0 = row + 1 } ∷ (record { 0 = 0 } ∷ []);
+  down = record { 0 = 0 } ∷ (record { 0 = row + 1 } ∷ []);
 }
 
 -- each actor takes three draws: for the speed of its host, and for the bandwidth and the latency of its link
@@ -75,10 +57,11 @@ churn_host seed row = record {
 abbrev pub link_of : ℕ → ℕ → LinkRow
 link_of seed row = link_with (churn_name (codes "l") row) (drawn_after seed (3 * row + 1) 8 * 1000000) (drawn_after seed (3 * row + 2) 100 * 1000)
 
--- the generated platform: one zone, and for each actor a host, its link and its spoke
+-- the generated platform: one Star zone without a parent, the link `bb` that all routes share, and for each actor a host,
+-- its link and its spoke
 unfoldable pub platform_of_seed : ℕ → ℕ → Platform
-platform_of_seed seed actors =
-    platform_with (star ∷ []) (rows (churn_host seed) actors) (backbone ∷ rows (link_of seed) actors) (rows spoke_of actors)
+platform_of_seed seed actors = platform_with (record { id = codes "z"; parent = None; routing = Star } ∷ [])
+    (rows (churn_host seed) actors) (link_with (codes "bb") 1000000000 1000 ∷ rows (link_of seed) actors) (rows spoke_of actors)
 
 -- ---- the actors: a ring, one on each host
 

@@ -1,6 +1,6 @@
 //! The platform of a churn.
 ghost use Rattle.std.specs.Prelude.{◌≡◌, ◌<◌, ◌≤◌, ◌^◌, ◌∷◌, [], None, codes, IfOk};
-ghost use Rattle.sg_churn.specs.Generated.{backbone, churn_host, link_of, link_with, churn_name, platform_of_seed, rows, spoke_of, star};
+ghost use Rattle.sg_churn.specs.Generated.{churn_host, link_of, link_with, churn_name, platform_of_seed, rows, spoke_of};
 
 use crate::names::row_name;
 use sg_actor::draw;
@@ -15,7 +15,8 @@ const ZONE: ZoneId = ZoneId(0);
 const BACKBONE: LinkId = LinkId(0);
 
 fn star(alloc: Global) -> Result<ZoneRow, Memory>
-    ensures { IfOk result (λ zone. zone ≡ star) }
+    ensures { IfOk result (λ zone.
+        zone ≡ record { id = codes "z"; parent = None; routing = Routing.Star }) }
 {
     Ok(ZoneRow {
         id: Text::new(alloc, "z")?,
@@ -25,7 +26,7 @@ fn star(alloc: Global) -> Result<ZoneRow, Memory>
 }
 
 fn backbone(alloc: Global) -> Result<LinkRow, Memory>
-    ensures { IfOk result (λ row. row ≡ backbone) }
+    ensures { IfOk result (λ row. row ≡ link_with (codes "bb") 1000000000 1000) }
 {
     Ok(LinkRow {
         id: Text::new(alloc, "bb")?,
@@ -100,7 +101,8 @@ struct Rows {
 fn rows_of(alloc: Global, seed: u64, actors: u32) -> Result<Rows, Memory>
     requires { actors ≤ 4096 }
     ensures hosts { IfOk result (λ made. made.hosts.items ≡ rows (churn_host seed) actors) }
-    ensures links { IfOk result (λ made. made.links.items ≡ backbone ∷ rows (link_of seed) actors) }
+    ensures links { IfOk result (λ made. made.links.items
+        ≡ link_with (codes "bb") 1000000000 1000 ∷ rows (link_of seed) actors) }
     ensures spokes { IfOk result (λ made. made.spokes.items ≡ rows spoke_of actors) }
 {
     let mut state = seed;

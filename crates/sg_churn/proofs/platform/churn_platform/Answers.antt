@@ -1,6 +1,5 @@
 use Rattle.std.proofs.Common.{◌≡◌, [], ◌∷◌}
-use Rattle.sg_churn.proofs.GoodRows.{platform_good}
-use Rattle.sg_churn.specs.Generated.{star}
+use Rattle.sg_churn.proofs.GoodRows.{platform_good, star}
 use Rattle.sg_churn.proofs.platform.churn_platform.Goals as goal
 
 pub of_rows-requires : goal.of_rows-requires

@@ -1,12 +1,13 @@
-use Rattle.std.proofs.Common.{◌+◌, ◌*◌, arith}
-use Rattle.sg_churn.proofs.Draws.{begins, drawn_here, host_drawn, link_drawn, next_drawn}
+use Rattle.std.proofs.Common.{◌+◌, ◌*◌, arith, refl}
+use Rattle.sg_churn.proofs.Draws.{drawn_here, host_drawn, link_drawn, next_drawn}
+use Rattle.sg_churn.proofs.GoodRows.{backbone}
 use Rattle.sg_churn.proofs.NumberedRows.{pushed, pushed_behind}
-use Rattle.sg_churn.specs.Generated.{backbone, churn_host, link_of, spoke_of}
+use Rattle.sg_churn.specs.Generated.{churn_host, link_of, spoke_of}
 use Rattle.sg_churn.proofs.platform.rows_of.Goals as goal
 
 pub loop-row-init : goal.loop-row-init
 loop-row-init c = record {
-  state = begins c.args.seed;
+  state = refl;
   hosts = c.new-hosts.ensures.items;
   links = rw (c.in_ok-push.ensures.items, c.new-links.ensures.items, c.in_ok-backbone.ensures);
   spokes = c.new-spokes.ensures.items;
