@@ -6,7 +6,7 @@ use Rattle.clap.specs.Takes.{value_passes}
 use Rattle.clap.specs.Walk.{answers_to, nothing_held, rows_after, walk, walk_from}
 use Rattle.clap.specs.Simple.{argument_words, built_leaf, entered, filled, help_shape, inherited, label_of, names_of, with_index}
 use Rattle.clap.specs.Faults.{entered_fault, level_fault}
-use Rattle.sg_words.specs.CommandLine.{Asked, Request, actors_rule, asked_at, budget_rule, churn, churn_app, churn_at, is_quiet, name_rule, number_at, parts_at, program_app, replay, replay_app, request_at, run, run_app, seed_rule, steps_rule, workers_rule, with_value}
+use Rattle.sg_words.specs.CommandLine.{Asked, Request, actors_rule, argument_rule, asked_at, budget_rule, churn, churn_app, is_quiet, number_at, parts_at, program_app, replay, replay_app, request_at, run, run_app, seed_rule, steps_rule, workers_rule, with_value}
 use Rattle.sg_words.proofs.Accepted.{Owns, nil_both}
 use Rattle.sg_words.proofs.Ends.{owns_of, text_of}
 use Rattle.sg_words.proofs.Level.{Taken, default_first, entered_level, find_four, level_taken, required_first}
@@ -70,7 +70,7 @@ parts_some make rows p d =
     value_some (option_map make (first_of (codes "platform") rows)) (first_of (codes "deployment") rows) (map_some make (first_of (codes "platform") rows) p) d
 
 abbrev name_at : ℕ → Text → Rule
-name_at i id = with_index i (filled (name_rule id))
+name_at i id = with_index i (filled (argument_rule id None))
 
 replay_some : (words : List Text) → Taken replay_shape [] words false [] → is_some (asked_at (codes "replay", rows_after replay_shape.rules [] words)) ≡ true
 replay_some words t =
@@ -106,9 +106,10 @@ churn_some words t =
     let w = default_first churn_shape [] words false [] (codes "nthreads") t refl in
     let b = default_first churn_shape [] words false [] (codes "budget") t refl in
     let make : ℕ → ℕ → ℕ → Request = λ seed actors steps. churn seed actors steps in
-    let request : is_some (churn_at rows) ≡ true =
-    value_some (with_value (option_map make (number_at seed_rule rows)) (number_at actors_rule rows)) (number_at steps_rule rows)
-    (value_some (option_map make (number_at seed_rule rows)) (number_at actors_rule rows)
+    let first = option_map make (number_at seed_rule rows) in
+    let second = with_value first (number_at actors_rule rows) in
+    let request : is_some (with_value second (number_at steps_rule rows)) ≡ true =
+    value_some second (number_at steps_rule rows) (value_some first (number_at actors_rule rows)
     (map_some make (number_at seed_rule rows) (number_read seed_rule rows s)) (number_read actors_rule rows a)) (number_read steps_rule rows n) in
     asked_some (codes "churn") rows request (number_read workers_rule rows w) (number_read budget_rule rows b)
 

@@ -3,7 +3,7 @@ use Rattle.std.specs.Prelude.{◌≡◌, ℕ, Bool, false, true, List, [], ◌�
 use Rattle.std.specs.Option.{option_map_or}
 use Rattle.std.specs.Str.{bytes_eq}
 use Rattle.std.specs.Str.Parse.{digits_value, without_leading_plus}
-use Rattle.clap.specs.Words.{App, Kinds, Row, Rule, Text, fault_of, first_of, new_app, new_rule, subcommand_of, with_rule, with_subcommand}
+use Rattle.clap.specs.Words.{App, Kinds, Row, Rule, Text, fault_of, first_of, new_app, new_rule, subcommand_of, with_rule}
 use Rattle.clap.specs.Takes.{value_passes}
 use Rattle.clap.specs.declared.builder.action.ArgAction.TheVariants.{SetTrue}
 use Rattle.clap.specs.declared.builder.value_parser.ValueParser.{ValueParser}
@@ -11,25 +11,21 @@ use Rattle.clap.specs.declared.builder.value_parser.ValueParser.TheVariants as v
 
 -- ---- the definition
 
--- a name that must be given
-abbrev pub name_rule : Text → Rule
-name_rule id = record (new_rule id) { required = true; value_names = 1 }
-
--- a number that must be given, which this parser reads
-abbrev pub parsed_rule : Text → ValueParser → Rule
-parsed_rule id parser = record (name_rule id) { parser = Some parser }
+-- an argument that must be given: a number that a parser reads, or a name
+abbrev pub argument_rule : Text → Option ValueParser → Rule
+argument_rule id parser = record (new_rule id) { required = true; value_names = 1; parser = parser }
 
 -- the argument of churn for the seed: 0 to 2^63 - 1
 abbrev pub seed_rule : Rule
-seed_rule = parsed_rule (codes "seed") (vp.Unsigned 0 9223372036854775807)
+seed_rule = argument_rule (codes "seed") (Some (vp.Unsigned 0 9223372036854775807))
 
 -- the argument of churn for the number of actors: 2 to 4,096
 abbrev pub actors_rule : Rule
-actors_rule = parsed_rule (codes "actors") (vp.Unsigned 2 4096)
+actors_rule = argument_rule (codes "actors") (Some (vp.Unsigned 2 4096))
 
 -- the argument of churn for the number of steps: 0 to 1,000,000
 abbrev pub steps_rule : Rule
-steps_rule = parsed_rule (codes "steps") (vp.Unsigned 0 1000000)
+steps_rule = argument_rule (codes "steps") (Some (vp.Unsigned 0 1000000))
 
 -- an option with a number from least to most, and its default
 abbrev pub number_rule : Text → ℕ → ℕ → Text → Rule
@@ -54,11 +50,11 @@ with_options a = with_rule (with_common_options a) (record (new_rule (codes "qui
 
 -- the file names of a platform and a deployment, as arguments of a command
 abbrev pub with_parts : App → App
-with_parts a = with_rule (with_rule a (name_rule (codes "platform"))) (name_rule (codes "deployment"))
+with_parts a = with_rule (with_rule a (argument_rule (codes "platform") None)) (argument_rule (codes "deployment") None)
 
 -- the command `replay`: a platform, a deployment and a script, with all options
 abbrev pub replay_app : App
-replay_app = with_options (with_rule (with_parts (new_app (codes "replay"))) (name_rule (codes "script")))
+replay_app = with_options (with_rule (with_parts (new_app (codes "replay"))) (argument_rule (codes "script") None))
 
 -- the command `run`: a platform and a deployment without a script, with all options
 abbrev pub run_app : App
@@ -68,16 +64,12 @@ run_app = with_options (with_parts (new_app (codes "run")))
 abbrev pub churn_app : App
 churn_app = with_common_options (with_rule (with_rule (with_rule (new_app (codes "churn")) seed_rule) actors_rule) steps_rule)
 
--- the program, without its commands: one of them must be given, and there is a version
-abbrev pub bare_app : App
-bare_app = record {
-  top = record (new_app (codes "simgrid_replay")).top { subcommand_required = true; has_version = true };
-  subs = [];
-}
-
--- the whole program: its commands `replay`, `run` and `churn`
+-- the whole program: one of its commands `replay`, `run` and `churn` must be given, and there is a version
 abbrev pub program_app : App
-program_app = with_subcommand (with_subcommand (with_subcommand bare_app replay_app.top) run_app.top) churn_app.top
+program_app = record {
+  top = record (new_app (codes "simgrid_replay")).top { is_leaf = false; subcommand_required = true; has_version = true };
+  subs = replay_app.top ∷ (run_app.top ∷ (churn_app.top ∷ []));
+}
 
 -- the kinds of refusal that the words may have, none if the definition accepts them
 abbrev pub refusals : List Text → Kinds
@@ -112,17 +104,13 @@ number_at rule rows =
 abbrev pub parts_at : {X : Type 0} → (Text → Text → X) → List Row → Option X
 parts_at make rows = with_value (option_map make (first_of (codes "platform") rows)) (first_of (codes "deployment") rows)
 
--- what a churn is asked to do, if its three numbers are there
-abbrev pub churn_at : List Row → Option Request
-churn_at rows = with_value (with_value (option_map
-    (λ seed actors steps. churn seed actors steps) (number_at seed_rule rows)) (number_at actors_rule rows)) (number_at steps_rule rows)
-
 -- what the command of this name is asked to do, if its arguments are there
 abbrev pub request_at : Text → List Row → Option Request
 request_at name rows =
     if bytes_eq name (codes "replay") then with_value (parts_at (λ p d s. replay p d s) rows) (first_of (codes "script") rows)
     else if bytes_eq name (codes "run") then parts_at run rows
-    else if bytes_eq name (codes "churn") then churn_at rows
+    else if bytes_eq name (codes "churn") then with_value (with_value (option_map (λ s a n. churn s a n)
+    (number_at seed_rule rows)) (number_at actors_rule rows)) (number_at steps_rule rows)
     else None
 
 -- whether the option `--quiet` was given

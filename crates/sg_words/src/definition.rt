@@ -1,9 +1,9 @@
 //! The definition of the command line, in the words of `clap`.
-ghost use Rattle.std.specs.Prelude.{◌≡◌, IfOk, Some, codes, false};
-ghost use Rattle.clap.specs.Words.{app_of, new_rule, rule_of, with_rule, with_subcommand};
+ghost use Rattle.std.specs.Prelude.{◌≡◌, IfOk, None, Some, codes, false, true};
+ghost use Rattle.clap.specs.Words.{app_of, new_app, new_rule, rule_of, with_rule, with_subcommand};
 ghost use Rattle.clap.specs.declared.builder.action.ArgAction.TheVariants.{SetTrue};
 ghost use Rattle.sg_words.specs.kept.Building.{IsArg, IsLocal, Builds};
-ghost use Rattle.sg_words.specs.CommandLine.{name_rule, parsed_rule, seed_rule, actors_rule, steps_rule, workers_rule, budget_rule, with_common_options, with_options, with_parts, replay_app, run_app, churn_app, bare_app, program_app};
+ghost use Rattle.sg_words.specs.CommandLine.{argument_rule, seed_rule, actors_rule, steps_rule, workers_rule, budget_rule, with_common_options, with_options, with_parts, replay_app, run_app, churn_app, program_app};
 
 use crate::help;
 use clap::builder::ValueParser;
@@ -11,7 +11,7 @@ use clap::{Arg, ArgAction, Command, value_parser};
 use std::alloc::{AllocError, Global};
 
 fn name_arg<'a>(alloc: Global, id: &'a str, shown: &'a str, help: &'a str) -> Arg<'a>
-    ensures { IsArg (name_rule id.entry.now) result }
+    ensures { IsArg (argument_rule id.entry.now None) result }
 {
     Arg::new(alloc, id)
         .required(true)
@@ -27,7 +27,7 @@ fn number_arg<'a>(
     parser: ValueParser<'a>,
     help: &'a str,
 ) -> Arg<'a>
-    ensures { IsArg (parsed_rule id.entry.now parser.entry) result }
+    ensures { IsArg (argument_rule id.entry.now (Some parser.entry)) result }
 {
     name_arg(alloc, id, shown, help).value_parser(parser)
 }
@@ -161,7 +161,10 @@ fn churn<'a>(alloc: Global) -> Result<Command<'a>, AllocError>
 }
 
 fn bare<'a>(alloc: Global) -> Result<Command<'a>, AllocError>
-    ensures { IfOk result (λ c. app_of c ≡ bare_app) }
+    ensures { IfOk result (λ c. app_of c ≡ record (new_app (codes "simgrid_replay")) {
+      top = record (new_app (codes "simgrid_replay")).top
+          { subcommand_required = true; has_version = true };
+    }) }
 {
     // (whatever the program's file is called)
     let command = Command::new(alloc, "simgrid_replay")

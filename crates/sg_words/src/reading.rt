@@ -1,7 +1,7 @@
 //! The job, read off the values that were found for the arguments.
 ghost use Rattle.std.specs.Prelude.{◌≡◌, ◌≤◌, ◌&&◌, Some, None, codes, option_and_then, option_map, IfOk, IfSome, nat_le, if◌then◌else◌};
 ghost use Rattle.clap.specs.Words.{first_of, subcommand_rows_of};
-ghost use Rattle.sg_words.specs.CommandLine.{with_value, parts_at, replay, run, churn_at, request_at, is_quiet, asked_at};
+ghost use Rattle.sg_words.specs.CommandLine.{with_value, number_at, parts_at, replay, run, churn, seed_rule, actors_rule, steps_rule, request_at, is_quiet, asked_at};
 ghost use Rattle.sg_words.specs.Ranges.{IsInRange};
 ghost use Rattle.sg_words.specs.Views.{request_view, asked_view, command_view, job_view};
 ghost use Rattle.sg_words.specs.kept.Ranged.{number_in, number_between, rows_in};
@@ -65,7 +65,10 @@ fn run_at<'a>(matches: &ArgMatches<'a>) -> Option<Request<'a>>
 }
 
 fn churn_at<'a>(matches: &ArgMatches<'a>) -> Option<Request<'a>>
-    ensures { option_map request_view result ≡ churn_at (rows_in matches.now) }
+    ensures { option_map request_view result ≡ with_value (with_value (option_map
+        (λ s a n. churn s a n) (number_at seed_rule (rows_in matches.now)))
+        (number_at actors_rule (rows_in matches.now)))
+        (number_at steps_rule (rows_in matches.now)) }
 {
     let seed = number_at(matches, "seed", 0, 9_223_372_036_854_775_807)?;
     let actors = number_at(matches, "actors", 2, 4096)? as u32;
