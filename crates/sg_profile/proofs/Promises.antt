@@ -12,14 +12,15 @@ use Rattle.sg_rows.specs.declared.rows.StateProfileRow.{StateProfileRow}
 use Rattle.sg_profile.specs.declared.entry.Entry.{Entry}
 use Rattle.sg_profile.specs.declared.profile.Profile.{Profile}
 use Rattle.sg_profile.specs.Laws.{EntriesExist, PlatformsPromise}
-use Rattle.sg_profile.specs.Profiles.{IsEntry, IsProfile, IsSchedule, entry_by, profile_at, profile_of, state_entry_by, state_profile_of, turn_at}
+use Rattle.sg_profile.specs.declared.entry.Entry.TheVariants.{Bandwidth, HostOn, LinkOn, Speed}
+use Rattle.sg_profile.specs.Profiles.{IsEntry, IsProfile, IsSchedule, entry_by, profile_at, profile_of, state_profile_of, turn_at}
 use Rattle.sg_profile.proofs.Cases.{no_profile}
 
-entry_kept : (counts : Counts) (of : Profiled) (value : ℕ) → IsProfiled counts of → value ≤ 10 ^ 15 → IsEntry counts.hosts counts.links (entry_by of value)
+entry_kept : (counts : Counts) (of : Profiled) (value : ℕ) → IsProfiled counts of → value ≤ 10 ^ 15 → IsEntry counts.hosts counts.links (entry_by Speed Bandwidth of value)
 entry_kept counts (Host host) value exists small = (exists, small)
 entry_kept counts (Link link) value exists small = (omega (arith, exists), small)
 
-state_entry_kept : (counts : Counts) (of : Profiled) (on : Bool) → IsProfiled counts of → IsEntry counts.hosts counts.links (state_entry_by of on)
+state_entry_kept : (counts : Counts) (of : Profiled) (on : Bool) → IsProfiled counts of → IsEntry counts.hosts counts.links (entry_by HostOn LinkOn of on)
 state_entry_kept counts (Host host) on exists = exists
 state_entry_kept counts (Link link) on exists = omega (arith, exists)
 
@@ -37,14 +38,14 @@ schedule_kept counts of dates gap values entry is = record {
 
 profile_kept : (counts : Counts) (row : ProfileRow) → IsProfileRow counts row → IsProfile counts.hosts counts.links (profile_of row)
 profile_kept counts row is = record {
-  schedule = schedule_kept counts row.of row.dates row.gap row.values (entry_by row.of) is.dates;
-  entries = All-map (IsEntry counts.hosts counts.links) (entry_by row.of) row.values (λ k d within. entry_kept counts row.of (get_or row.values k d) is.dates.exists (is.values k d within));
+  schedule = schedule_kept counts row.of row.dates row.gap row.values (entry_by Speed Bandwidth row.of) is.dates;
+  entries = All-map (IsEntry counts.hosts counts.links) (entry_by Speed Bandwidth row.of) row.values (λ k d within. entry_kept counts row.of (get_or row.values k d) is.dates.exists (is.values k d within));
 }
 
 state_profile_kept : (counts : Counts) (row : StateProfileRow) → IsStateProfileRow counts row → IsProfile counts.hosts counts.links (state_profile_of row)
 state_profile_kept counts row is = record {
-  schedule = schedule_kept counts row.of row.dates row.gap row.states (state_entry_by row.of) is;
-  entries = All-map (IsEntry counts.hosts counts.links) (state_entry_by row.of) row.states (λ k d within. state_entry_kept counts row.of (get_or row.states k d) is.exists);
+  schedule = schedule_kept counts row.of row.dates row.gap row.states (entry_by HostOn LinkOn row.of) is;
+  entries = All-map (IsEntry counts.hosts counts.links) (entry_by HostOn LinkOn row.of) row.states (λ k d within. state_entry_kept counts row.of (get_or row.states k d) is.exists);
 }
 
 pub platforms_promise : PlatformsPromise

@@ -1,8 +1,10 @@
 -- Which entries of profiles come, and when. Dates and gaps are in nanoseconds.
-use Rattle.std.specs.Prelude.{◌≡◌, ℕ, ◌+◌, ◌-◌, ◌*◌, ◌==◌, ◌≤◌, ◌<◌, ◌^◌, Bool, false, min, Option, None, Some, IfSome, option_map, if◌then◌else◌, List, [], ◌∷◌, ◌++◌, length, map, replicate, slice_get, slice_index, slice_index_or, slice_set}
+use Rattle.std.specs.Prelude.{◌≡◌, ℕ, ◌+◌, ◌-◌, ◌*◌, ◌==◌, ◌≤◌, ◌<◌, ◌^◌, Bool, false, min, Option, None, Some, IfSome, option_map, if◌then◌else◌, List, [], ◌∷◌, ◌++◌, length, map, replicate, slice_get, slice_index, slice_index_or, slice_set, zip}
 use Rattle.std.specs.List.{All}
 use Rattle.std.specs.List.Sorted.{IsStrictlyIncreasing}
 use Rattle.std.specs.Option.{option_map_or}
+use Rattle.sg_base.specs.declared.ids.LinkId.{LinkId}
+use Rattle.sg_base.specs.declared.ids.PointId.{PointId}
 use Rattle.sg_rows.specs.Platform.{Platform}
 use Rattle.sg_rows.specs.declared.rows.Profiled.{Profiled}
 use Rattle.sg_rows.specs.declared.rows.Profiled.TheVariants.{Host, Link}
@@ -13,23 +15,18 @@ use Rattle.sg_profile.specs.declared.entry.Entry.TheVariants.{Speed, Bandwidth, 
 use Rattle.sg_profile.specs.declared.profile.Profile.{Profile}
 use Rattle.sg_profile.specs.declared.turn.Turn.{Turn}
 
--- the entry that sets the speed of a host, or the bandwidth of a link, to a value
-abbrev pub entry_by : Profiled → ℕ → Entry
-entry_by (Host host) value = Speed host value
-entry_by (Link link) value = Bandwidth link value
+-- the entry that changes a host or a link, each in its own way, to a value
+abbrev pub entry_by : {A : Type 0} → (PointId → A → Entry) → (LinkId → A → Entry) → Profiled → A → Entry
+entry_by of_host of_link (Host host) value = of_host host value
+entry_by of_host of_link (Link link) value = of_link link value
 
 -- a profile of speeds or bandwidths, as the simulation uses it
 abbrev pub profile_of : ProfileRow → Profile
-profile_of row = record { dates = row.dates; entries = map (entry_by row.of) row.values; gap = row.gap }
-
--- the entry that turns a host or a link on or off
-abbrev pub state_entry_by : Profiled → Bool → Entry
-state_entry_by (Host host) on = HostOn host on
-state_entry_by (Link link) on = LinkOn link on
+profile_of r = record { dates = r.dates; entries = map (entry_by Speed Bandwidth r.of) r.values; gap = r.gap }
 
 -- a profile of on and off states, as the simulation uses it
 abbrev pub state_profile_of : StateProfileRow → Profile
-state_profile_of row = record { dates = row.dates; entries = map (state_entry_by row.of) row.states; gap = row.gap }
+state_profile_of r = record { dates = r.dates; entries = map (entry_by HostOn LinkOn r.of) r.states; gap = r.gap }
 
 -- those of speeds and bandwidths, and after them those of states
 abbrev pub profiles_in : Platform → List Profile
@@ -95,8 +92,7 @@ first_table profiles = record { profiles = profiles; turns = first_turns profile
 
 -- the date of the next entry of each row
 unfoldable pub dates_of : List Profile → List Turn → List (Option ℕ)
-dates_of (profile ∷ profiles) (turn ∷ turns) = next_entry_date profile turn ∷ dates_of profiles turns
-dates_of profiles turns = []
+dates_of profiles turns = map (λ row. next_entry_date row.0 row.1) (zip profiles turns)
 
 -- the earliest of these dates
 unfoldable pub earliest : List (Option ℕ) → Option ℕ

@@ -1,6 +1,7 @@
 //! A profile, of a speed, a bandwidth or a state.
 ghost use Rattle.std.specs.Prelude.{◌≡◌, ◌<◌, ◌++◌, IfOk, Some, length, map, slice_get};
-ghost use Rattle.sg_profile.specs.Profiles.{entry_by, profile_of, state_entry_by, state_profile_of};
+ghost use Rattle.sg_profile.specs.Profiles.{entry_by, profile_of, state_profile_of};
+ghost use Rattle.sg_profile.specs.declared.entry.Entry.TheVariants.{Bandwidth, HostOn, LinkOn, Speed};
 
 use crate::entry::{Entries, Entry};
 use crate::turn::Turn;
@@ -29,7 +30,7 @@ pub(crate) fn entry_at(profile: &Profile, turn: Turn) -> Entry
 
 // ---- of the rows of a platform
 fn entry_by(of: Profiled, value: u64) -> Entry
-    ensures { result ≡ entry_by of value }
+    ensures { result ≡ entry_by Speed Bandwidth of value }
 {
     match of {
         Profiled::Host(host) => Entry::Speed(host, value),
@@ -38,7 +39,7 @@ fn entry_by(of: Profiled, value: u64) -> Entry
 }
 
 fn state_entry_by(of: Profiled, on: bool) -> Entry
-    ensures { result ≡ state_entry_by of on }
+    ensures { result ≡ entry_by HostOn LinkOn of on }
 {
     match of {
         Profiled::Host(host) => Entry::HostOn(host, on),
@@ -47,7 +48,7 @@ fn state_entry_by(of: Profiled, on: bool) -> Entry
 }
 
 fn entries_of(alloc: Global, of: Profiled, values: &[u64]) -> Result<Entries, Memory>
-    ensures { IfOk result (λ entries. entries ≡ map (entry_by of) values.now) }
+    ensures { IfOk result (λ entries. entries ≡ map (entry_by Speed Bandwidth of) values.now) }
 {
     let mut entries = Vec::new(alloc);
     for value in values {
@@ -57,7 +58,7 @@ fn entries_of(alloc: Global, of: Profiled, values: &[u64]) -> Result<Entries, Me
 }
 
 fn state_entries_of(alloc: Global, of: Profiled, states: &[bool]) -> Result<Entries, Memory>
-    ensures { IfOk result (λ entries. entries ≡ map (state_entry_by of) states.now) }
+    ensures { IfOk result (λ entries. entries ≡ map (entry_by HostOn LinkOn of) states.now) }
 {
     let mut entries = Vec::new(alloc);
     for on in states {
