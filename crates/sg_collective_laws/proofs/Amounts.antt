@@ -1,5 +1,5 @@
 -- A decimal is a word, and is read as its number.
-use Rattle.std.proofs.Common.{◌≡◌, ◌<◌, ◌≤◌, ◌+◌, ◌*◌, ◌/◌, ◌^◌, ◌∙◌, ap, refl, ℕ, Bool, true, false, cond, List, [], ◌∷◌, ◌++◌, length, take, drop, All, Ok, Err, decimal, arith, append-nil, le-leb, ne_eqb}
+use Rattle.std.proofs.Common.{◌≡◌, ◌<◌, ◌≤◌, ◌+◌, ◌*◌, ◌/◌, ◌^◌, ◌∙◌, ap, refl, ℕ, Bool, true, false, cond, List, [], ◌∷◌, ◌++◌, length, take, drop, All, Some, Ok, Err, decimal, arith, append-nil, le-leb, ne_eqb}
 use Rattle.std.specs.Char.{digit_value, is_ascii_digit}
 use Rattle.std.specs.List.{prefix_len}
 use Rattle.std.specs.Str.Parse.{AllDigits, digits_value}
@@ -7,7 +7,7 @@ use Rattle.std.proofs.lemmas.Bool.{and_from}
 use Rattle.std.proofs.lemmas.Bool.Decides.{nat_tests}
 use Rattle.std.proofs.lemmas.Fmt.{decimal_is_IsNumeral, length-decimal-le}
 use Rattle.std.proofs.lemmas.List.Elements.{All-cons, All-nil}
-use Rattle.sg_units.specs.Amount.{amount_of, amount_or_fault, short_value, up_to, value_of}
+use Rattle.sg_units.specs.Amount.{amount_of, amount_or_fault, up_to, value_in_unit, value_of}
 use Rattle.sg_units.specs.Number.{Number, after_digits, digits, number_of, with_fraction}
 use Rattle.sg_units.specs.Units.{amount_units}
 use Rattle.sg_units.specs.declared.fault.AmountFault.TheVariants as amount
@@ -68,7 +68,7 @@ reads_decimal n small =
     let numeral = decimal_is_IsNumeral n (omega arith) in
     let short : length text ≤ 16 = length-decimal-le 16 n (omega arith) (omega arith) (omega arith) in
     ap (amount_or_fault amount_units (10 ^ 15)) (number_is text numeral.0.1)
-    ∙ ap (λ (b : Bool). cond b (Err amount.NotANumber) (short_value (10 ^ 15) (whole_number text) (record { numerator = 1; denominator = 1 }))) (ne_eqb (length text) 0 (λ e. omega (arith, numeral.0.0)))
+    ∙ ap (λ (b : Bool). cond b (Err amount.NotANumber) (value_in_unit (10 ^ 15) (whole_number text) (Some (record { numerator = 1; denominator = 1 })))) (ne_eqb (length text) 0 (λ e. omega (arith, numeral.0.0)))
     ∙ ap (λ (b : Bool). cond b (up_to (10 ^ 15) (value_of (whole_number text) (record { numerator = 1; denominator = 1 }))) (Err amount.TooLarge)) (and_from _ true (le-leb (length text + 0) 20 (omega arith)) refl)
     ∙ ap (up_to (10 ^ 15)) (value_is text n numeral.1)
     ∙ ap (λ (b : Bool). cond b (Ok n) (Err amount.TooLarge)) (le-leb n (10 ^ 15) small)

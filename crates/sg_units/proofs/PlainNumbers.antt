@@ -10,7 +10,7 @@ use Rattle.std.specs.List.{prefix_len}
 use Rattle.std.specs.Prelude.{◌==◌, ◌&&◌, ◌||◌, nat_le, slice_index}
 use Rattle.std.specs.Str.Parse.{AllDigits, digits_value}
 use Rattle.sg_units.proofs.Digits.{digit_from_value}
-use Rattle.sg_units.specs.Amount.{amount_by, amount_or_fault, is_short, short_value, up_to, value_in_unit, value_of}
+use Rattle.sg_units.specs.Amount.{amount_by, amount_or_fault, is_short, up_to, value_in_unit, value_of}
 use Rattle.sg_units.specs.Number.{Number, after_digits, digits, has_e, has_minus, number_of, with_fraction}
 use Rattle.sg_units.specs.Units.{Units, amount_units, size_of, whole}
 use Rattle.sg_units.specs.declared.units.Ratio.{Ratio}
@@ -44,7 +44,7 @@ value_plain text =
     let one : x * 1 * 1 / 1 ≡ x = div-one (x * 1 * 1) ∙ omega arith in
     one ∙ ap (digits_value 10) (append-nil text)
 
-short_plain : (greatest n : ℕ) (text : List ℕ) → length text ≤ 18 → digits_value 10 text ≡ n → n ≤ greatest → short_value greatest (plain text) (whole 1) ≡ Ok n
+short_plain : (greatest n : ℕ) (text : List ℕ) → length text ≤ 18 → digits_value 10 text ≡ n → n ≤ greatest → value_in_unit greatest (plain text) (Some (whole 1)) ≡ Ok n
 short_plain greatest n text few is below =
     let long : length text + 0 ≤ 20 = omega arith in
     let short : is_short (plain text) ≡ true = ap (λ (b : Bool). b && true) (le-leb (length text + 0) 20 long) in
@@ -57,7 +57,7 @@ pub plain_amount : (greatest n : ℕ) (text : List ℕ) → IsPlainNumber text n
 plain_amount greatest n text is below =
     let some : (length text == 0) ≡ false = ne_eqb (length text) 0 (λ e. absurd (omega (arith, e, is.some))) in
     sym (ap (amount_or_fault amount_units greatest) (number_plain text is.digits)
-    ∙ ap (λ (b : Bool). cond b (Err NotANumber) (short_value greatest (plain text) (whole 1))) some
+    ∙ ap (λ (b : Bool). cond b (Err NotANumber) (value_in_unit greatest (plain text) (Some (whole 1)))) some
     ∙ short_plain greatest n text is.few is.value below)
 
 -- ---- digits alone, and a unit

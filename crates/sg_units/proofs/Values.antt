@@ -1,15 +1,15 @@
 -- How the parts of a number make its value.
 use Rattle.std.proofs.Common.{◌≡◌, ◌<◌, ◌≤◌, ◌+◌, ◌-◌, ◌*◌, ◌/◌, ◌^◌, ◌∙◌, sym, ap, refl, ℕ, true, List, [], ◌∷◌, ◌++◌, length, None, Some, Ok, Err, inl, inr, arith}
-use Rattle.std.specs.Prelude.{IsTrue}
+use Rattle.std.specs.Prelude.{IsTrue, if◌then◌else◌}
 use Rattle.std.specs.Char.{digit_value}
-use Rattle.std.specs.Str.Parse.{digits_value_after}
+use Rattle.std.specs.Str.Parse.{digits_value, digits_value_after}
 use Rattle.std.proofs.Math.Nat.{pow-le-pow_right, mul_assoc, mul_comm, mul-le-mul_right, div-div-eq-div-mul, div-lt_iff_lt-mul}
 use Rattle.std.proofs.lemmas.Nat.{pow-add}
 use Rattle.std.proofs.lemmas.Bool.{cases_lt}
 use Rattle.std.proofs.lemmas.Bool.Decides.{nat_tests}
 use Rattle.sg_units.specs.declared.fault.AmountFault.TheVariants.{TooLarge}
 use Rattle.sg_units.specs.declared.units.Ratio.{Ratio}
-use Rattle.sg_units.specs.Amount.{is_short, short_value, up_to, value_of, digits_of, power_of, places_of}
+use Rattle.sg_units.specs.Amount.{is_short, up_to, value_in_unit, value_of}
 use Rattle.sg_units.specs.Number.{Number}
 use Rattle.sg_units.specs.kept.Scaled.{if_at_most}
 
@@ -30,10 +30,10 @@ few_in_all n short = grind (arith, nat_tests)
 
 -- what the parts of a number and its unit were read as
 pub record Read (n : Number) (size : Ratio) (d s p q : ℕ) : Type 0 where
-  pub digits : d ≡ digits_of n
+  pub digits : d ≡ digits_value 10 (n.whole ++ n.fraction)
   pub times : s ≡ size.numerator
-  pub power : p ≡ power_of n
-  pub places : q ≡ places_of n
+  pub power : p ≡ (if n.is_negative then 0 else digits_value 10 n.exponent)
+  pub places : q ≡ length n.fraction + (if n.is_negative then digits_value 10 n.exponent else 0)
 
 -- the product over the powers of ten and then over the unit's denominator is the value
 value_by_steps : (n : Number) (size : Ratio) (d s p q : ℕ) → Read n size d s p q → d * s * 10 ^ p / 10 ^ q / size.denominator ≡ value_of n size
@@ -69,7 +69,7 @@ up_to_beyond g v above = grind (arith, nat_tests)
 
 -- the two answers, from what was scaled
 pub limited_some : (g v d s p q : ℕ) (n : Number) (size : Ratio) → Read n size d s p q → is_short n ≡ true → 1 ≤ size.denominator
-    → Some v ≡ if_at_most ((g + 1) * size.denominator - 1) (d * s * 10 ^ p / 10 ^ q) → Ok (v / size.denominator) ≡ short_value g n size
+    → Some v ≡ if_at_most ((g + 1) * size.denominator - 1) (d * s * 10 ^ p / 10 ^ q) → Ok (v / size.denominator) ≡ value_in_unit g n (Some size)
 limited_some g v d s p q n size read short some is =
     let x = d * s * 10 ^ p / 10 ^ q in
     let found = some_within ((g + 1) * size.denominator - 1) x v is in
@@ -77,7 +77,7 @@ limited_some g v d s p q n size read short some is =
     rw (short, found.0) (up_to_within g (x / size.denominator) below ∙ ap (up_to g) (value_by_steps n size d s p q read))
 
 pub limited_none : (g d s p q : ℕ) (n : Number) (size : Ratio) → Read n size d s p q → is_short n ≡ true → 1 ≤ size.denominator
-    → None ≡ if_at_most ((g + 1) * size.denominator - 1) (d * s * 10 ^ p / 10 ^ q) → Err TooLarge ≡ short_value g n size
+    → None ≡ if_at_most ((g + 1) * size.denominator - 1) (d * s * 10 ^ p / 10 ^ q) → Err TooLarge ≡ value_in_unit g n (Some size)
 limited_none g d s p q n size read short some is =
     let x = d * s * 10 ^ p / 10 ^ q in
     let above : g < x / size.denominator = beyond g size.denominator x some (none_beyond ((g + 1) * size.denominator - 1) x is) in
@@ -86,5 +86,5 @@ limited_none g d s p q n size read short some is =
 limit_cases : (g v w : ℕ) → Ok v ≡ up_to g w → v ≤ g
 limit_cases g v w is = grind (arith, nat_tests)
 
-pub limited_limit : (g v : ℕ) (n : Number) (size : Ratio) → is_short n ≡ true → Ok v ≡ short_value g n size → v ≤ g
+pub limited_limit : (g v : ℕ) (n : Number) (size : Ratio) → is_short n ≡ true → Ok v ≡ value_in_unit g n (Some size) → v ≤ g
 limited_limit g v n size short is = limit_cases g v (value_of n size) (is ∙ rw short refl)

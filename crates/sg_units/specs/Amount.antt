@@ -7,25 +7,14 @@ use Rattle.sg_units.specs.declared.units.Ratio.{Ratio}
 use Rattle.sg_units.specs.Number.{Number, number_of}
 use Rattle.sg_units.specs.Units.{Units, size_of, amount_units, factor_units, speed_units, bandwidth_units, time_units}
 
--- the exponent of a number, without its sign
-abbrev pub exponent_of : Number → ℕ
-exponent_of n = digits_value 10 n.exponent
-
--- the digits before and after the point, as one whole number
-abbrev pub digits_of : Number → ℕ
-digits_of n = digits_value 10 (n.whole ++ n.fraction)
-
--- the power of ten that multiplies the digits: the exponent, or 0 if it is negative
-abbrev pub power_of : Number → ℕ
-power_of n = if n.is_negative then 0 else exponent_of n
-
--- the power of ten that divides: the digits after the point, plus the exponent if it is negative
-abbrev pub places_of : Number → ℕ
-places_of n = length n.fraction + (if n.is_negative then exponent_of n else 0)
-
--- the digits times 10 to the power, over 10 to the places, times the size of the unit, rounded down
+-- all digits as one whole number, times 10 to the power, over 10 to the places, times the size of the unit, rounded
+-- down; the places are those after the point, and a negative exponent adds to them
 abbrev pub value_of : Number → Ratio → ℕ
-value_of n size = digits_of n * 10 ^ power_of n * size.numerator / (10 ^ places_of n * size.denominator)
+value_of n size =
+    let exponent = digits_value 10 n.exponent in
+    let power = if n.is_negative then 0 else exponent in
+    let places = length n.fraction + (if n.is_negative then exponent else 0) in
+    digits_value 10 (n.whole ++ n.fraction) * 10 ^ power * size.numerator / (10 ^ places * size.denominator)
 
 -- at most 20 digits before the exponent and 3 in it
 abbrev pub is_short : Number → Bool
@@ -35,14 +24,10 @@ is_short n = nat_le (length n.whole + length n.fraction) 20 && nat_le (length n.
 abbrev pub up_to : ℕ → ℕ → Result ℕ AmountFault
 up_to greatest value = if nat_le value greatest then Ok value else Err TooLarge
 
--- the value of a number in a known unit, if it has few digits and is within the limit
-abbrev pub short_value : ℕ → Number → Ratio → Result ℕ AmountFault
-short_value greatest n size = if is_short n then up_to greatest (value_of n size) else Err TooLarge
-
--- the value of a number in the unit that was found, or a fault if there is no such unit
+-- the value of a number in the unit that was found, if it has few digits and is within the limit; or its fault
 abbrev pub value_in_unit : ℕ → Number → Option Ratio → Result ℕ AmountFault
 value_in_unit greatest n None = Err UnknownUnit
-value_in_unit greatest n (Some size) = short_value greatest n size
+value_in_unit greatest n (Some size) = if is_short n then up_to greatest (value_of n size) else Err TooLarge
 
 -- what a reader returns for a parsed number: its value, or its first fault
 abbrev pub amount_or_fault : Units → ℕ → Number → Result ℕ AmountFault

@@ -25,13 +25,9 @@ has_e text = slice_index text 0 == 101 || slice_index text 0 == 69
 abbrev pub has_minus : List ℕ → Bool
 has_minus text = slice_index text 1 == 45
 
--- whether the second byte, which follows the mark of an exponent, is a plus or a minus
-abbrev pub has_sign : List ℕ → Bool
-has_sign text = slice_index text 1 == 43 || has_minus text
-
--- what follows an `e` or `E` at the front and its sign; empty without such a mark
+-- what follows an `e` or `E` at the front and its sign, a plus or a minus; empty without such a mark
 abbrev pub after_e : List ℕ → List ℕ
-after_e text = if has_e text then drop (if has_sign text then 2 else 1) text else []
+after_e text = if has_e text then drop (if slice_index text 1 == 43 || has_minus text then 2 else 1) text else []
 
 -- what follows the digits after a mark; with no digit there, the mark is no part of the number
 abbrev pub after_part : List ℕ → List ℕ → List ℕ

@@ -1,8 +1,8 @@
 //! The readers of amounts, speeds, bandwidths, times and factors.
-ghost use Rattle.std.specs.Prelude.{◌≡◌, ◌≤◌, ◌<◌, ◌*◌, ◌/◌, ◌^◌, IsTrue, IfOk};
+ghost use Rattle.std.specs.Prelude.{◌≡◌, ◌≤◌, ◌<◌, ◌+◌, ◌*◌, ◌/◌, ◌^◌, ◌++◌, IsTrue, IfOk, Some, length, if◌then◌else◌};
 ghost use Rattle.std.specs.Str.Parse.{digits_value};
 ghost use Rattle.sg_base.specs.Limits.{IsAmount, IsTime};
-ghost use Rattle.sg_units.specs.Amount.{short_value, amount_by, up_to, power_of, places_of, digits_of, is_short, amount_of, speed_of, bandwidth_of, time_of, factor_of};
+ghost use Rattle.sg_units.specs.Amount.{value_in_unit, amount_by, up_to, is_short, amount_of, speed_of, bandwidth_of, time_of, factor_of};
 ghost use Rattle.sg_units.specs.kept.Shown.{parts_of, HasDigits, HasFewDigits};
 ghost use Rattle.sg_units.specs.Units.{amount_units, are_sizes, rows, IsSize};
 
@@ -34,7 +34,7 @@ fn is_short(number: &Number) -> bool
 
 fn digits_of(number: &Number) -> u128
     requires { HasFewDigits number.now }
-    ensures value { result ≡ digits_of (parts_of number.now) }
+    ensures value { result ≡ digits_value 10 (number.now.whole.now ++ number.now.fraction.now) }
     ensures bound { result < 10 ^ 20 }
 {
     read_after(read_after(0, number.whole), number.fraction)
@@ -50,7 +50,7 @@ fn exponent_of(number: &Number) -> u32
 
 fn power_of(number: &Number) -> u32
     requires { HasFewDigits number.now }
-    ensures { result ≡ power_of (parts_of number.now) }
+    ensures { result ≡ if number.now.is_negative then 0 else digits_value 10 number.now.exponent.now }
 {
     if number.is_negative {
         0
@@ -61,7 +61,8 @@ fn power_of(number: &Number) -> u32
 
 fn places_of(number: &Number) -> u32
     requires { HasFewDigits number.now }
-    ensures { result ≡ places_of (parts_of number.now) }
+    ensures { result ≡ length number.now.fraction.now
+        + (if number.now.is_negative then digits_value 10 number.now.exponent.now else 0) }
 {
     let places = number.fraction.len() as u32;
     if number.is_negative {
@@ -76,7 +77,7 @@ fn short_value(number: &Number, size: Ratio, greatest: u64) -> Result<u64, Amoun
     requires digits { HasDigits number.now }
     requires size { IsSize size }
     requires greatest { greatest ≤ 10 ^ 18 }
-    ensures value { result ≡ short_value greatest (parts_of number.now) size }
+    ensures value { result ≡ value_in_unit greatest (parts_of number.now) (Some size) }
     ensures limit { IfOk result (λ n. n ≤ greatest) }
 {
     if !is_short(number) {
