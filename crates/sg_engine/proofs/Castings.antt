@@ -16,7 +16,8 @@ use Rattle.sg_rows.specs.Deployment.{IsFunction, starts}
 use Rattle.sg_rows.specs.declared.rows.ActorRow.{ActorRow}
 use Rattle.sg_rows.specs.declared.rows.Function.{Function}
 use Rattle.sg_rows.specs.declared.rows.Function.TheVariants.{Replay, Worker, Master, Churn}
-use Rattle.sg_engine.specs.Roles.{first_mind, mind_at, role_of, minds_from}
+use Rattle.sg_engine.specs.Roles.{mind_at, role_of}
+use Rattle.sg_engine.specs.kept.Listed.{first_mind, minds_from}
 use Rattle.sg_engine.specs.kept.SeatRules.{mind_in, minds_of, IsSeated}
 
 pub seated_first : (extent : Extent) (o : Option Mind) → IfSome o (IsMind extent) → IsSeated extent (record { mind = o; inbox = Start; outbox = Ask; ready = false })

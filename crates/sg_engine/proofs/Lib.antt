@@ -7,6 +7,7 @@ pub mod Endings
 pub mod Files
 pub mod Fronts
 pub mod Fuel
+pub mod LastLines
 pub mod Leaving
 pub mod Listing
 pub mod Merging

@@ -18,7 +18,8 @@ use Rattle.sg_engine.specs.declared.show.Show.TheVariants.{All, Quiet, Summary}
 use Rattle.sg_edge.specs.Sinks.{gain}
 use Rattle.sg_engine.specs.kept.Stretches.{trace_in}
 use Rattle.sg_engine.specs.kept.Writing.{IsPut, Broke, Puts, Wrote, Writes}
-use Rattle.sg_engine.specs.Output.{energy_last, energy_lines, line_if, stuck_last, stuck_lines, trace_of}
+use Rattle.sg_engine.specs.Output.{energy_last, stuck_last, trace_of}
+use Rattle.sg_engine.specs.kept.Listed.{energy_lines, line_if, stuck_lines}
 use Rattle.sg_engine.proofs.Fronts.{put_on, put_as, broke_on, wrote_all}
 use Rattle.sg_engine.proofs.Waiting.{adds_front, adds_then, front_adds}
 

@@ -35,7 +35,8 @@ use Rattle.sg_engine.specs.kept.Moments.{script_in, Fits}
 use Rattle.sg_engine.specs.kept.Stretches.{planned_output, planned_pace}
 use Rattle.sg_engine.specs.Pace.{IsInPace, pace_in}
 use Rattle.sg_engine.specs.RunContract.{IsRun, output_of}
-use Rattle.sg_engine.specs.Roles.{first_minds, minds_from}
+use Rattle.sg_engine.specs.Roles.{first_minds}
+use Rattle.sg_engine.specs.kept.Listed.{minds_from}
 use Rattle.sg_engine.specs.kept.SeatRules.{mind_in, IsSeated}
 
 pub length-minds_from : (me : ℕ) (rows : List ActorRow) → length (minds_from me rows) ≡ length rows

@@ -1,6 +1,6 @@
 -- What a run writes, and how it ends.
-use Rattle.std.specs.Prelude.{ℕ, ◌+◌, ◌-◌, ◌/◌, ◌%◌, ◌^◌, ◌&&◌, ◌++◌, unwrap_or, Bool, true, false, Option, Some, option_map, if◌then◌else◌, List, [], ◌∷◌, length, slice_index_or, codes}
-use Rattle.std.specs.List.{flat_map}
+use Rattle.std.specs.Prelude.{ℕ, ◌-◌, ◌/◌, ◌%◌, ◌^◌, ◌&&◌, ◌++◌, unwrap_or, Bool, Option, None, Some, option_map, if◌then◌else◌, List, [], ◌∷◌, length, filter_map, slice_index_or, codes}
+use Rattle.std.specs.List.{enumerate_from, flat_map}
 use Rattle.std.specs.Option.{option_map_or}
 use Rattle.sg_base.specs.declared.trace_record.Record.{Record}
 use Rattle.sg_edge.specs.Sources.{Source}
@@ -43,58 +43,43 @@ trace_of show.All platform deployed records = flat_map (λ r. line_of r platform
 trace_of other platform deployed records = []
 
 -- how many actors and events there were, if that is shown
-abbrev pub summary_line : Show → Platform → Deployed → ℕ → List ℕ
-summary_line show.Summary platform deployed events = ending_of (last.Summary (length deployed.actors) events) platform deployed
-summary_line other platform deployed events = []
+abbrev pub summary : Show → ℕ → ℕ → List Last
+summary show.Summary actors events = last.Summary actors events ∷ []
+summary other actors events = []
 
--- the text of a line, if there is one
-abbrev pub line_if : Platform → Deployed → Option Last → List ℕ
-line_if platform deployed told = option_map_or (λ what. ending_of what platform deployed) told []
-
--- the line for an actor that can't continue: that it is suspended, or else on what it is blocked
+-- what is reported of an actor that can't continue: that it is suspended, or else on what it is blocked
 abbrev pub stuck_last : ℕ → Actor → Option Last
 stuck_last id actor =
     if actor.suspended && is_alive actor.state then Some (last.Suspended (record { 0 = id }))
     else option_map (λ what. last.Blocked (record { 0 = id }) what) (blocked_of actor.state)
 
--- a line for each actor that is suspended or blocked, in rising id from this one on
-abbrev pub stuck_lines : Platform → Deployed → ℕ → List Actor → List ℕ
-stuck_lines platform deployed id [] = []
-stuck_lines platform deployed id (actor ∷ more) = line_if platform deployed (stuck_last id actor) ++ stuck_lines platform deployed (id + 1) more
+-- the actors that can't continue, in rising id
+abbrev pub stuck : List Actor → List Last
+stuck actors = filter_map (λ p. stuck_last p.0 p.1) (enumerate_from 1 actors)
 
--- the line for the energy that a host with power has used: whole joules, and the rest in 10^-12 J
+-- the energy that a host with power has used: whole joules, and the rest in 10^-12 J
 abbrev pub energy_last : ℕ → HostRow → ℕ → Option Last
 energy_last host row energy = option_map (λ power. last.Energy (record { 0 = host }) (energy / 10 ^ 12) (energy % 10 ^ 12)) row.power
 
--- a line for each host with power, in declared order from this one on
-abbrev pub energy_lines : Platform → Deployed → List ℕ → ℕ → List HostRow → List ℕ
-energy_lines platform deployed energies host [] = []
-energy_lines platform deployed energies host (row ∷ rows) =
-    line_if platform deployed (energy_last host row (slice_index_or energies host 0)) ++ energy_lines platform deployed energies (host + 1) rows
+-- the energies of the hosts with power, in declared order
+abbrev pub energies_used : List ℕ → List HostRow → List Last
+energies_used energies rows = filter_map (λ p. energy_last p.0 p.1 (slice_index_or energies p.0 0)) (enumerate_from 0 rows)
 
--- the energy that each host with power has used at the end of the run, a line each
-abbrev pub all_energy : Platform → Deployed → Core → List ℕ
-all_energy platform deployed core = energy_lines platform deployed core.under.energy 0 platform.hosts
+-- how the run has ended, and which actors can't continue; none: a fault has ended it
+abbrev pub how_ended : Show → ℕ → ℕ → Core → Ended → Option (List Last)
+how_ended show actors budget core ended.Completed = Some (summary show actors core.events ++ last.Time core.under.date ∷ [])
+how_ended show actors budget core ended.Deadlock = Some (last.Deadlock core.under.date ∷ stuck core.actors)
+how_ended show actors budget core ended.Starved = Some (last.Starved core.under.date ∷ stuck core.actors)
+how_ended show actors budget core ended.Budget = Some (last.Budget budget core.under.date ∷ [])
+how_ended show actors budget core other = None
 
--- how the run has ended, and which actors can't continue
-abbrev pub how_lines : Show → Platform → Deployed → ℕ → Core → Ended → List ℕ
-how_lines show platform deployed budget core ended.Completed = summary_line show platform deployed core.events ++ ending_of (last.Time core.under.date) platform deployed
-how_lines show platform deployed budget core ended.Deadlock = ending_of (last.Deadlock core.under.date) platform deployed ++ stuck_lines platform deployed 1 core.actors
-how_lines show platform deployed budget core ended.Starved = ending_of (last.Starved core.under.date) platform deployed ++ stuck_lines platform deployed 1 core.actors
-how_lines show platform deployed budget core ended.Budget = ending_of (last.Budget budget core.under.date) platform deployed
-how_lines show platform deployed budget core other = []
-
--- the energies are reported if no fault has ended the run
-abbrev pub tells_energy : Ended → Bool
-tells_energy ended.Completed = true
-tells_energy ended.Deadlock = true
-tells_energy ended.Starved = true
-tells_energy ended.Budget = true
-tells_energy other = false
-
--- what stands on Out after the trace lines
+-- what stands on Out after the trace lines, a line each: how the run has ended, and then the energies; nothing if a
+-- fault has ended it
 abbrev pub last_lines : Show → Platform → Deployed → ℕ → Core → Ended → List ℕ
-last_lines show platform deployed budget core how = how_lines show platform deployed budget core how ++ (if tells_energy how then all_energy platform deployed core else [])
+last_lines show platform deployed budget core how =
+    flat_map (λ what. ending_of what platform deployed)
+    (option_map_or (λ lasts. lasts ++ energies_used core.under.energy platform.hosts)
+    (how_ended show (length deployed.actors) budget core how) [])
 
 -- what stands on Err
 abbrev pub fault_line : Platform → Ended → List ℕ

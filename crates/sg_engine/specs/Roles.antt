@@ -1,5 +1,6 @@
 -- What actors are to be, and what they have in mind at first.
-use Rattle.std.specs.Prelude.{ℕ, ◌+◌, Option, None, Some, if◌then◌else◌, List, [], ◌∷◌}
+use Rattle.std.specs.Prelude.{ℕ, Option, None, Some, if◌then◌else◌, List, map}
+use Rattle.std.specs.List.{enumerate_from}
 use Rattle.sg_base.specs.Mind.{Mind}
 use Rattle.sg_base.specs.Turn.{actor_of}
 use Rattle.sg_actor.specs.declared.role.Role.{Role}
@@ -21,24 +22,10 @@ role_of me (Churn seed next prev steps) = role.Churn seed steps (actor_of me) ne
 abbrev pub mind_at : ℕ → ActorRow → Mind
 mind_at me row = mind_of (role_of me row.function)
 
--- the minds with which the actors of these rows begin, if the first row is this actor's
-abbrev pub firsts_from : ℕ → List ActorRow → List Mind
-firsts_from me [] = []
-firsts_from me (row ∷ rows) = mind_at me row ∷ firsts_from (me + 1) rows
-
 -- the mind with which each actor of a deployment begins, whenever it begins
 abbrev pub firsts_of : Deployed → List Mind
-firsts_of deployed = firsts_from 1 deployed.actors
-
--- what it has in mind at first: nothing yet if it doesn't start
-abbrev pub first_mind : ℕ → ActorRow → Option Mind
-first_mind me row = if row.start then Some (mind_at me row) else None
-
--- what the actors of these rows have in mind at first, if the first row is this actor's
-abbrev pub minds_from : ℕ → List ActorRow → List (Option Mind)
-minds_from me [] = []
-minds_from me (row ∷ rows) = first_mind me row ∷ minds_from (me + 1) rows
+firsts_of deployed = map (λ p. mind_at p.0 p.1) (enumerate_from 1 deployed.actors)
 
 -- what each actor has in mind at the start of the run; none: it begins later or never
 abbrev pub first_minds : Deployed → List (Option Mind)
-first_minds deployed = minds_from 1 deployed.actors
+first_minds deployed = map (λ p. if p.1.start then Some (mind_at p.0 p.1) else None) (enumerate_from 1 deployed.actors)

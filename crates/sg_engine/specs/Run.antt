@@ -1,7 +1,7 @@
 -- A run, for any number of hosts and actors: scheduling rounds until no actor is ready, then a time advance, with the
 -- entries of profiles of its date, and again, until it ends.
 use Rattle.std.specs.Prelude.{ℕ, zero, suc, ◌+◌, ◌-◌, ◌==◌, nat_lt, Option, None, Some, option_map, Result, Ok, Err, Bool, true, false, ◌&&◌, if◌then◌else◌, List, [], ◌∷◌, ◌++◌, map, slice_get, slice_set}
-use Rattle.std.specs.List.{list_any, list_all}
+use Rattle.std.specs.List.{list_any, list_all, zip}
 use Rattle.std.specs.Option.{option_map_or}
 use Rattle.sg_base.specs.declared.call.Action.{Action}
 use Rattle.sg_base.specs.declared.call.Answer.{Answer}
@@ -83,9 +83,7 @@ in_world world step = record { world = record world { core = step.core }; made =
 
 -- a function applied to two lists item by item, to the end of the shorter one
 abbrev pub zip_with : {X Y Z : Type 0} → (X → Y → Z) → List X → List Y → List Z
-zip_with f [] ys = []
-zip_with f (x ∷ xs) [] = []
-zip_with f (x ∷ xs) (y ∷ ys) = f x y ∷ zip_with f xs ys
+zip_with f xs ys = map (λ p. f p.0 p.1) (zip xs ys)
 
 -- ---- what a run asks of the actors
 -- an actor is ready that has an answer and isn't suspended
@@ -142,13 +140,9 @@ created_by other = None
 abbrev pub is_given : ActorId → World → Bool
 is_given target world = is_unstarted (state_of world.core target.0) && nat_lt 0 world.contexts
 
--- an actor has its first mind, if it is given its beginning
-abbrev pub minds_with : List Mind → ℕ → List (Option Mind) → List (Option Mind)
-minds_with firsts actor minds = slice_set minds (actor - 1) (slice_get firsts (actor - 1))
-
 -- the minds of all actors, where a created actor has its first one if its start is granted
 abbrev pub minds_if : Bool → List Mind → ℕ → List (Option Mind) → List (Option Mind)
-minds_if given firsts actor minds = if given then minds_with firsts actor minds else minds
+minds_if given firsts actor minds = if given then slice_set minds (actor - 1) (slice_get firsts (actor - 1)) else minds
 
 -- the actor takes its first mind and a context, if it is given its beginning
 abbrev pub if_given : Bool → List Mind → ℕ → World → World

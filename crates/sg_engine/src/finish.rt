@@ -4,7 +4,8 @@ ghost use Rattle.sg_edge.specs.Cause.{HasCause};
 ghost use Rattle.sg_engine.specs.RunContract.{is_cut, Ends};
 ghost use Rattle.sg_engine.specs.kept.Writing.{Puts, Tells};
 ghost use Rattle.sg_engine.specs.kept.Stretches.{how_in, last_in};
-ghost use Rattle.sg_engine.specs.Output.{fault_line, tells_energy as tells_energy_spec};
+ghost use Rattle.sg_engine.specs.kept.Listed.{tells_energy as tells_energy_spec};
+ghost use Rattle.sg_engine.specs.Output.{fault_line};
 
 use crate::buffer::Buffer;
 use crate::ended::Ended;

@@ -8,7 +8,8 @@ ghost use Rattle.sg_rows.specs.Deployment.{extent_of};
 ghost use Rattle.sg_trace.specs.Ending.{IsLastOf};
 ghost use Rattle.sg_trace.specs.Line.{line_of};
 ghost use Rattle.sg_engine.specs.kept.Writing.{Puts, Writes};
-ghost use Rattle.sg_engine.specs.Output.{energy_last, line_if, stuck_last, trace_of};
+ghost use Rattle.sg_engine.specs.Output.{energy_last, stuck_last, trace_of};
+ghost use Rattle.sg_engine.specs.kept.Listed.{line_if};
 ghost use Rattle.sg_engine.specs.kept.Stretches.{ending_in, energy_in, stuck_in, trace_in};
 
 use crate::buffer::Buffer;

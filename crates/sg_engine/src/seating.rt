@@ -1,13 +1,14 @@
 //! Actors take their slots, each in a context of the pool.
-ghost use Rattle.std.specs.Prelude.{◌≡◌, ◌-◌, if◌then◌else◌, length, take, true, All, Some, IfOk, OnErr, OnOk};
+ghost use Rattle.std.specs.Prelude.{◌≡◌, ◌-◌, if◌then◌else◌, length, slice_get, slice_set, take, true, All, Some, IfOk, OnErr, OnOk};
 ghost use Rattle.std.specs.Option.{option_and_then};
 ghost use Rattle.sg_base.specs.Limits.{Extent, IsActorIn};
 ghost use Rattle.sg_actor.specs.Roles.{mind_of, CanCast, IsRole};
 ghost use Rattle.sg_actor.specs.Seats.{seat_view, seat_views};
 ghost use Rattle.sg_rows.specs.Deployment.{extent_of};
-ghost use Rattle.sg_engine.specs.Roles.{role_of, first_mind, first_minds, firsts_of};
-ghost use Rattle.sg_engine.specs.Run.{minds_if, minds_with};
+ghost use Rattle.sg_engine.specs.Roles.{role_of, first_minds, firsts_of};
+ghost use Rattle.sg_engine.specs.Run.{minds_if};
 ghost use Rattle.sg_engine.specs.RunContract.{HasContexts};
+ghost use Rattle.sg_engine.specs.kept.Listed.{first_mind};
 ghost use Rattle.sg_engine.specs.kept.Invariant.{AreSeatsOf, CanTake, StartsFrom, StartsUpTo};
 ghost use Rattle.sg_engine.specs.kept.SeatRules.{mind_in, minds_of, IsSeated};
 
@@ -119,8 +120,8 @@ fn take_seat(
     requires actor { IsActorIn (extent_of plan.now.deployment.now) actor }
     requires seats { AreSeatsOf plan.now.deployment.now (seat_views (λ b. mind b) seats.old) }
     ensures minds { OnOk result (minds_of (seat_views (λ b. mind b) seats.new)
-        ≡ minds_with (firsts_of plan.now.deployment.now) actor.0
-        (minds_of (seat_views (λ b. mind b) seats.old))) }
+        ≡ slice_set (minds_of (seat_views (λ b. mind b) seats.old)) (actor.0 - 1)
+        (slice_get (firsts_of plan.now.deployment.now) (actor.0 - 1))) }
     ensures seats { AreSeatsOf plan.now.deployment.now (seat_views (λ b. mind b) seats.new) }
     ensures crew { crew.new.items ≡ take (length crew.old.items - 1) crew.old.items }
 {

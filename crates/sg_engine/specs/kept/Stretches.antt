@@ -17,11 +17,12 @@ use Rattle.sg_engine.specs.declared.ended.Ended.{Ended}
 use Rattle.sg_engine.specs.declared.plan.Plan.{Plan}
 use Rattle.sg_engine.specs.declared.simulation.Simulation.{Simulation}
 use Rattle.sg_engine.specs.RunContract.{is_cut}
-use Rattle.sg_engine.specs.Output.{Output, all_energy, first_of, how_lines, last_lines, run_output, stuck_lines, trace_of, scene_of}
+use Rattle.sg_engine.specs.Output.{Output, first_of, run_output, trace_of, scene_of}
 use Rattle.sg_trace.specs.Ending.{ending_of}
 use Rattle.sg_trace.specs.declared.last.Last.{Last}
 use Rattle.sg_engine.specs.Pace.{Pace, first_parts, pace_of}
 use Rattle.sg_engine.specs.Run.{Answering, Progress, run_of}
+use Rattle.sg_engine.specs.kept.Listed.{all_energy, how_lines, last_by, stuck_lines}
 use Rattle.sg_engine.specs.kept.Moments.{AreNeededBy, StaysOpen, Cast, LeavesContexts, Moment, moment, IsStretch, ending, names_of, script_in}
 
 -- how records are written as lines
@@ -96,7 +97,7 @@ abbrev pub how_in : Plan → Core → Ended → List ℕ
 how_in plan core how = how_lines plan.terms.show plan.platform.now plan.deployment.now plan.terms.budget core how
 
 abbrev pub last_in : Plan → Core → Ended → List ℕ
-last_in plan core how = last_lines plan.terms.show plan.platform.now plan.deployment.now plan.terms.budget core how
+last_in plan core how = last_by plan.terms.show plan.platform.now plan.deployment.now plan.terms.budget core how
 
 -- the run of a plan with so many contexts in the pool, by its script
 abbrev pub run_by : Plan → ℕ → Answering → Progress

@@ -14,7 +14,8 @@ use Rattle.sg_engine.specs.World.{World}
 use Rattle.sg_engine.specs.declared.ended.Ended.{Ended}
 use Rattle.sg_engine.specs.declared.ended.Ended.TheVariants as ended
 use Rattle.sg_engine.specs.Fuel.{parts_from}
-use Rattle.sg_engine.specs.Roles.{firsts_from, mind_at, minds_from}
+use Rattle.sg_engine.specs.Roles.{mind_at}
+use Rattle.sg_engine.specs.kept.Listed.{firsts_from, minds_from}
 use Rattle.sg_engine.specs.Run.{Scene, Answering, Progress, then_unless_ended, and_then_by, anyone_ready, are_completed, at_world, in_world, round, round_or_pass, run_from}
 use Rattle.sg_run_laws.specs.awaits.Runs.{Run, first_in, parts_in, run_to, scene_in, whole}
 use Rattle.sg_run_laws.specs.awaits.Runs as runs

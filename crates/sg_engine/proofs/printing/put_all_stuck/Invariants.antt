@@ -1,6 +1,6 @@
 use Rattle.std.proofs.Common.{◌+◌, ◌++◌, drop}
 use Rattle.sg_engine.specs.kept.Writing.{IsPut}
-use Rattle.sg_engine.specs.Output.{stuck_lines}
+use Rattle.sg_engine.specs.kept.Listed.{stuck_lines}
 use Rattle.sg_engine.proofs.printing.put_all_stuck.Given as goal
 
 abbrev pub invariant-loop-i : goal.invariant-loop-i

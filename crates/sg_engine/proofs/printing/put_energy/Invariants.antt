@@ -1,6 +1,6 @@
 use Rattle.std.proofs.Common.{◌++◌, drop}
 use Rattle.sg_engine.specs.kept.Writing.{IsPut}
-use Rattle.sg_engine.specs.Output.{energy_lines}
+use Rattle.sg_engine.specs.kept.Listed.{energy_lines}
 use Rattle.sg_engine.proofs.printing.put_energy.Given as goal
 
 abbrev pub invariant-loop-i : goal.invariant-loop-i
