@@ -11,7 +11,7 @@ use Rattle.sg_sync.specs.declared.outcome.Outcome.{Outcome}
 use Rattle.sg_sync.specs.declared.outcome.Outcome.TheVariants.{GoesOn, Waits, Refused}
 use Rattle.sg_sync.specs.Laws.{KeepsAll, comers}
 use Rattle.sg_sync.specs.Objects.{Objects, Done, waiting, owner_of, count_of, locked, locked_by, unlocked, unlocked_by, acquired, released, released_to, arrived}
-use Rattle.sg_sync.specs.Queues.{first_waiter, waiters_at, times}
+use Rattle.sg_sync.specs.Queues.{front, queue_at, times}
 use Rattle.sg_sync.proofs.Counts.{one, one_same, one_other, times_cons}
 use Rattle.sg_calls.specs.declared.simulation_state.Fields.{Fields}
 use Rattle.sg_states.specs.declared.state.State.{State}
@@ -144,7 +144,7 @@ release_like None semaphore o within = record {
 release_like (Some first) semaphore o within = record { owners = refl; counts = refl; actors = refl; few = λ bound few. few_more bound o.counts few; locking = refl; acquiring = length-set o.acquiring semaphore _ }
 
 pub released_like : (semaphore : ℕ) (o : Objects) → semaphore < length o.counts → IsLike o (released semaphore o).after
-released_like semaphore o within = release_like (first_waiter (waiters_at o.acquiring semaphore)) semaphore o within
+released_like semaphore o within = release_like (front (queue_at o.acquiring semaphore)) semaphore o within
 
 pub arrived_like : (actor : ActorId) (o : Objects) → IsLike o (arrived actor o).after
 arrived_like actor o = elim (cases_Bool (nat_lt (length o.arrived + 1) o.members)) [

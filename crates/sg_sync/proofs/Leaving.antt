@@ -7,7 +7,8 @@ use Rattle.std.proofs.lemmas.List.Sums.{length-filter, sum_by-cons}
 use Rattle.std.specs.Int.{from_bool}
 use Rattle.sg_base.specs.declared.ids.ActorId.{ActorId}
 use Rattle.sg_queues.proofs.Lists.{map_at}
-use Rattle.sg_sync.specs.Queues.{Waiting, IsActor, waiters_at, left, times, waits, without}
+use Rattle.sg_queues.specs.Rings.{queue_at}
+use Rattle.sg_sync.specs.Queues.{Waiting, IsActor, left, times, waits, without}
 use Rattle.sg_sync.specs.Objects.{Objects, waiting, after_withdrawal}
 use Rattle.sg_sync.specs.kept.Arrivals.{IsCounted}
 use Rattle.sg_sync.proofs.Counts.{id_same, one, one_other, times_cons}
@@ -46,10 +47,10 @@ waits_nowhere o actor = omega (arith, waits_gone actor o.locking, waits_gone act
 pub went : (w : Waiting) (here : List Bool) (count gone : ℕ) (actor : ActorId) → IsCounted w here count → IsActor w.actors actor → gone ≡ from_bool (get_or here actor.0 false)
     → IsCounted (record w { queues = left actor w.queues }) (set here actor.0 false) (count - gone)
 went w here count gone actor counted actor_is gone_is =
-    let queue : List ActorId = waiters_at w.queues 0 in
+    let queue : List ActorId = queue_at w.queues 0 in
     let here_is : ActorId → Bool = λ (other : ActorId). eqb other.0 actor.0 in
     let within : actor.0 < length here = omega (arith, counted.places, actor_is.1) in
-    let after : waiters_at (left actor w.queues) 0 ≡ without actor queue = map_at (without actor) [] w.queues 0 in
+    let after : queue_at (left actor w.queues) 0 ≡ without actor queue = map_at (without actor) [] w.queues 0 in
     record {
       one = length-map w.queues (without actor) ∙ counted.one;
       places = length-set here actor.0 false ∙ counted.places;

@@ -4,7 +4,8 @@ use Rattle.std.specs.Prelude.{nat_lt}
 use Rattle.std.proofs.lemmas.Bool.{cases_Bool}
 use Rattle.std.proofs.lemmas.Bool.Decides.{nat_tests}
 use Rattle.sg_base.specs.declared.ids.ActorId.{ActorId}
-use Rattle.sg_sync.specs.Queues.{waiters_at, first_waiter, times}
+use Rattle.sg_queues.specs.Rings.{queue_at, front}
+use Rattle.sg_sync.specs.Queues.{times}
 use Rattle.sg_sync.specs.Objects.{Objects, Done, owner_of, count_of, waiting, locked, locked_by, unlocked, unlocked_by, acquired, released, released_to, arrived}
 use Rattle.sg_sync.specs.declared.outcome.Outcome.{Outcome}
 use Rattle.sg_sync.specs.declared.outcome.Outcome.TheVariants.{GoesOn, Waits, Refused}
@@ -34,14 +35,14 @@ acquired_keeps o caller semaphore below actor = elim (cases_Bool (nat_lt 0 (coun
   | inr none ↦ rw none (omega (arith, waits_joined caller actor o.acquiring semaphore below, times_cons actor caller []))
 ]
 
-release_keeps : (first : Option ActorId) (o : Objects) (caller : ActorId) (semaphore : ℕ) → first ≡ first_waiter (waiters_at o.acquiring semaphore) → semaphore < length o.acquiring → KeepsAll caller o (released_to first semaphore o)
+release_keeps : (first : Option ActorId) (o : Objects) (caller : ActorId) (semaphore : ℕ) → first ≡ front (queue_at o.acquiring semaphore) → semaphore < length o.acquiring → KeepsAll caller o (released_to first semaphore o)
 release_keeps None o caller semaphore is below actor = omega arith
 release_keeps (Some first) o caller semaphore is below actor =
     let left = waits_left actor o.acquiring semaphore below in
     omega (arith, rw (← is) at left)
 
 pub released_keeps : (o : Objects) (caller : ActorId) (semaphore : ℕ) → semaphore < length o.acquiring → KeepsAll caller o (released semaphore o)
-released_keeps o caller semaphore below = release_keeps (first_waiter (waiters_at o.acquiring semaphore)) o caller semaphore refl below
+released_keeps o caller semaphore below = release_keeps (front (queue_at o.acquiring semaphore)) o caller semaphore refl below
 
 pub arrived_keeps : (o : Objects) (caller : ActorId) → KeepsAll caller o (arrived caller o)
 arrived_keeps o caller actor = elim (cases_Bool (nat_lt (length o.arrived + 1) o.members)) [

@@ -7,15 +7,15 @@ use Rattle.std.proofs.lemmas.List.Folds.{list_any-append}
 use Rattle.std.proofs.lemmas.List.Sums.{get_or-le-sum_by}
 use Rattle.sg_base.specs.declared.ids.ActorId.{ActorId}
 use Rattle.sg_queues.specs.Rings as rings
-use Rattle.sg_queues.specs.Rings.{Rings, is_in, rows_of, IsAlone, IsApart, IsSlot}
+use Rattle.sg_queues.specs.Rings.{Rings, behind, is_in, queue_at, rows_of, IsAlone, IsApart, IsSlot}
 use Rattle.sg_queues.proofs.Entries.{front_in}
 use Rattle.sg_queues.proofs.Lists.{map_at, popped, none_of, left_of}
 use Rattle.sg_queues.proofs.Rows.{absent_from}
-use Rattle.sg_sync.specs.Queues.{waiters_at, waiters_behind, left, shortened, times, waits}
+use Rattle.sg_sync.specs.Queues.{left, shortened, times, waits}
 use Rattle.sg_sync.specs.kept.Slots.{actor_of, actors_in, waiting_in, AreActors, AreKept}
 use Rattle.sg_sync.proofs.Counts.{one_same, times_cons}
 
-pub waiting_at : (queues : List (List ℕ)) (q : ℕ) → waiters_at (waiting_in queues) q ≡ actors_in (rings.queue_at queues q)
+pub waiting_at : (queues : List (List ℕ)) (q : ℕ) → queue_at (waiting_in queues) q ≡ actors_in (queue_at queues q)
 waiting_at queues q = map_at (map actor_of) [] queues q
 
 -- who waits in none is in none
@@ -28,10 +28,10 @@ absent actor (slot ∷ slots) none =
       | inr apart ↦ rw (ne_eqb actor.0 slot (λ e. apart (sym e))) (absent actor slots (omega (arith, none, count)))
     ]
 
-nowhere : (queues : List (List ℕ)) (actor : ActorId) → waits actor (waiting_in queues) ≡ 0 → (q : ℕ) → is_in actor.0 (rings.queue_at queues q) ≡ false
+nowhere : (queues : List (List ℕ)) (actor : ActorId) → waits actor (waiting_in queues) ≡ 0 → (q : ℕ) → is_in actor.0 (queue_at queues q) ≡ false
 nowhere queues actor free q = elim (cases_lt q (length queues)) [
   | inl below ↦
-      absent actor (rings.queue_at queues q)
+      absent actor (queue_at queues q)
       (omega (arith, get_or-le-sum_by (times actor) (waiting_in queues) q [] (omega (arith, below, length-map queues (map actor_of))), ap (times actor) (waiting_at queues q), free))
   | inr past ↦ ap (is_in actor.0) (get_or_past queues q [] past)
 ]
@@ -44,17 +44,17 @@ alone_is now actor none free (suc q) = nowhere now.queues actor free q
 pub left_is : (queues : List (List ℕ)) (actor : ActorId) → waiting_in (rings.left actor.0 queues) ≡ left actor (waiting_in queues)
 left_is queues actor = left_of actor_of (λ (other : ActorId). not (eqb other.0 actor.0)) queues
 
-behind_is : (slots : List ℕ) → actors_in (rings.behind slots) ≡ waiters_behind (actors_in slots)
+behind_is : (slots : List ℕ) → actors_in (behind slots) ≡ behind (actors_in slots)
 behind_is [] = refl
 behind_is (slot ∷ slots) = refl
 
 -- the first leaves its queue alone
-pub shortened_is : (now : Rings) (queue slot : ℕ) → IsApart now → queue < length now.queues → rings.front (rings.queue_at now.queues queue) ≡ Some slot → waiting_in (rings.left slot now.queues) ≡ shortened (waiting_in now.queues) queue
+pub shortened_is : (now : Rings) (queue slot : ℕ) → IsApart now → queue < length now.queues → rings.front (queue_at now.queues queue) ≡ Some slot → waiting_in (rings.left slot now.queues) ≡ shortened (waiting_in now.queues) queue
 shortened_is now queue slot apart within is =
-    let slots : List ℕ = rings.queue_at now.queues queue in
+    let slots : List ℕ = queue_at now.queues queue in
     ap waiting_in (popped (λ x. x) now.queues queue slot within is (apart.once (suc queue))
-    (λ other differs. none_of slot (rings.queue_at now.queues other) (absent_from apart (suc queue) (suc other) slot (front_in slots slot is) (λ e. differs (omega (arith, e))))))
-    ∙ map-set (map actor_of) now.queues queue (rings.behind slots) ∙ ap (set (waiting_in now.queues) queue) (behind_is slots ∙ ap waiters_behind (sym (waiting_at now.queues queue)))
+    (λ other differs. none_of slot (queue_at now.queues other) (absent_from apart (suc queue) (suc other) slot (front_in slots slot is) (λ e. differs (omega (arith, e))))))
+    ∙ map-set (map actor_of) now.queues queue (behind slots) ∙ ap (set (waiting_in now.queues) queue) (behind_is slots ∙ ap behind (sym (waiting_at now.queues queue)))
 
 -- one more head is no actor
 pub head_more : (actors nodes : ℕ) (heads : List ℕ) → actors < nodes → AreActors actors nodes heads → AreActors actors (nodes + 1) (heads ++ nodes ∷ [])

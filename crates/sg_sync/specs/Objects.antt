@@ -4,7 +4,8 @@ use Rattle.std.specs.Option.{option_to_list}
 use Rattle.sg_base.specs.declared.ids.ActorId.{ActorId}
 use Rattle.sg_sync.specs.declared.outcome.Outcome.{Outcome}
 use Rattle.sg_sync.specs.declared.outcome.Outcome.TheVariants.{GoesOn, Waits, Refused}
-use Rattle.sg_sync.specs.Queues.{waiters_at, first_waiter, with_waiter, left, shortened, times, waits, without}
+use Rattle.sg_queues.specs.Rings.{queue_at, front}
+use Rattle.sg_sync.specs.Queues.{with_waiter, left, shortened, times, waits, without}
 
 -- the owner of each mutex and who waits for it; the count of each semaphore and who waits there; who has arrived at the barrier, in order, and its number of members; and who else continued by the last
 -- call
@@ -51,7 +52,7 @@ refused o = record { outcome = Refused; after = record o { others = [] } }
 -- the first that waits owns the mutex and continues, or nobody owns it
 abbrev pub passed_on : ℕ → Objects → Done
 passed_on mutex o =
-    let first = first_waiter (waiters_at o.locking mutex) in
+    let first = front (queue_at o.locking mutex) in
     record { outcome = GoesOn; after = record o { owners = slice_set o.owners mutex first; locking = shortened o.locking mutex; others = option_to_list first } }
 
 -- by its owner alone
@@ -77,7 +78,7 @@ released_to (Some first) semaphore o = record { outcome = GoesOn; after = record
 
 -- a release: the first that waits for the semaphore continues, or its count rises by one
 abbrev pub released : ℕ → Objects → Done
-released semaphore o = released_to (first_waiter (waiters_at o.acquiring semaphore)) semaphore o
+released semaphore o = released_to (front (queue_at o.acquiring semaphore)) semaphore o
 
 -- the last of the members makes all continue, in order of arrival, and the barrier begins anew; the others wait
 abbrev pub arrived : ActorId → Objects → Done

@@ -1,7 +1,9 @@
 -- First-in-first-out queues of actors.
-use Rattle.std.specs.Prelude.{ℕ, ◌<◌, ◌≤◌, ◌==◌, not, List, [], ◌∷◌, ◌++◌, map, filter, Option, None, Some, slice_index_or, slice_set}
+use Rattle.std.specs.Prelude.{ℕ, ◌<◌, ◌≤◌, ◌==◌, not, List, [], ◌∷◌, ◌++◌, map, filter, slice_set}
 use Rattle.std.specs.List.{sum_by, count_by}
 use Rattle.sg_base.specs.declared.ids.ActorId.{ActorId}
+-- the queue of a number, its first, and those after the first
+pub use Rattle.sg_queues.specs.Rings.{behind, front, queue_at}
 
 -- so many actors, and who waits in each queue, the first in front
 pub record Waiting : Type 0 where
@@ -11,27 +13,13 @@ pub record Waiting : Type 0 where
 abbrev pub IsActor : ℕ → ActorId → Type 0
 IsActor actors actor = (0 < actor.0) × (actor.0 ≤ actors)
 
--- the actors in the queue of a number, the first in front
-abbrev pub waiters_at : List (List ActorId) → ℕ → List ActorId
-waiters_at queues at = slice_index_or queues at []
-
--- who is first in a queue; none: nobody waits there
-abbrev pub first_waiter : List ActorId → Option ActorId
-first_waiter [] = None
-first_waiter (actor ∷ rest) = Some actor
-
--- those that wait after the first of a queue
-abbrev pub waiters_behind : List ActorId → List ActorId
-waiters_behind [] = []
-waiters_behind (actor ∷ rest) = rest
-
 -- an actor joins a queue at its end
 abbrev pub with_waiter : List (List ActorId) → ℕ → ActorId → List (List ActorId)
-with_waiter queues at actor = slice_set queues at (waiters_at queues at ++ actor ∷ [])
+with_waiter queues at actor = slice_set queues at (queue_at queues at ++ actor ∷ [])
 
 -- the first leaves a queue, if anybody waits there
 abbrev pub shortened : List (List ActorId) → ℕ → List (List ActorId)
-shortened queues at = slice_set queues at (waiters_behind (waiters_at queues at))
+shortened queues at = slice_set queues at (behind (queue_at queues at))
 
 -- a queue that an actor leaves, from wherever it stands there
 abbrev pub without : ActorId → List ActorId → List ActorId

@@ -1,7 +1,8 @@
 //! Those that have arrived at the barrier.
 ghost use Rattle.std.specs.Prelude.{◌≡◌, ◌<◌, ◌≤◌, ◌+◌, ◌^◌, [], ◌∷◌, length, IfOk};
 ghost use Rattle.sg_sync.specs.Waits.{CanJoin};
-ghost use Rattle.sg_sync.specs.Queues.{IsActor, first_waiter, with_waiter, left, waiters_at, shortened};
+ghost use Rattle.sg_queues.specs.Rings.{front, queue_at};
+ghost use Rattle.sg_sync.specs.Queues.{IsActor, with_waiter, left, shortened};
 
 use crate::queues::Queues;
 use sg_base::{ActorId, Memory};
@@ -45,7 +46,7 @@ impl Arrivals {
 
     /// Returns how many wait.
     pub(crate) fn len(&self) -> u32
-        ensures len { result ≡ length (waiters_at self.now.queues 0) }
+        ensures len { result ≡ length (queue_at self.now.queues 0) }
         ensures few { result ≤ self.now.actors + 2 }
     {
         self.len
@@ -54,7 +55,7 @@ impl Arrivals {
     /// Puts an actor after all others.
     pub(crate) fn join(&mut self, actor: ActorId)
         requires joins { CanJoin self.old actor }
-        requires few { length (waiters_at self.old.queues 0) + 1 < 2 ^ 32 }
+        requires few { length (queue_at self.old.queues 0) + 1 < 2 ^ 32 }
         ensures { self.new ≡ record self.old { queues = with_waiter self.old.queues 0 actor } }
     {
         self.queues.join(QUEUE, actor);
@@ -64,7 +65,7 @@ impl Arrivals {
 
     /// Removes and returns the first.
     pub(crate) fn take_first(&mut self) -> Option<ActorId>
-        ensures first { result ≡ first_waiter (waiters_at self.old.queues 0) }
+        ensures first { result ≡ front (queue_at self.old.queues 0) }
         ensures shortened { self.new
             ≡ record self.old { queues = shortened self.old.queues 0 } }
     {

@@ -1,7 +1,8 @@
 //! First-in-first-out queues of actors, which also release actors from the middle.
 ghost use Rattle.std.specs.Prelude.{◌≡◌, ◌<◌, ◌≤◌, ◌+◌, [], length, replicate, IfOk, IfSome};
 ghost use Rattle.sg_sync.specs.Waits.{CanJoin};
-ghost use Rattle.sg_sync.specs.Queues.{IsActor, first_waiter, with_waiter, left, waiters_at, shortened};
+ghost use Rattle.sg_queues.specs.Rings.{front, queue_at};
+ghost use Rattle.sg_sync.specs.Queues.{IsActor, with_waiter, left, shortened};
 
 use sg_base::{ActorId, Memory};
 use sg_queues::Rings;
@@ -51,7 +52,7 @@ impl Queues {
         ensures joined { self.new ≡ record self.old {
           queues = with_waiter self.old.queues queue actor;
         } }
-        ensures few { length (waiters_at self.new.queues queue)
+        ensures few { length (queue_at self.new.queues queue)
             ≤ self.old.actors + length self.old.queues + 1 }
     {
         self.rings.join(actor.0 as usize, queue as usize);
@@ -60,7 +61,7 @@ impl Queues {
     /// Removes and returns the first of a queue.
     pub(crate) fn take_first(&mut self, queue: u32) -> Option<ActorId>
         requires { queue < length self.old.queues }
-        ensures first { result ≡ first_waiter (waiters_at self.old.queues queue) }
+        ensures first { result ≡ front (queue_at self.old.queues queue) }
         ensures shortened { self.new
             ≡ record self.old { queues = shortened self.old.queues queue } }
         ensures actor { IfSome result (λ actor. actor.0 ≤ self.old.actors) }

@@ -1,7 +1,8 @@
 //! The objects at which actors wait for one another.
 ghost use Rattle.std.specs.Prelude.{◌≡◌, ◌<◌, ◌≤◌, ◌+◌, ◌∷◌, ◌++◌, ◌^◌, [], None, IfOk, length, replicate};
 ghost use Rattle.std.specs.Vec.{vec_capacity};
-ghost use Rattle.sg_sync.specs.Queues.{IsActor, waiters_at};
+ghost use Rattle.sg_queues.specs.Rings.{queue_at};
+ghost use Rattle.sg_sync.specs.Queues.{IsActor};
 ghost use Rattle.sg_sync.specs.Objects.{acquired, arrived, count_of, locked, passed_on, released, unlocked, after_withdrawal};
 ghost use Rattle.sg_sync.specs.Waits.{CanWait};
 
@@ -44,7 +45,7 @@ impl Drop for Sync {
 impl Model for Sync {
     ghost use Rattle.std.specs.Prelude.{◌≡◌, ◌≤◌, length};
     ghost use Rattle.std.specs.Vec.{vec_capacity};
-    ghost use Rattle.sg_sync.specs.Queues.{waiters_at};
+    ghost use Rattle.sg_queues.specs.Rings.{queue_at};
     ghost use Rattle.sg_sync.specs.Objects.{Objects};
     ghost use Rattle.sg_sync.specs.kept.Objects.{IsKept};
 
@@ -57,7 +58,7 @@ impl Model for Sync {
       counts = s.counts.items;
       acquiring = s.acquiring.queues;
       members = s.members;
-      arrived = waiters_at s.arrived.queues 0;
+      arrived = queue_at s.arrived.queues 0;
       others = s.others.items;
     } };
 
@@ -81,9 +82,9 @@ fn tell(others: &mut Vec<ActorId>, actor: ActorId)
 fn tell_all(others: &mut Vec<ActorId>, arrived: &mut Arrivals)
     requires queue { length arrived.old.queues ≡ 1 }
     requires none { others.old.items ≡ [] }
-    requires few { length (waiters_at arrived.old.queues 0) ≤ arrived.old.actors + 2 }
+    requires few { length (queue_at arrived.old.queues 0) ≤ arrived.old.actors + 2 }
     requires room { arrived.old.actors + 2 ≤ vec_capacity others.old }
-    ensures all { others.new.items ≡ waiters_at arrived.old.queues 0 }
+    ensures all { others.new.items ≡ queue_at arrived.old.queues 0 }
     ensures capacity { vec_capacity others.old ≤ vec_capacity others.new }
     ensures left { arrived.new ≡ record arrived.old { queues = [] ∷ [] } }
 {

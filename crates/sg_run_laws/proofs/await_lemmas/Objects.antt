@@ -12,7 +12,7 @@ use Rattle.sg_sync.specs.declared.outcome.Outcome.{Outcome}
 use Rattle.sg_sync.specs.declared.outcome.Outcome.TheVariants.{GoesOn, Waits, Refused}
 use Rattle.sg_sync.specs.Laws.{comers}
 use Rattle.sg_sync.specs.Objects.{Objects, Done, acquired, arrived, count_of, locked, locked_by, owner_of, passed_on, refused, released, released_to, unlocked, unlocked_by, waiting}
-use Rattle.sg_sync.specs.Queues.{waiters_behind, first_waiter, waiters_at, times, waits}
+use Rattle.sg_sync.specs.Queues.{behind, front, queue_at, times, waits}
 use Rattle.sg_sync.proofs.Counts.{one, one_other, times_cons}
 use Rattle.sg_sync.proofs.Losses.{acquired_keeps, arrived_keeps, locked_keeps, released_keeps, unlocked_keeps}
 use Rattle.sg_calls.specs.Locks.{all_wake, caller_first, caller_gets, caller_last, with_objects}
@@ -36,7 +36,7 @@ locked_most o caller mutex = elim (cases_lt mutex (length o.locking)) [
   where
     by : (owner : Option ActorId) → length o.locking ≤ mutex → AtMost caller o (locked_by owner caller mutex o)
     by None past actor = omega arith
-    by (Some owner) past actor = omega (arith, ap (waits actor) (set_past o.locking mutex (waiters_at o.locking mutex ++ caller ∷ []) past))
+    by (Some owner) past actor = omega (arith, ap (waits actor) (set_past o.locking mutex (queue_at o.locking mutex ++ caller ∷ []) past))
 
 pub unlocked_most : (o : Objects) (caller : ActorId) (mutex : ℕ) → AtMost caller o (unlocked caller mutex o)
 unlocked_most o caller mutex = elim (cases_lt mutex (length o.locking)) [
@@ -46,7 +46,7 @@ unlocked_most o caller mutex = elim (cases_lt mutex (length o.locking)) [
   where
     cases : (b : Bool) → length o.locking ≤ mutex → AtMost caller o (cond b (passed_on mutex o) (refused o))
     cases true past actor =
-        omega (arith, ap (waits actor) (set_past o.locking mutex (waiters_behind (waiters_at o.locking mutex)) past), ap (λ q. times actor (option_to_list (first_waiter q))) (get_or_past o.locking mutex [] past))
+        omega (arith, ap (waits actor) (set_past o.locking mutex (behind (queue_at o.locking mutex)) past), ap (λ q. times actor (option_to_list (front q))) (get_or_past o.locking mutex [] past))
     cases false past actor = omega arith
 
     by : (owner : Option ActorId) → length o.locking ≤ mutex → AtMost caller o (unlocked_by owner caller mutex o)
@@ -58,14 +58,14 @@ acquired_most o caller semaphore = elim (cases_lt semaphore (length o.acquiring)
   | inl below ↦ λ actor. omega (arith, acquired_keeps o caller semaphore below actor)
   | inr past ↦ λ actor. elim (cases_Bool (nat_lt 0 (count_of o semaphore))) [
     | inl some ↦ rw some (omega arith)
-    | inr none ↦ rw none (omega (arith, ap (waits actor) (set_past o.acquiring semaphore (waiters_at o.acquiring semaphore ++ caller ∷ []) past)))
+    | inr none ↦ rw none (omega (arith, ap (waits actor) (set_past o.acquiring semaphore (queue_at o.acquiring semaphore ++ caller ∷ []) past)))
   ]
 ]
 
 pub released_most : (o : Objects) (caller : ActorId) (semaphore : ℕ) → AtMost caller o (released semaphore o)
 released_most o caller semaphore = elim (cases_lt semaphore (length o.acquiring)) [
   | inl below ↦ λ actor. omega (arith, released_keeps o caller semaphore below actor)
-  | inr past ↦ subst (λ q. AtMost caller o (released_to (first_waiter q) semaphore o)) (sym (get_or_past o.acquiring semaphore [] past)) (λ actor. omega arith)
+  | inr past ↦ subst (λ q. AtMost caller o (released_to (front q) semaphore o)) (sym (get_or_past o.acquiring semaphore [] past)) (λ actor. omega arith)
 ]
 
 one_few : (a b : ActorId) → one a b ≤ 1
