@@ -8,7 +8,8 @@ use Rattle.sg_activity.specs.Laws.{IsSameHost, asked_of, asked_on}
 use Rattle.sg_activity.specs.Links.{Capacities}
 use Rattle.sg_activity.specs.Power.{is_there, loads}
 use Rattle.sg_lives.specs.Slots.{passes, sooner}
-use Rattle.sg_activity.specs.Task.{Place, nowhere, on_host, over, Task, flow_at, flow_of, is_filled, task_at}
+use Rattle.sg_lives.specs.Kinds.{takes_share}
+use Rattle.sg_activity.specs.Task.{Place, nowhere, on_host, over, Task, flow_at, flow_of, task_at}
 use Rattle.sg_activity.specs.Underway.{Underway, with_next_serial, later, passed, with_rates_updated, started, with_bandwidth, with_host_on, with_link_on, with_speed, with_task}
 
 -- what a phase that takes no share of the host asks of it
@@ -65,7 +66,7 @@ module _ (under : Underway) (host : ℕ) where
   -- what an execution asks for follows from its host
   asked_at : (new : Capacities) → host_at new.hosts host ≡ host_at under.capacities.hosts host → (o : Option Task) → asked_on new host o ≡ asked_on under.capacities host o
   asked_at new same None = refl
-  asked_at new same (Some t) = go (is_filled t) t.place
+  asked_at new same (Some t) = go (takes_share t.kind) t.place
     where
       eqb_is : (a b : ℕ) → (a == b) ≡ true → a ≡ b
       eqb_is a b e = grind arith

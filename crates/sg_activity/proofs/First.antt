@@ -9,7 +9,7 @@ use Rattle.sg_lives.specs.declared.kinds.HostCap.{HostCap}
 use Rattle.sg_lives.specs.declared.kinds.LinkCap.{LinkCap}
 use Rattle.sg_lives.specs.declared.lives.Live.{Live}
 use Rattle.sg_activity.specs.Doing.{idle_on}
-use Rattle.sg_activity.specs.Links.{Switches, all_on, machines}
+use Rattle.sg_activity.specs.Links.{Switches, machines}
 use Rattle.sg_lives.specs.Slots.{listed}
 use Rattle.sg_lives.specs.Pool.{slot_at}
 use Rattle.sg_activity.specs.kept.Metered.{metered_in}
@@ -31,7 +31,7 @@ first_kept s slots keys runs fresh = record {
   rates = λ set id running e. absurd (none_is (ap (λ l. running_at l id) runs) e);
 }
 
-pub first_told : (hosts : List HostCap) (links : List LinkCap) (slots : List (Option Live)) (ways : ℕ → List LinkId) (keys : List (Option Key)) (runs : List (Option RunningFlow)) (by_flow fresh : List ℕ) (ended : List Flow) (resources : List ℕ) (on : Switches) (energy : List ℕ) → ended ≡ [] → resources ≡ [] → on ≡ all_on (machines hosts links) → energy ≡ replicate (length hosts) 0 →
+pub first_told : (hosts : List HostCap) (links : List LinkCap) (slots : List (Option Live)) (ways : ℕ → List LinkId) (keys : List (Option Key)) (runs : List (Option RunningFlow)) (by_flow fresh : List ℕ) (ended : List Flow) (resources : List ℕ) (on : Switches) (energy : List ℕ) → ended ≡ [] → resources ≡ [] → on ≡ record { hosts = map (λ _. true) hosts; links = map (λ _. true) links } → energy ≡ replicate (length hosts) 0 →
     metered_in energy (doing_of (record { capacities = machines hosts links; on = on; date = 0; drawn = 0; slots = slots; ways = ways; keys = keys; runs = runs; by_flow = by_flow; fresh = fresh; ended = ended; resources = resources; settled = false; arrived = false }) 0) ≡ idle_on hosts links
 unfolding listed
 first_told hosts links slots ways keys runs by_flow fresh ended resources on energy gone same all used =

@@ -12,9 +12,10 @@ use Rattle.sg_maxmin.proofs.Sums.{sum_by_same, sum_by-filter}
 use Rattle.sg_lazy.specs.Touch.{touches}
 use Rattle.sg_lazy.proofs.Parts.{keeps_rate_lem}
 use Rattle.sg_lives.specs.declared.kinds.HostCap.{HostCap}
-use Rattle.sg_activity.specs.Hosts.{host_at, offer_of, offers_of}
+use Rattle.sg_lives.specs.declared.kinds.LinkCap.{LinkCap}
+use Rattle.sg_activity.specs.Hosts.{host_at, offer_of}
 use Rattle.sg_activity.specs.Laws.{IsHostOf, IsSameHost, LoadFits, LoadIsItsOwn, PowerIsItsOwn, asked_of, asked_on}
-use Rattle.sg_activity.specs.Links.{Capacities, bandwidths_of, capacities_of, is_off, link_at}
+use Rattle.sg_activity.specs.Links.{Capacities, capacities_of, is_off, link_at}
 use Rattle.sg_activity.specs.Power.{is_there, load_by, loads, part_of_load, power_in}
 use Rattle.sg_lives.specs.Slots.{passes}
 use Rattle.sg_activity.specs.Task.{Place, nowhere, on_host, over, Task, flow_at, flow_in, flow_of, flows}
@@ -64,7 +65,7 @@ module _ (c : Capacities) (host : ℕ) where
     on_place : (t : Task) (place : Place) → is_on host (flow_at c t place) ≡ is_there host place
     on_place t nowhere = refl
     on_place t (on_host k) = or-false (k == host)
-    on_place t (over way) = none_here host (length c.hosts) (filter (λ link. not (link_at c.links link).fatpipe) way.links) exists
+    on_place t (over way) = none_here host (length c.hosts) (filter (λ link. not (link_at c.links link.0).fatpipe) way.links) exists
 
     -- nothing else uses the host
     pub asked_filter : (tasks : List (Option Task)) → filter (is_on host) (flows c tasks) ≡ asked tasks
@@ -98,7 +99,7 @@ module _ (c : Capacities) (host : ℕ) where
 
     pub offer_there : slice_index (capacities_of c) host ≡ offer_of (host_at c.hosts host)
     offer_there =
-        get_or_append_left (offers_of c.hosts) (bandwidths_of c.links) 0 host (omega (arith, exists, length-map c.hosts offer_of))
+        get_or_append_left (map offer_of c.hosts) (map (λ (link : LinkCap). link.bandwidth) c.links) 0 host (omega (arith, exists, length-map c.hosts offer_of))
         ∙ get_or-map offer_of c.hosts host (record { speed = 0; cores = 0; power = None }) 0 exists
 
 -- ---- the load by what they ask for

@@ -17,7 +17,7 @@ use Rattle.sg_lives.specs.declared.lives.Live.{Live}
 use Rattle.sg_activity.specs.Links.{Capacities, capacities_of}
 use Rattle.sg_lives.specs.Slots.{passes}
 use Rattle.sg_activity.specs.Task.{Task, flow_in, flow_of, flows, task_at}
-use Rattle.sg_lives.specs.Kinds.{takes_share, pace, wait_by}
+use Rattle.sg_lives.specs.Kinds.{takes_share, pace, is_held}
 use Rattle.sg_activity.specs.Underway.{rate, wait, wait_in, running_under, runnings, work_of}
 use Rattle.sg_activity.specs.kept.Stamps.{left_at}
 use Rattle.sg_lives.specs.Pool.{slot_at, IsMissing}
@@ -232,5 +232,5 @@ module _ (s : State) (is : IsKept s) where
           (subst (λ l. Contains l (asked_by s key live)) (mapped_held s.runs) (is_held_lem (map (option_map (λ (r : RunningFlow). r.flow)) s.runs) live.flow (asked_by s key live) (mapped_there s.runs live.flow (run_of s key live has.marked) has.runs))))
       cases false empty = sym ((is.each key live at).paced empty)
 
-  pub wait_told : IsTrue s.settled → (key : ℕ) (live : Live) → slot_at s.slots key ≡ Some live → wait_in (under_of s) (task_of s key live) ≡ wait_by live.kind (wait live.rate (left_at live.kept live.rate live.stamp s.date))
-  wait_told set key live at = ap (λ r. wait_by live.kind (wait r (left_at live.kept live.rate live.stamp s.date))) (rate_told set key live at)
+  pub wait_told : IsTrue s.settled → (key : ℕ) (live : Live) → slot_at s.slots key ≡ Some live → wait_in (under_of s) (task_of s key live) ≡ cond (is_held live.kind) None (wait live.rate (left_at live.kept live.rate live.stamp s.date))
+  wait_told set key live at = ap (λ r. cond (is_held live.kind) None (wait r (left_at live.kept live.rate live.stamp s.date))) (rate_told set key live at)

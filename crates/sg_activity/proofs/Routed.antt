@@ -8,18 +8,18 @@ use Rattle.sg_maxmin.specs.Fill.{flow}
 use Rattle.sg_maxmin.specs.Sharing.{IsFlow}
 use Rattle.sg_lives.specs.declared.kinds.LinkCap.{LinkCap}
 use Rattle.sg_lives.specs.Slots.{sooner}
-use Rattle.sg_activity.specs.Hosts.{offer_of, offers_of}
-use Rattle.sg_activity.specs.Links.{Capacities, capacities_of, bandwidths_of, bound_of_link, link_at, route_bound, shared_of}
+use Rattle.sg_activity.specs.Hosts.{offer_of}
+use Rattle.sg_activity.specs.Links.{Capacities, capacities_of, bound_of_link, link_at, route_bound, shared_of}
 use Rattle.sg_activity.specs.kept.Sound.{IsWay}
 use Rattle.sg_activity.proofs.Times.{sooner_assoc, sooner_never}
 
 -- ---- the bound, as a loop continues
 pub bound_more : (links : List LinkCap) (bound : Option ℕ) (route : List LinkId) (i : ℕ) (d : LinkId) → i < length route →
-    sooner bound (route_bound links (drop i route)) ≡ sooner (sooner bound (bound_of_link (link_at links (get_or route i d)))) (route_bound links (drop (i + 1) route))
+    sooner bound (route_bound links (drop i route)) ≡ sooner (sooner bound (bound_of_link (link_at links (get_or route i d).0))) (route_bound links (drop (i + 1) route))
 unfolding route_bound
 bound_more links bound route i d within =
     at_drop_more (λ l. sooner bound (route_bound links l)) route i d within
-    ∙ sym (sooner_assoc bound (bound_of_link (link_at links (get_or route i d))) (route_bound links (drop (i + 1) route)))
+    ∙ sym (sooner_assoc bound (bound_of_link (link_at links (get_or route i d).0)) (route_bound links (drop (i + 1) route)))
 
 pub bound_done : (links : List LinkCap) (bound : Option ℕ) → sooner bound (route_bound links []) ≡ bound
 unfolding route_bound
@@ -42,13 +42,13 @@ pairs_tail R x xs h i j d less within = h (suc i) (suc j) d (omega (arith, less)
 -- ---- the resources
 shared_exist : (hosts most : ℕ) (links : List LinkCap) (route : List LinkId) → hosts + length links ≤ most → All (λ (link : LinkId). link.0 < length links) route → All (λ resource. resource < most) (shared_of hosts links route)
 shared_exist hosts most links [] le exist = λ k d within. absurd (omega (arith, within))
-shared_exist hosts most links (link ∷ route) le exist = cases (link_at links link).fatpipe (shared_exist hosts most links route le (all_tail (λ (l : LinkId). l.0 < length links) link route exist))
+shared_exist hosts most links (link ∷ route) le exist = cases (link_at links link.0).fatpipe (shared_exist hosts most links route le (all_tail (λ (l : LinkId). l.0 < length links) link route exist))
   where
     head : link.0 < length links
     head = exist 0 link (omega arith)
 
     rest : List LinkId
-    rest = filter (λ l. not (link_at links l).fatpipe) route
+    rest = filter (λ l. not (link_at links l.0).fatpipe) route
 
     cases : (b : Bool) → All (λ resource. resource < most) (shared_of hosts links route) → All (λ resource. resource < most) (map (λ (l : LinkId). hosts + l.0) (cond (not b) (link ∷ rest) rest))
     cases true more = more
@@ -56,10 +56,10 @@ shared_exist hosts most links (link ∷ route) le exist = cases (link_at links l
 
 shared_other : (hosts : ℕ) (links : List LinkCap) (link : LinkId) (route : List LinkId) → All (λ l. link ≢ l) route → All (λ resource. hosts + link.0 ≢ resource) (shared_of hosts links route)
 shared_other hosts links link [] other = λ k d within. absurd (omega (arith, within))
-shared_other hosts links link (l ∷ route) other = cases (link_at links l).fatpipe (shared_other hosts links link route (all_tail (λ m. link ≢ m) l route other))
+shared_other hosts links link (l ∷ route) other = cases (link_at links l.0).fatpipe (shared_other hosts links link route (all_tail (λ m. link ≢ m) l route other))
   where
     rest : List LinkId
-    rest = filter (λ m. not (link_at links m).fatpipe) route
+    rest = filter (λ m. not (link_at links m.0).fatpipe) route
 
     apart : hosts + link.0 ≢ hosts + l.0
     apart same = other 0 l (omega arith) (let e : link.0 ≡ l.0 = omega (arith, same) in ap (λ n. record { 0 = n }) e)
@@ -70,10 +70,10 @@ shared_other hosts links link (l ∷ route) other = cases (link_at links l).fatp
 
 shared_once : (hosts : ℕ) (links : List LinkCap) (route : List LinkId) → AllPairs (λ a b. a ≢ b) route → AllPairs (λ a b. a ≢ b) (shared_of hosts links route)
 shared_once hosts links [] once = λ i j d less within. absurd (omega (arith, within))
-shared_once hosts links (link ∷ route) once = cases (link_at links link).fatpipe (shared_once hosts links route (pairs_tail (λ a b. a ≢ b) link route once))
+shared_once hosts links (link ∷ route) once = cases (link_at links link.0).fatpipe (shared_once hosts links route (pairs_tail (λ a b. a ≢ b) link route once))
   where
     rest : List LinkId
-    rest = filter (λ l. not (link_at links l).fatpipe) route
+    rest = filter (λ l. not (link_at links l.0).fatpipe) route
 
     cases : (b : Bool) → AllPairs (λ a c. a ≢ c) (shared_of hosts links route) → AllPairs (λ a c. a ≢ c) (map (λ (l : LinkId). hosts + l.0) (cond (not b) (link ∷ rest) rest))
     cases true more = more
@@ -82,10 +82,10 @@ shared_once hosts links (link ∷ route) once = cases (link_at links link).fatpi
 -- as many as links at most
 pub shared_few : (hosts : ℕ) (links : List LinkCap) (route : List LinkId) → length (shared_of hosts links route) ≤ length route
 shared_few hosts links [] = omega arith
-shared_few hosts links (link ∷ route) = cases (link_at links link).fatpipe (shared_few hosts links route)
+shared_few hosts links (link ∷ route) = cases (link_at links link.0).fatpipe (shared_few hosts links route)
   where
     rest : List LinkId
-    rest = filter (λ l. not (link_at links l).fatpipe) route
+    rest = filter (λ l. not (link_at links l.0).fatpipe) route
 
     cases : (b : Bool) → length (shared_of hosts links route) ≤ length route → length (map (λ (l : LinkId). hosts + l.0) (cond (not b) (link ∷ rest) rest)) ≤ suc (length route)
     cases true fewer = omega (arith, fewer)
@@ -99,16 +99,16 @@ sooner_some n (Some m) = refl
 bounded : (hosts : ℕ) (links : List LinkCap) (route : List LinkId) → route ≢ [] → shared_of hosts links route ≡ [] → IsSome (route_bound links route)
 unfolding route_bound
 bounded hosts links [] some none = absurd (some refl)
-bounded hosts links (link ∷ route) some none = cases (link_at links link).fatpipe none
+bounded hosts links (link ∷ route) some none = cases (link_at links link.0).fatpipe none
   where
-    cases : (b : Bool) → map (λ (l : LinkId). hosts + l.0) (cond (not b) (link ∷ filter (λ l. not (link_at links l).fatpipe) route) (filter (λ l. not (link_at links l).fatpipe) route)) ≡ [] → IsSome (sooner (cond b (Some (link_at links link).bandwidth) None) (route_bound links route))
-    cases true e = sooner_some (link_at links link).bandwidth (route_bound links route)
+    cases : (b : Bool) → map (λ (l : LinkId). hosts + l.0) (cond (not b) (link ∷ filter (λ l. not (link_at links l.0).fatpipe) route) (filter (λ l. not (link_at links l.0).fatpipe) route)) ≡ [] → IsSome (sooner (cond b (Some (link_at links link.0).bandwidth) None) (route_bound links route))
+    cases true e = sooner_some (link_at links link.0).bandwidth (route_bound links route)
     cases false e = absurd (cc e)
 
 pub resources_are : (capacities : Capacities) → length (capacities_of capacities) ≡ length capacities.hosts + length capacities.links
 resources_are capacities =
-    length-append (offers_of capacities.hosts) (bandwidths_of capacities.links)
-    ∙ ap (λ n. n + length (bandwidths_of capacities.links)) (length-map capacities.hosts offer_of)
+    length-append (map offer_of capacities.hosts) (map (λ (link : LinkCap). link.bandwidth) capacities.links)
+    ∙ ap (λ n. n + length (map (λ (link : LinkCap). link.bandwidth) capacities.links)) (length-map capacities.hosts offer_of)
     ∙ ap (λ n. length capacities.hosts + n) (length-map capacities.links (λ (link : LinkCap). link.bandwidth))
 
 -- a second bound changes nothing of that there is one

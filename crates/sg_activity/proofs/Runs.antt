@@ -2,8 +2,8 @@
 use Rattle.std.proofs.Common.{◌≡◌, ℕ, zero, suc, ◌+◌, ◌-◌, ◌==◌, ◌<◌, ◌≤◌, ◌⊎◌, inl, inr, Bool, true, false, true≢false, not, ◌||◌, count_by, Option, None, List, [], ◌∷◌, get_or, refl, sym, ap, ap₂, ◌∙◌, arith}
 use Rattle.std.specs.List.{list_any}
 use Rattle.sg_lives.specs.Slots.{passes}
-use Rattle.sg_lives.specs.Kinds.{goes_by}
-use Rattle.sg_activity.specs.Task.{Task, of_kind}
+use Rattle.sg_lives.specs.Kinds.{is_held}
+use Rattle.sg_activity.specs.Task.{Task}
 use Rattle.sg_activity.specs.Underway.{is_running}
 use Rattle.sg_lives.specs.Pool.{goes_on}
 use Rattle.sg_activity.specs.kept.State.{State, task_of, told_at, told_by, under_of}
@@ -13,14 +13,14 @@ use Rattle.sg_activity.proofs.Lookup.{sought, told_found, told_missed}
 use Rattle.sg_lives.proofs.Pooled.{none_counts, some_counts}
 use Rattle.sg_activity.proofs.Rates.{task_there}
 
-any_none : (xs : List (Option Task)) → ((i : ℕ) → passes (of_kind goes_by) (get_or xs i None) ≡ false) → list_any (passes (of_kind goes_by)) xs ≡ false
+any_none : (xs : List (Option Task)) → ((i : ℕ) → passes (λ (task : Task). not (is_held task.kind)) (get_or xs i None) ≡ false) → list_any (passes (λ (task : Task). not (is_held task.kind))) xs ≡ false
 any_none [] h = refl
 any_none (x ∷ xs) h = ap₂ (λ a b. a || b) (h 0) (any_none xs (λ i. h (suc i)))
 
-any_there : (xs : List (Option Task)) (i : ℕ) → passes (of_kind goes_by) (get_or xs i None) ≡ true → list_any (passes (of_kind goes_by)) xs ≡ true
+any_there : (xs : List (Option Task)) (i : ℕ) → passes (λ (task : Task). not (is_held task.kind)) (get_or xs i None) ≡ true → list_any (passes (λ (task : Task). not (is_held task.kind))) xs ≡ true
 any_there [] i e = absurd (true≢false (sym e))
-any_there (x ∷ xs) zero e = ap (λ b. b || list_any (passes (of_kind goes_by)) xs) e
-any_there (x ∷ xs) (suc i) e = ap (λ b. passes (of_kind goes_by) x || b) (any_there xs i e) ∙ or_true (passes (of_kind goes_by) x)
+any_there (x ∷ xs) zero e = ap (λ b. b || list_any (passes (λ (task : Task). not (is_held task.kind))) xs) e
+any_there (x ∷ xs) (suc i) e = ap (λ b. passes (λ (task : Task). not (is_held task.kind)) x || b) (any_there xs i e) ∙ or_true (passes (λ (task : Task). not (is_held task.kind)) x)
   where
     or_true : (b : Bool) → (b || true) ≡ true
     or_true true = refl
@@ -44,13 +44,13 @@ any_told s is = elim (zero_or (count_by (passes goes_on) s.slots)) [
       let idle = none_counts s.slots none in
       eqb_yes (count_by (passes goes_on) s.slots) none
       ∙ sym (any_none (told_by (task_of s) s) (λ i. elim (less_or i s.drawn) [
-        | inl less ↦ ap (passes (of_kind goes_by)) (at_listed s.drawn (λ j. told_at (task_of s) s.slots (j + 1)) i None less) ∙ elim (sought s.slots (i + 1)) [
-          | inl f ↦ ap (passes (of_kind goes_by)) (told_found (task_of s) s.slots (i + 1) f.key f.live is.apart f.at f.is) ∙ sym (ap (passes goes_on) f.at) ∙ idle f.key
-          | inr missing ↦ ap (passes (of_kind goes_by)) (told_missed (task_of s) s.slots (i + 1) missing)
+        | inl less ↦ ap (passes (λ (task : Task). not (is_held task.kind))) (at_listed s.drawn (λ j. told_at (task_of s) s.slots (j + 1)) i None less) ∙ elim (sought s.slots (i + 1)) [
+          | inl f ↦ ap (passes (λ (task : Task). not (is_held task.kind))) (told_found (task_of s) s.slots (i + 1) f.key f.live is.apart f.at f.is) ∙ sym (ap (passes goes_on) f.at) ∙ idle f.key
+          | inr missing ↦ ap (passes (λ (task : Task). not (is_held task.kind))) (told_missed (task_of s) s.slots (i + 1) missing)
         ]
-        | inr more ↦ ap (passes (of_kind goes_by)) (past_listed s.drawn (λ j. told_at (task_of s) s.slots (j + 1)) i None more)
+        | inr more ↦ ap (passes (λ (task : Task). not (is_held task.kind))) (past_listed s.drawn (λ j. told_at (task_of s) s.slots (j + 1)) i None more)
       ]))
   | inr some ↦
       let r = some_counts s.slots some in
-      eqb_no (count_by (passes goes_on) s.slots) some ∙ sym (any_there (told_by (task_of s) s) (r.1.serial - 1) (ap (passes (of_kind goes_by)) (task_there s is r.0 r.1 r.2) ∙ r.3))
+      eqb_no (count_by (passes goes_on) s.slots) some ∙ sym (any_there (told_by (task_of s) s) (r.1.serial - 1) (ap (passes (λ (task : Task). not (is_held task.kind))) (task_there s is r.0 r.1 r.2) ∙ r.3))
 ]

@@ -6,7 +6,7 @@ use Rattle.std.proofs.Math.Nat.{mul-le-mul_left}
 use Rattle.std.proofs.lemmas.Grind.{div_ceil_times}
 use Rattle.sg_lives.specs.declared.kinds.PhaseKind.{PhaseKind}
 use Rattle.sg_lives.specs.declared.kinds.PhaseKind.TheVariants as phase
-use Rattle.sg_lives.specs.Kinds.{wait_by}
+use Rattle.sg_lives.specs.Kinds.{is_held}
 use Rattle.sg_activity.specs.Underway.{wait}
 use Rattle.sg_activity.specs.kept.Stamps.{left_at, due_of, LeftSteps, StampMoves, DueStays}
 
@@ -124,14 +124,14 @@ due_stays_lem kept rate stamp now h before = go (wait rate kept) refl before
 
 -- ---- by kind
 -- the completion date of a phase of any kind, computed at a date that isn't after it
-pub due_stays_by : (kind : PhaseKind) (kept rate stamp now : ℕ) → stamp ≤ now → IfSome (wait_by kind (due_of stamp kept rate)) (λ due. now ≤ due) → wait_by kind (due_of stamp kept rate) ≡ option_map (λ span. now + span) (wait_by kind (wait rate (left_at kept rate stamp now)))
+pub due_stays_by : (kind : PhaseKind) (kept rate stamp now : ℕ) → stamp ≤ now → IfSome (cond (is_held kind) None (due_of stamp kept rate)) (λ due. now ≤ due) → cond (is_held kind) None (due_of stamp kept rate) ≡ option_map (λ span. now + span) (cond (is_held kind) None (wait rate (left_at kept rate stamp now)))
 due_stays_by phase.Latency kept rate stamp now h before = sym (due_stays_lem kept rate stamp now h before)
 due_stays_by phase.Flow kept rate stamp now h before = sym (due_stays_lem kept rate stamp now h before)
 due_stays_by phase.Exec kept rate stamp now h before = sym (due_stays_lem kept rate stamp now h before)
 due_stays_by phase.Timer kept rate stamp now h before = sym (due_stays_lem kept rate stamp now h before)
 due_stays_by phase.Kept kept rate stamp now h before = refl
 
-pub wait_by_some : (kind : PhaseKind) (time : Option ℕ) (n : ℕ) → wait_by kind time ≡ Some n → time ≡ Some n
+pub wait_by_some : (kind : PhaseKind) (time : Option ℕ) (n : ℕ) → cond (is_held kind) None time ≡ Some n → time ≡ Some n
 wait_by_some phase.Latency time n e = e
 wait_by_some phase.Flow time n e = e
 wait_by_some phase.Exec time n e = e
@@ -139,14 +139,14 @@ wait_by_some phase.Timer time n e = e
 wait_by_some phase.Kept time n e = absurd (cc e)
 
 -- what begins now isn't over yet
-pub fresh_in_time : (kind : PhaseKind) (date rate kept : ℕ) → IfSome (wait_by kind (due_of date kept rate)) (λ due. date ≤ due)
+pub fresh_in_time : (kind : PhaseKind) (date rate kept : ℕ) → IfSome (cond (is_held kind) None (due_of date kept rate)) (λ due. date ≤ due)
 fresh_in_time kind date rate kept = by_kind kind
   where
     go : (o : Option ℕ) → IfSome (option_map (λ span. date + span) o) (λ due. date ≤ due)
     go None = tt
     go (Some span) = omega arith
 
-    by_kind : (kind : PhaseKind) → IfSome (wait_by kind (due_of date kept rate)) (λ due. date ≤ due)
+    by_kind : (kind : PhaseKind) → IfSome (cond (is_held kind) None (due_of date kept rate)) (λ due. date ≤ due)
     by_kind phase.Latency = go (wait rate kept)
     by_kind phase.Flow = go (wait rate kept)
     by_kind phase.Exec = go (wait rate kept)

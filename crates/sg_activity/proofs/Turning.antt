@@ -13,7 +13,7 @@ use Rattle.sg_lives.specs.declared.kinds.PhaseKind.TheVariants as phase
 use Rattle.sg_lives.specs.declared.lives.Live.{Live}
 use Rattle.sg_activity.specs.Links.{Capacities}
 use Rattle.sg_activity.specs.Task.{Task, flow_in, flow_of, next_phase, rekinded}
-use Rattle.sg_lives.specs.Kinds.{takes_share, pace, wait_by}
+use Rattle.sg_lives.specs.Kinds.{takes_share, pace, is_held}
 use Rattle.sg_activity.specs.Underway.{with_task}
 use Rattle.sg_activity.specs.kept.Stamps.{left_at, due_of}
 use Rattle.sg_lives.specs.Pool.{slot_at}
@@ -405,7 +405,7 @@ pub undated_kept : (s : State) (key : ℕ) (live : Live) → IsKept s → slot_a
 undated_kept s key live is at held = (is.each key live at).dated ∙ undue (is_in key s.fresh) live.kind held
   where
     key_by : PhaseKind → Option Key
-    key_by kind = option_map (λ due. record { date = due; serial = live.serial }) (wait_by kind (due_of live.stamp live.kept live.rate))
+    key_by kind = option_map (λ due. record { date = due; serial = live.serial }) (cond (is_held kind) None (due_of live.stamp live.kept live.rate))
 
     undue : (b : Bool) (kind : PhaseKind) → kind ≡ phase.Kept → cond b None (key_by kind) ≡ None
     undue true kind e = refl

@@ -8,8 +8,8 @@ use Rattle.sg_lives.specs.declared.kinds.LinkCap.{LinkCap}
 use Rattle.sg_lives.specs.declared.kinds.Phase.{Phase}
 use Rattle.sg_activity.specs.Links.{machines}
 use Rattle.sg_activity.specs.Stamp.{Stamp, stamped, anew, all_rerated}
-use Rattle.sg_activity.specs.Task.{Task, Way, task_at}
-use Rattle.sg_activity.specs.Underway.{Underway, next_in, due_in, later, with_next_serial, started, begun, ended, with_rates_updated, given_up, held, gone_on, hits, is_computing, is_kept, nothing_on, rate}
+use Rattle.sg_activity.specs.Task.{Task, Way, phase_after, task_at}
+use Rattle.sg_activity.specs.Underway.{Underway, next_in, due_in, later, with_next_serial, started, begun, with_rates_updated, given_up, held, gone_on, hits, is_computing, is_kept, nothing_on, rate, with_task}
 
 -- The running activities, the ids that complete now and haven't ended yet, whether the rates are up to date, room for so many starts, and by id the stamp of the running phase, or nothing.
 pub record Doing : Type 0 where
@@ -66,6 +66,10 @@ settled_in doing = record doing {
 -- so many nanoseconds later the phases whose time this is complete, and no stamp changed
 abbrev pub later_in : ℕ → Doing → Doing
 later_in span doing = record doing { under = later span doing.under; due = due_in span doing.under }
+
+-- the phase of this activity id ends, and what follows it begins
+abbrev pub ended : ℕ → Underway → Underway
+ended serial under = with_task serial (phase_after (task_at under.tasks serial)) under
 
 -- the first phase that completes now has ended
 abbrev pub ended_first : List ℕ → Doing → Doing

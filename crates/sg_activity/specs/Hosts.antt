@@ -1,5 +1,5 @@
 -- Hosts as resources, and their power.
-use Rattle.std.specs.Prelude.{ℕ, ◌*◌, ◌≤◌, ◌^◌, None, IfSome, List, map, slice_index_or}
+use Rattle.std.specs.Prelude.{ℕ, ◌*◌, ◌≤◌, ◌^◌, None, IfSome, List, slice_index_or}
 use Rattle.sg_lives.specs.declared.kinds.HostCap.{HostCap}
 use Rattle.sg_lives.specs.declared.kinds.Power.{Power}
 
@@ -19,10 +19,6 @@ pub record IsHost (host : HostCap) : Type 0 where
 -- what all its cores offer
 abbrev pub offer_of : HostCap → ℕ
 offer_of host = host.speed * host.cores
-
--- what each host offers in all
-abbrev pub offers_of : List HostCap → List ℕ
-offers_of hosts = map offer_of hosts
 
 -- the host of a number
 abbrev pub host_at : List HostCap → ℕ → HostCap

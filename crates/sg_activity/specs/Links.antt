@@ -3,7 +3,7 @@ use Rattle.std.specs.Prelude.{ℕ, ◌+◌, ◌≤◌, ◌^◌, ◌++◌, not, B
 use Rattle.sg_base.specs.declared.ids.LinkId.{LinkId}
 use Rattle.sg_lives.specs.declared.kinds.HostCap.{HostCap}
 use Rattle.sg_lives.specs.declared.kinds.LinkCap.{LinkCap}
-use Rattle.sg_activity.specs.Hosts.{offers_of, host_at}
+use Rattle.sg_activity.specs.Hosts.{host_at, offer_of}
 use Rattle.sg_lives.specs.Slots.{sooner}
 
 -- its bandwidth keeps to its limit
@@ -24,47 +24,32 @@ pub record Switches : Type 0 where
   pub hosts : List Bool
   pub links : List Bool
 
--- all are on
-abbrev pub all_on : Capacities → Switches
-all_on capacities = record {
-  hosts = map (λ _. true) capacities.hosts;
-  links = map (λ _. true) capacities.links;
-}
-
 -- whether the host or link of a number is off; one that isn't there is on
 abbrev pub is_off : List Bool → ℕ → Bool
 is_off on number = not (slice_index_or on number true)
 
--- the bandwidth of each link, in bytes a second
-abbrev pub bandwidths_of : List LinkCap → List ℕ
-bandwidths_of links = map (λ (link : LinkCap). link.bandwidth) links
-
--- The resources are the hosts, and after them the links. A FATPIPE link has a number there like any other, but no flow uses it.
+-- What each resource offers: the hosts all their cores, and after them the links their bandwidths. A FATPIPE link has a number there like any other, but no flow uses it.
 abbrev pub capacities_of : Capacities → List ℕ
-capacities_of capacities = offers_of capacities.hosts ++ bandwidths_of capacities.links
+capacities_of capacities = map offer_of capacities.hosts ++ map (λ (link : LinkCap). link.bandwidth) capacities.links
 
 -- what a link bounds each flow over it to by itself
 abbrev pub bound_of_link : LinkCap → Option ℕ
 bound_of_link link = if link.fatpipe then Some link.bandwidth else None
 
--- the link of a number
-abbrev pub cap_at : List LinkCap → ℕ → LinkCap
-cap_at links number = slice_index_or links number (record { bandwidth = 0; fatpipe = false })
-
--- the link with this identifier: its bandwidth, and whether it is FATPIPE
-abbrev pub link_at : List LinkCap → LinkId → LinkCap
-link_at links link = cap_at links link.0
+-- the link of a number: its bandwidth, and whether it is FATPIPE
+abbrev pub link_at : List LinkCap → ℕ → LinkCap
+link_at links number = slice_index_or links number (record { bandwidth = 0; fatpipe = false })
 
 -- the least bandwidth of the FATPIPE links of a route; none: it has none
 unfoldable pub route_bound : List LinkCap → List LinkId → Option ℕ
 route_bound links [] = None
 route_bound links (link ∷ route) =
-    sooner (bound_of_link (link_at links link)) (route_bound links route)
+    sooner (bound_of_link (link_at links link.0)) (route_bound links route)
 
 -- the numbers of the links that the flows of a route share with others, if so many resources stand in front of the links
 abbrev pub shared_of : ℕ → List LinkCap → List LinkId → List ℕ
 shared_of hosts links route =
-    map (λ link. hosts + link.0) (filter (λ link. not (link_at links link).fatpipe) route)
+    map (λ link. hosts + link.0) (filter (λ link. not (link_at links link.0).fatpipe) route)
 
 -- the same, except for the speed of a host
 abbrev pub at_speed : ℕ → ℕ → Capacities → Capacities
@@ -77,5 +62,5 @@ at_speed host speed capacities = record capacities {
 abbrev pub at_bandwidth : ℕ → ℕ → Capacities → Capacities
 at_bandwidth link bandwidth capacities = record capacities {
   links = slice_set capacities.links link
-      (record { bandwidth = bandwidth; fatpipe = (cap_at capacities.links link).fatpipe });
+      (record (link_at capacities.links link) { bandwidth = bandwidth });
 }

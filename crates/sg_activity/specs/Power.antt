@@ -2,8 +2,9 @@
 use Rattle.std.specs.Prelude.{ℕ, ◌+◌, ◌-◌, ◌*◌, ◌/◌, ◌==◌, ◌&&◌, Bool, false, Option, None, Some, if◌then◌else◌, List, sum_by}
 use Rattle.std.specs.List.{list_any}
 use Rattle.sg_lives.specs.declared.kinds.Power.{Power}
+use Rattle.sg_lives.specs.Kinds.{takes_share}
 use Rattle.sg_lives.specs.Slots.{passes}
-use Rattle.sg_activity.specs.Task.{Place, nowhere, on_host, over, Task, is_filled}
+use Rattle.sg_activity.specs.Task.{Place, nowhere, on_host, over, Task}
 
 -- whether this is the host
 abbrev pub is_there : ℕ → Place → Bool
@@ -13,7 +14,7 @@ is_there host (over way) = false
 
 -- whether it is an execution that takes a share of the host
 abbrev pub loads : ℕ → Task → Bool
-loads host task = is_filled task && is_there host task.place
+loads host task = takes_share task.kind && is_there host task.place
 
 -- what a task takes of the host, at these rates
 abbrev pub part_of_load : (Task → ℕ) → ℕ → Option Task → ℕ

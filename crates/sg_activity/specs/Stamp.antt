@@ -1,8 +1,8 @@
 -- What was left of phases at which date, and how fast they went from then on.
 use Rattle.std.specs.Prelude.{ℕ, ◌+◌, ◌-◌, ◌==◌, ◌&&◌, not, Option, None, option_and_then, option_map, if◌then◌else◌, List, length, slice_index_or, slice_set}
 use Rattle.sg_lives.specs.Slots.{listed}
-use Rattle.sg_activity.specs.Task.{Task, is_filled, task_at}
-use Rattle.sg_lives.specs.Kinds.{pace}
+use Rattle.sg_activity.specs.Task.{Task, task_at}
+use Rattle.sg_lives.specs.Kinds.{pace, takes_share}
 use Rattle.sg_activity.specs.Underway.{Underway, rate}
 
 -- what was left of a phase at a date, and how much a nanosecond takes of it from then on
@@ -16,7 +16,7 @@ abbrev pub stamped : ℕ → Task → Stamp
 stamped date task = record {
   left = task.left;
   date = date;
-  rate = if is_filled task then 0 else pace task.kind;
+  rate = if takes_share task.kind then 0 else pace task.kind;
 }
 
 -- by activity id the stamps, if only the phase of this id changed
@@ -29,7 +29,7 @@ anew serial under stamps =
 -- work now.
 abbrev pub rerated : Underway → Task → Stamp → Stamp
 rerated under task stamp =
-    if is_filled task && not (rate under task == stamp.rate)
+    if takes_share task.kind && not (rate under task == stamp.rate)
     then record { left = task.left; date = under.date; rate = rate under task }
     else stamp
 

@@ -1,5 +1,5 @@
 -- Phases: their kind and place, what they ask for, and what follows them.
-use Rattle.std.specs.Prelude.{ℕ, ◌-◌, ◌*◌, ◌||◌, Bool, false, Option, None, Some, if◌then◌else◌, List, [], ◌∷◌, filter_map, length, slice_index_or}
+use Rattle.std.specs.Prelude.{ℕ, ◌-◌, ◌*◌, ◌||◌, Bool, false, Option, None, Some, if◌then◌else◌, List, [], ◌∷◌, filter_map, length, option_and_then, slice_index_or}
 use Rattle.std.specs.List.{list_any}
 use Rattle.sg_base.specs.declared.ids.LinkId.{LinkId}
 use Rattle.sg_maxmin.specs.Fill.{Flow, flow}
@@ -31,38 +31,21 @@ pub record Task : Type 0 where
   pub bound : Option ℕ
   pub bytes : ℕ
 
+-- a phase of this kind, with this much work, at a place: of weight 1, without a bound of its own, with no bytes
+abbrev pub phase_of : PhaseKind → ℕ → Place → Task
+phase_of kind left place = record { kind = kind; left = left; place = place; weight = 1; bound = None; bytes = 0 }
+
 -- an execution weighs as much as its priority
 abbrev pub exec_of : ℕ → ℕ → ℕ → Task
-exec_of host flops priority = record {
-  kind = phase.Exec;
-  left = flops * 1000000000;
-  place = on_host host;
-  weight = priority;
-  bound = None;
-  bytes = 0;
-}
+exec_of host flops priority = record (phase_of phase.Exec (flops * 1000000000) (on_host host)) { weight = priority }
 
 -- the one phase of a sleep of this many nanoseconds, which uses no resource
 abbrev pub timer_of : ℕ → Task
-timer_of ns = record {
-  kind = phase.Timer;
-  left = ns;
-  place = nowhere;
-  weight = 1;
-  bound = None;
-  bytes = 0;
-}
+timer_of ns = phase_of phase.Timer ns nowhere
 
 -- a communication over a route lets its latency pass first; its bytes flow at no more than its bound
 abbrev pub comm_of : Way → ℕ → ℕ → Option ℕ → Task
-comm_of way latency bytes bound = record {
-  kind = phase.Latency;
-  left = latency;
-  place = over way;
-  weight = 1;
-  bound = bound;
-  bytes = bytes;
-}
+comm_of way latency bytes bound = record (phase_of phase.Latency latency (over way)) { bound = bound; bytes = bytes }
 
 -- ---- what a phase asks for
 -- An execution uses its host, and gets at most the host's speed. A flow uses the SHARED links of its route, and gets at most the bandwidth of each FATPIPE link on it, as these are now. None gets more than its own
@@ -97,15 +80,10 @@ uses_off on (over way) = is_cut on way
 abbrev pub is_hit : Switches → Task → Bool
 is_hit on task = uses_off on task.place
 
--- ---- what takes shares
--- whether the solver gives a phase a share: it is a flow or an execution
-abbrev pub is_filled : Task → Bool
-is_filled task = takes_share task.kind
-
--- what an activity asks of the solver now; none: it takes no share
+-- what an activity asks of the solver now; none: it takes no share, as it is neither a flow nor an execution
 abbrev pub flow_in : Capacities → Option Task → Option Flow
 flow_in capacities None = None
-flow_in capacities (Some task) = if is_filled task then Some (flow_of capacities task) else None
+flow_in capacities (Some task) = if takes_share task.kind then Some (flow_of capacities task) else None
 
 -- what the executions and flows that run ask for
 unfoldable pub flows : Capacities → List (Option Task) → List Flow
@@ -121,8 +99,7 @@ next_phase other task = None
 
 -- the phase that follows the one that was running; none: the activity is done
 abbrev pub phase_after : Option Task → Option Task
-phase_after None = None
-phase_after (Some task) = next_phase task.kind task
+phase_after slot = option_and_then (λ (task : Task). next_phase task.kind task) slot
 
 -- the running phase under an activity id, if there is one
 abbrev pub task_at : List (Option Task) → ℕ → Option Task

@@ -7,13 +7,13 @@ use Rattle.sg_maxmin.specs.Fill.{Flow, share_of}
 use Rattle.sg_lazy.specs.RunningFlow.{RunningFlow, is_same_bound}
 use Rattle.sg_lazy.specs.Work.{work}
 use Rattle.sg_activity.specs.Hosts.{host_at, offer_of}
-use Rattle.sg_activity.specs.Links.{Capacities, Switches, all_on, capacities_of, is_off, at_speed, at_bandwidth}
+use Rattle.sg_activity.specs.Links.{Capacities, Switches, capacities_of, is_off, at_speed, at_bandwidth}
 use Rattle.sg_lives.specs.Slots.{soonest, passes, serials, is_over_after, listed}
 use Rattle.sg_lives.specs.declared.kinds.PhaseKind.{PhaseKind}
 use Rattle.sg_lives.specs.declared.kinds.PhaseKind.TheVariants as phase
 use Rattle.sg_activity.specs.Power.{load_by, power_in}
-use Rattle.sg_activity.specs.Task.{Task, is_filled, flow_in, flow_of, flows, is_hit, phase_after, task_at, of_kind, rekinded}
-use Rattle.sg_lives.specs.Kinds.{goes_by, pace, wait_by, is_exec, is_held}
+use Rattle.sg_activity.specs.Task.{Task, flow_in, flow_of, flows, is_hit, task_at, of_kind, rekinded}
+use Rattle.sg_lives.specs.Kinds.{is_exec, is_held, pace, takes_share}
 
 -- What changed since the rates were brought up to date: by activity id whether the running phase began, or has another bound; what those asked for that ended; and the numbers of the resources whose capacity changed.
 pub record Marks : Type 0 where
@@ -34,20 +34,20 @@ pub record Underway : Type 0 where
   pub marks : Marks
   pub energy : List ℕ
 
--- at first
+-- at first: all hosts and links are on
 abbrev pub nothing_on : Capacities → Underway
 nothing_on capacities = record {
   date = 0;
   capacities = capacities;
-  on = all_on capacities;
+  on = record { hosts = map (λ _. true) capacities.hosts; links = map (λ _. true) capacities.links };
   tasks = [];
   marks = no_marks 0;
   energy = replicate (length capacities.hosts) 0;
 }
 
--- whether an activity is running
+-- whether an activity is running, and isn't suspended
 abbrev pub is_running : Underway → Bool
-is_running under = list_any (passes (of_kind goes_by)) under.tasks
+is_running under = list_any (passes (λ (task : Task). not (is_held task.kind))) under.tasks
 
 -- ---- how much a change touches
 -- The flow of an activity id that takes shares, and whether it began, or its bound changed, since the rates were brought up to
@@ -74,7 +74,7 @@ work_of under =
 -- units, or nanoseconds, in a nanosecond
 unfoldable pub rate : Underway → Task → ℕ
 rate under task =
-    if is_filled task
+    if takes_share task.kind
     then share_of (capacities_of under.capacities) (flows under.capacities under.tasks)
     (flow_of under.capacities task)
     else pace task.kind
@@ -84,9 +84,9 @@ abbrev pub wait : ℕ → ℕ → Option ℕ
 wait rate left =
     if left == 0 then Some 0 else if rate == 0 then None else Some (div_ceil left rate)
 
--- in how many nanoseconds a phase completes at its present rate; none: never
+-- in how many nanoseconds a phase completes at its present rate; none: never, as a suspended execution
 abbrev pub wait_in : Underway → Task → Option ℕ
-wait_in under task = wait_by task.kind (wait (rate under task) task.left)
+wait_in under task = if is_held task.kind then None else wait (rate under task) task.left
 
 -- in how many nanoseconds the next phase completes; none: never
 abbrev pub next_in : Underway → Option ℕ
@@ -126,12 +126,11 @@ later span under = record under {
 -- ---- how the activities change
 -- what changed, once another phase replaces that of this activity id
 abbrev pub marked : Capacities → ℕ → Option Task → Option Task → Marks → Marks
-marked capacities serial before after marks = record {
+marked capacities serial before after marks = record marks {
   changed =
       if is_some before || is_some after then slice_set marks.changed (serial - 1) (is_some after)
       else marks.changed;
   ended = marks.ended ++ option_to_list (flow_in capacities before);
-  resources = marks.resources;
 }
 
 -- the one place at which the phase of an activity id changes
@@ -141,27 +140,24 @@ with_task serial task under = record under {
   marks = marked under.capacities serial (task_at under.tasks serial) task under.marks;
 }
 
+-- the next activity id is drawn, and has this phase, or none yet
+abbrev pub with_slot : Option Task → Underway → Underway
+with_slot slot under = record under {
+  tasks = under.tasks ++ slot ∷ [];
+  marks = record under.marks { changed = under.marks.changed ++ is_some slot ∷ [] };
+}
+
 -- the next activity id is drawn, and nothing is running there yet
 abbrev pub with_next_serial : Underway → Underway
-with_next_serial under = record under {
-  tasks = under.tasks ++ None ∷ [];
-  marks = record under.marks { changed = under.marks.changed ++ false ∷ [] };
-}
+with_next_serial under = with_slot None under
 
 -- the next activity id has this phase
 abbrev pub started : Task → Underway → Underway
-started task under = record under {
-  tasks = under.tasks ++ Some task ∷ [];
-  marks = record under.marks { changed = under.marks.changed ++ true ∷ [] };
-}
+started task under = with_slot (Some task) under
 
 -- the activity of this id, which was drawn before, begins with this phase
 abbrev pub begun : ℕ → Task → Underway → Underway
 begun serial task under = with_task serial (Some task) under
-
--- the phase of this activity id ends, and what follows it begins
-abbrev pub ended : ℕ → Underway → Underway
-ended serial under = with_task serial (phase_after (task_at under.tasks serial)) under
 
 -- the rates are brought up to date
 abbrev pub with_rates_updated : Underway → Underway
@@ -170,7 +166,7 @@ with_rates_updated under = record under { marks = no_marks (length under.tasks) 
 -- whether a phase takes a share, and has another bound at the new capacities
 abbrev pub is_rebound : Capacities → Capacities → Task → Bool
 is_rebound old new task =
-    is_filled task && not (is_same_bound (flow_of old task).bound (flow_of new task).bound)
+    takes_share task.kind && not (is_same_bound (flow_of old task).bound (flow_of new task).bound)
 
 -- The hosts and links are these now, and differ in this resource alone. It is marked if its capacity is another, and so is what has another bound by that.
 abbrev pub with_capacities : Capacities → ℕ → Underway → Underway

@@ -3,8 +3,8 @@
 ghost use Rattle.std.specs.Prelude.{◌≡◌, ◌≢◌, ◌+◌, ◌-◌, ◌*◌, ◌<◌, ◌≤◌, ◌^◌, ◌++◌, true, None, Some, IsTrue, IfOk, OnOk, OnErr, All, AllPairs, MatchOption, [], ◌∷◌, length, map, slice_index_or};
 ghost use Rattle.sg_base.specs.declared.ids.LinkId.{LinkId};
 ghost use Rattle.sg_base.specs.Limits.{IsAmount, IsPriority, IsTime};
-ghost use Rattle.sg_activity.specs.Hosts.{IsHost, offers_of};
-ghost use Rattle.sg_activity.specs.Links.{IsLink, bandwidths_of, is_off};
+ghost use Rattle.sg_activity.specs.Hosts.{IsHost};
+ghost use Rattle.sg_activity.specs.Links.{IsLink, is_off};
 ghost use Rattle.sg_activity.specs.Task.{comm_of, exec_of, is_cut as is_cut_spec, timer_of};
 ghost use Rattle.sg_activity.specs.Underway.{hits, is_computing as is_computing_spec, is_kept as is_kept_spec, is_running, load as load_spec, next_in, with_bandwidth, with_host_on, with_link_on, with_speed, work_of};
 ghost use Rattle.sg_activity.specs.Doing.{idle_on, started_in, drawn_in, begun_in, settled_in, later_in, ended_in, gave_up, held_in, went_on_in, set_in, switched_in, way_of, CanBegin, CanGoOn, CanStart, HaveStamps, IsComputing, IsDue, IsHit, IsNext, IsTransfer, IsUnderWay, IsUpTo, MakesRoom};

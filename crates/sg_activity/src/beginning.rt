@@ -1,8 +1,9 @@
 //! What `Activities` keeps at first.
 
-ghost use Rattle.std.specs.Prelude.{◌≡◌, ◌++◌, [], true, All, IfOk, OnOk, length};
-ghost use Rattle.sg_activity.specs.Hosts.{IsHost, offers_of};
-ghost use Rattle.sg_activity.specs.Links.{IsLink, bandwidths_of};
+ghost use Rattle.std.specs.Prelude.{◌≡◌, ◌++◌, [], true, All, IfOk, OnOk, length, map};
+ghost use Rattle.sg_lives.specs.declared.kinds.LinkCap.{LinkCap};
+ghost use Rattle.sg_activity.specs.Hosts.{IsHost, offer_of};
+ghost use Rattle.sg_activity.specs.Links.{IsLink};
 ghost use Rattle.sg_activity.specs.kept.Whole.{AreIdle};
 
 use crate::activity_state::Kept;
@@ -24,7 +25,8 @@ pub(crate) struct Parts {
 
 // Appends the bandwidths of the links.
 fn add_bandwidths(capacities: &mut Vec<u64>, links: &[LinkCap]) -> Result<(), Memory>
-    ensures { OnOk result (capacities.new.items ≡ capacities.old.items ++ bandwidths_of links.now) }
+    ensures { OnOk result (capacities.new.items ≡ capacities.old.items
+        ++ map (λ (link : LinkCap). link.bandwidth) links.now) }
 {
     for link in links {
         match capacities.push(link.bandwidth) {
@@ -54,7 +56,7 @@ fn all_on(alloc: Global, n: usize) -> Result<Vec<bool>, Memory>
 fn capacities(alloc: Global, hosts: &[HostCap], links: &[LinkCap]) -> Result<Vec<u64>, Memory>
     requires hosts { All IsHost hosts.now }
     ensures { IfOk result (λ capacities. capacities.items
-        ≡ offers_of hosts.now ++ bandwidths_of links.now) }
+        ≡ map offer_of hosts.now ++ map (λ (link : LinkCap). link.bandwidth) links.now) }
 {
     let mut capacities = Vec::new(alloc);
     for host in hosts {

@@ -1,12 +1,12 @@
 -- What contracts see of `Lives`.
-use Rattle.std.specs.Prelude.{◌≡◌, ◌≢◌, ℕ, ◌+◌, ◌<◌, ◌≤◌, Bool, Option, None, Some, is_some, List, count_by, slice_index_or, slice_set}
+use Rattle.std.specs.Prelude.{◌≡◌, ◌≢◌, ℕ, ◌+◌, ◌<◌, ◌≤◌, Bool, not, Option, None, Some, is_some, List, count_by, slice_index_or, slice_set}
 use Rattle.slab.specs.Slab.{Slab, get, slab_len}
 use Rattle.sg_lives.specs.declared.cells.Cell.{Cell}
 use Rattle.sg_lives.specs.declared.kinds.PhaseKind.{PhaseKind}
 use Rattle.sg_lives.specs.declared.kinds.PhaseKind.TheVariants as phase
 use Rattle.sg_lives.specs.declared.lives.Live.{Live}
 use Rattle.sg_lives.specs.Slots.{passes}
-use Rattle.sg_lives.specs.Kinds.{goes_by}
+use Rattle.sg_lives.specs.Kinds.{is_held}
 use Rattle.sg_lives.specs.Cells.{lives_in}
 
 -- the activity under each key, or nothing, and room for so many more activities
@@ -22,8 +22,9 @@ slot_at slots key = slice_index_or slots key None
 abbrev pub SameSlots : List (Option Live) → List (Option Live) → Type 0
 SameSlots old new = (key : ℕ) → slot_at new key ≡ slot_at old key
 
+-- whether an activity progresses: a suspended execution doesn't
 abbrev pub goes_on : Live → Bool
-goes_on live = goes_by live.kind
+goes_on live = not (is_held live.kind)
 
 -- how many links a flow uses that begins once a phase of this kind completes, on a route of so many links
 abbrev pub uses_ahead : PhaseKind → ℕ → ℕ

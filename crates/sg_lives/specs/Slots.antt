@@ -1,5 +1,6 @@
 -- Lists of what may be there, by activity id from 1 on, and numbers that may be none.
 use Rattle.std.specs.Prelude.{ℕ, zero, suc, ◌+◌, ◌==◌, min, Bool, false, Option, None, Some, option_and_then, if◌then◌else◌, List, [], ◌∷◌}
+use Rattle.std.specs.Option.{option_map_or}
 
 -- the less of two numbers, if none is without end
 abbrev pub sooner : Option ℕ → Option ℕ → Option ℕ
@@ -14,8 +15,7 @@ soonest waits (slot ∷ rest) = sooner (option_and_then waits slot) (soonest wai
 
 -- whether something is there that passes the test
 abbrev pub passes : {X : Type 0} → (X → Bool) → Option X → Bool
-passes test None = false
-passes test (Some x) = test x
+passes test slot = option_map_or test slot false
 
 -- the activity ids at which the test is passed, if the first place has this one
 unfoldable pub serials : {X : Type 0} → (X → Bool) → ℕ → List (Option X) → List ℕ
@@ -26,8 +26,7 @@ serials test serial (slot ∷ rest) =
 
 -- whether a wait ends after exactly this many nanoseconds
 abbrev pub is_over_after : Option ℕ → ℕ → Bool
-is_over_after None span = false
-is_over_after (Some time) span = time == span
+is_over_after wait span = option_map_or (λ time. time == span) wait false
 
 -- what the function gives of each number below this one
 unfoldable pub listed : {X : Type 0} → ℕ → (ℕ → X) → List X

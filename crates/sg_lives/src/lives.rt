@@ -1,9 +1,9 @@
 //! The running activities, by key.
 
-ghost use Rattle.std.specs.Prelude.{◌≡◌, ◌<◌, ◌≤◌, ◌+◌, ◌-◌, ◌==◌, None, Some, IfSome, IsSome, MatchOption, OnOk, [], if◌then◌else◌, count_by, length, slice_set};
+ghost use Rattle.std.specs.Prelude.{◌≡◌, ◌<◌, ◌≤◌, ◌+◌, ◌-◌, ◌==◌, None, Some, IfSome, IsSome, MatchOption, OnOk, [], if◌then◌else◌, not, count_by, length, slice_set};
 ghost use Rattle.slab.specs.Slab.{get, slab_len, Updates};
 ghost use Rattle.sg_lives.specs.Slots.{passes};
-ghost use Rattle.sg_lives.specs.Kinds.{goes_by, is_exec as is_exec_spec, is_held as is_held_spec, takes_share as takes_share_spec};
+ghost use Rattle.sg_lives.specs.Kinds.{is_exec as is_exec_spec, is_held as is_held_spec, takes_share as takes_share_spec};
 ghost use Rattle.sg_lives.specs.Cells.{HasEnds};
 ghost use Rattle.sg_lives.specs.Pool.{HasFree, IsFound, IsMissing, IsSet, SameSlots, goes_on, slot_at, uses_ahead as uses_ahead_spec};
 ghost use Rattle.sg_lives.specs.Kinds.{flows_ahead as flows_ahead_spec};
@@ -95,7 +95,7 @@ pub fn is_held(kind: PhaseKind) -> bool
 
 // Returns 1 if a phase of this kind progresses, and else 0.
 fn going_by(kind: PhaseKind) -> usize
-    ensures { result ≡ (if goes_by kind then 1 else 0) }
+    ensures { result ≡ (if not (is_held_spec kind) then 1 else 0) }
 {
     match kind {
         PhaseKind::Latency | PhaseKind::Flow | PhaseKind::Exec | PhaseKind::Timer => 1,

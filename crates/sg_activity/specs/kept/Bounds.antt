@@ -20,7 +20,7 @@ abbrev pub is_rebound_at : Capacities → List ℕ → Place → Bool
 is_rebound_at capacities resources nowhere = false
 is_rebound_at capacities resources (on_host host) = is_in host resources
 is_rebound_at capacities resources (over way) =
-    list_any (λ link. (link_at capacities.links link).fatpipe
+    list_any (λ link. (link_at capacities.links link.0).fatpipe
     && is_in (length capacities.hosts + link.0) resources) way.links
 
 -- the flow under this bound, if there is one, and marked if it had another

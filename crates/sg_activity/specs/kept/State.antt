@@ -14,7 +14,7 @@ use Rattle.sg_activity.specs.Links.{Capacities, Switches, machines}
 use Rattle.sg_lives.specs.Slots.{listed, passes, serials}
 use Rattle.sg_activity.specs.Stamp.{Stamp}
 use Rattle.sg_activity.specs.Task.{Place, nowhere, on_host, over, Task, flow_of}
-use Rattle.sg_lives.specs.Kinds.{takes_share, wait_by}
+use Rattle.sg_lives.specs.Kinds.{is_held, takes_share}
 use Rattle.sg_activity.specs.Underway.{Underway}
 use Rattle.sg_activity.specs.kept.Stamps.{left_at, due_of}
 use Rattle.sg_lives.specs.Pool.{slot_at}
@@ -100,7 +100,7 @@ asked_by s key live = flow_of s.capacities (task_of s key live)
 
 -- the date at which an activity's phase completes; none: never
 abbrev pub due_at : Live → Option ℕ
-due_at live = wait_by live.kind (due_of live.stamp live.kept live.rate)
+due_at live = if is_held live.kind then None else due_of live.stamp live.kept live.rate
 
 -- its date in the agenda
 abbrev pub date_of : Live → Option Key

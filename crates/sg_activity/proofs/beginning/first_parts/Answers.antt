@@ -1,6 +1,7 @@
-use Rattle.std.proofs.Common.{◌≡◌, ◌≤◌, ◌^◌, ◌+◌, ◌++◌, length, sum_by, sym, ap, ap₂, ◌∙◌, arith}
-use Rattle.sg_activity.specs.Hosts.{offers_of}
-use Rattle.sg_activity.specs.Links.{bandwidths_of, machines}
+use Rattle.std.proofs.Common.{◌≡◌, ◌≤◌, ◌^◌, ◌+◌, ◌++◌, length, map, sum_by, sym, ap, ap₂, ◌∙◌, arith}
+use Rattle.sg_lives.specs.declared.kinds.LinkCap.{LinkCap}
+use Rattle.sg_activity.specs.Hosts.{offer_of}
+use Rattle.sg_activity.specs.Links.{machines}
 use Rattle.sg_activity.specs.Doing.{idle_on}
 use Rattle.sg_activity.specs.kept.Sound.{slot_ahead, slot_uses}
 use Rattle.sg_activity.proofs.Routed.{resources_are}
@@ -21,8 +22,8 @@ returns c =
     let lazy = c.in_ok-lazy.ensures in
     let all = c.in_ok-machines.machines in
     let are = c.in_ok-machines.ensures in
-    let items : c.in_ok-capacities.capacities.items ≡ offers_of all.hosts.items ++ bandwidths_of all.links.items =
-    c.in_ok-capacities.ensures ∙ ap₂ (λ h l. offers_of h ++ bandwidths_of l) (sym are.hosts) (sym are.links) in
+    let items : c.in_ok-capacities.capacities.items ≡ map offer_of all.hosts.items ++ map (λ (link : LinkCap). link.bandwidth) all.links.items =
+    c.in_ok-capacities.ensures ∙ ap₂ (λ h l. map offer_of h ++ map (λ (link : LinkCap). link.bandwidth) l) (sym are.hosts) (sym are.links) in
     let count : c.len.result ≡ length all.hosts.items + length all.links.items = c.len.ensures ∙ c.in_ok-capacities.capacities.ok.0 ∙ ap length items
     ∙ resources_are (machines all.hosts.items all.links.items) in
     let few : length c.args.links.now ≤ 2 ^ 32 = omega (arith, c.if-links.false) in

@@ -4,7 +4,7 @@ use Rattle.sg_base.specs.MarkSet.{is_in}
 use Rattle.sg_chains.specs.Chained.{users_on}
 use Rattle.sg_lazy.specs.Lazily.{with_capacity}
 use Rattle.sg_lives.specs.declared.kinds.LinkCap.{LinkCap}
-use Rattle.sg_activity.specs.Links.{at_bandwidth, cap_at, machines}
+use Rattle.sg_activity.specs.Links.{at_bandwidth, link_at, machines}
 use Rattle.sg_activity.specs.kept.Index.{used_at}
 use Rattle.sg_activity.specs.kept.Bounds.{Rebounds}
 use Rattle.sg_activity.specs.kept.Sound.{place_at}
@@ -24,7 +24,7 @@ update_bounds-requires-clause-flows c =
     let kept = c.args.kept.now in
     let s : State = state_of kept in
     let link = c.args.link in
-    let fat : c.index.result.now.fatpipe ≡ (cap_at kept.links.items link).fatpipe = ap (λ (l : LinkCap). l.fatpipe) (c.index.ensures ∙ get_or_default kept.links.items link _ _ c.requires.link) in
+    let fat : c.index.result.now.fatpipe ≡ (link_at kept.links.items link).fatpipe = ap (λ (l : LinkCap). l.fatpipe) (c.index.ensures ∙ get_or_default kept.links.items link _ _ c.requires.link) in
     let hosts : c.len.result ≡ length kept.hosts.items = c.len.ensures ∙ kept.hosts.ok.0 in
     flows_reset kept _ (at_bandwidth link c.args.bandwidth s.capacities) (length kept.hosts.items + link) c.args.bandwidth c.requires.sound c.requires.used (bandwidth_moved s.capacities link c.args.bandwidth c.requires.link) refl
     (ap (λ b. machines kept.hosts.items (set kept.links.items link (record { bandwidth = c.args.bandwidth; fatpipe = b }))) fat) (c.set_capacity.ensures ∙ ap (λ n. with_capacity kept.lazy (n + link) c.args.bandwidth) hosts) (omega (arith, c.requires.link, resources_are s.capacities))
@@ -37,7 +37,7 @@ returns c =
     let link = c.args.link in
     let new = c.if-fatpipe.kept in
     let index = c.args.kept.now.index in
-    let fat : c.index.result.now.fatpipe ≡ (cap_at kept.links.items link).fatpipe = ap (λ (l : LinkCap). l.fatpipe) (c.index.ensures ∙ get_or_default kept.links.items link _ _ c.requires.link) in
+    let fat : c.index.result.now.fatpipe ≡ (link_at kept.links.items link).fatpipe = ap (λ (l : LinkCap). l.fatpipe) (c.index.ensures ∙ get_or_default kept.links.items link _ _ c.requires.link) in
     let hosts : c.len.result ≡ length kept.hosts.items = c.len.ensures ∙ kept.hosts.ok.0 in
     let capacities = ap (λ b. machines kept.hosts.items (set kept.links.items link (record { bandwidth = c.args.bandwidth; fatpipe = b }))) fat in
     let lazy = c.set_capacity.ensures ∙ ap (λ n. with_capacity kept.lazy (n + link) c.args.bandwidth) hosts in
