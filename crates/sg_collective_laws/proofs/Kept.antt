@@ -1,6 +1,7 @@
 -- What holds of each good line: its actor has a name, and a collective's amounts keep to their limits.
-use Rattle.std.proofs.Common.{◌≡◌, ◌≤◌, ◌^◌, ◌==◌, refl, subst, ℕ, Bool, true, false, cond, not, List, [], ◌∷◌, length, Option, None, Some, Result, Ok, Err, nat_le, nat_lt, leb-true}
+use Rattle.std.proofs.Common.{◌≡◌, ◌≤◌, ◌^◌, ◌==◌, refl, subst, sym, ℕ, Bool, true, false, cond, not, List, [], ◌∷◌, length, Option, None, Some, Result, Ok, Err, nat_le, nat_lt, leb-true}
 use Rattle.std.specs.List.{list_all}
+use Rattle.std.specs.Result.{result_ok}
 use Rattle.std.specs.Prelude.{ok_or, slice_index, ⊤}
 use Rattle.sg_base.specs.declared.call.Action.{Action}
 use Rattle.sg_base.specs.declared.call.Action.TheVariants as action
@@ -9,8 +10,9 @@ use Rattle.sg_collectives.specs.Members.{HasAmounts}
 use Rattle.sg_collectives.specs.declared.collective.Collective.{Collective}
 use Rattle.sg_collectives.specs.declared.collective.Collective.TheVariants as collective
 use Rattle.sg_script.specs.Known.{ScriptNames}
-use Rattle.sg_script.specs.Line.{Judgement, actor_in, single_action, script_amount, computing_of, entry_of, is_plain, line_judgement, no_words, of_words, one_actor, one_amount, one_mutex, one_semaphore, one_time, one_word, operation_of, or_bad_amount, receiving_of, sending_of, text_judgement, then_go, together, two_amounts, with_action, without_return}
-use Rattle.sg_script.specs.Verbs.{verb_of}
+use Rattle.sg_script.specs.Line.{Judgement, actor_in, both, computing_of, entry_of, is_plain, line_judgement, no_words, of_words, one_of, receiving_of, script_amount, sending_of, text_judgement, then_go, with_action, without_return}
+use Rattle.sg_script.specs.kept.Verbs.{operation_in, operation_of, verb_of}
+use Rattle.sg_script.proofs.Actions.{by_verb}
 use Rattle.sg_script.specs.Words.{words}
 use Rattle.sg_script.specs.declared.fault.LineFault.{LineFault}
 use Rattle.sg_script.specs.declared.line.Entry.{Entry}
@@ -19,7 +21,7 @@ use Rattle.sg_script.specs.declared.operation.Operation.TheVariants.{Alone, Toge
 use Rattle.sg_script.specs.declared.verbs.Verb.{Verb}
 use Rattle.sg_script.specs.declared.verbs.Verb.TheVariants.{Compute, Sleep, Send, ISend, Recv, IRecv, Wait, Barrier, Yield, Lock, Unlock, Acquire, Release, Create, Join, Kill, Suspend, Resume, Bcast, Reduce, Allreduce, Alltoall}
 use Rattle.sg_script.specs.declared.fault.LineFault.TheVariants as fault
-use Rattle.sg_units.specs.Amount.{amount_of, is_short, up_to, value_in_unit, value_of}
+use Rattle.sg_units.specs.Amount.{amount_of, is_short, time_of, up_to, value_in_unit, value_of}
 use Rattle.sg_units.specs.Number.{Number, number_of}
 use Rattle.sg_units.specs.Units.{amount_units, size_of}
 use Rattle.sg_units.specs.declared.fault.AmountFault.{AmountFault}
@@ -75,20 +77,22 @@ amount_small text =
     either_accepted IsSmall (length n.whole == 0) (Err amount.NotANumber) (value_in_unit (10 ^ 15) n (size_of amount_units n.unit)) tt
     (in_unit_small n (size_of amount_units n.unit))
 
+or_fault_small : (r : Result ℕ AmountFault) → Accepted IsSmall r → Accepted IsSmall (ok_or (result_ok r) fault.BadAmount)
+or_fault_small (Ok n) held = held
+or_fault_small (Err kind) held = tt
+
 argument_small : (text : List ℕ) → Accepted IsSmall (script_amount text)
-argument_small text = by (amount_of text) (amount_small text)
-  where
-    by : (r : Result ℕ AmountFault) → Accepted IsSmall r → Accepted IsSmall (or_bad_amount r)
-    by (Ok n) held = held
-    by (Err kind) held = tt
+argument_small text = or_fault_small (amount_of text) (amount_small text)
 
 abbrev AreSmall : ℕ × ℕ → Type 0
 AreSmall both = IsSmall both.0 × IsSmall both.1
 
-one_small : (args : List (List ℕ)) → Accepted IsSmall (one_amount args)
-one_small args = went (λ _. ⊤) IsSmall (one_word args) script_amount (anything (one_word args)) (λ word _. argument_small word)
+one_small : (args : List (List ℕ)) → Accepted IsSmall (one_of (λ text. result_ok (amount_of text)) fault.BadAmount args)
+one_small [] = tt
+one_small (text ∷ []) = argument_small text
+one_small (text ∷ next ∷ more) = tt
 
-both_small : (args : List (List ℕ)) → Accepted AreSmall (two_amounts args)
+both_small : (args : List (List ℕ)) → Accepted AreSmall (both script_amount script_amount args)
 both_small [] = tt
 both_small (one ∷ []) = tt
 both_small (one ∷ two ∷ []) =
@@ -97,18 +101,18 @@ both_small (one ∷ two ∷ []) =
 both_small (one ∷ two ∷ three ∷ more) = tt
 
 -- ---- operations
-alone_keeps : {X : Type 0} (r : Result X LineFault) (make : X → Action) → Accepted KeepsAmounts (single_action make r)
+alone_keeps : {X : Type 0} (r : Result X LineFault) (make : X → Action) → Accepted KeepsAmounts (then_go r (λ x. Ok (Alone (make x))))
 alone_keeps (Ok x) make = tt
 alone_keeps (Err kind) make = tt
 
 together_keeps : {X : Type 0} (P : X → Type 0) (r : Result X LineFault) (make : X → Collective) → Accepted P r → ((x : X) → P x → HasAmounts (make x)) →
-    Accepted KeepsAmounts (together make r)
+    Accepted KeepsAmounts (then_go r (λ x. Ok (Together (make x))))
 together_keeps P (Ok x) make held each = each x held
 together_keeps P (Err kind) make held each = tt
 
 operation_keeps : (known : ScriptNames) (verb : Verb) (args : List (List ℕ)) → Accepted KeepsAmounts (operation_of known verb args)
 operation_keeps known Compute args = alone_keeps (computing_of args) (λ c. action.Compute c.0 c.1)
-operation_keeps known Sleep args = alone_keeps (one_time args) action.Sleep
+operation_keeps known Sleep args = alone_keeps (one_of (λ text. result_ok (time_of text)) fault.BadAmount args) action.Sleep
 operation_keeps known Send args = alone_keeps (sending_of known args) (λ s. action.Send s.0 s.1 s.2)
 operation_keeps known ISend args = alone_keeps (sending_of known args) (λ s. action.ISend s.0 s.1 s.2)
 operation_keeps known Recv args = alone_keeps (receiving_of known args) action.Recv
@@ -116,19 +120,19 @@ operation_keeps known IRecv args = alone_keeps (receiving_of known args) action.
 operation_keeps known Wait args = alone_keeps (no_words args) (λ _. action.Wait)
 operation_keeps known Barrier args = alone_keeps (no_words args) (λ _. action.Barrier)
 operation_keeps known Yield args = alone_keeps (no_words args) (λ _. action.Yield)
-operation_keeps known Lock args = alone_keeps (one_mutex known args) action.Lock
-operation_keeps known Unlock args = alone_keeps (one_mutex known args) action.Unlock
-operation_keeps known Acquire args = alone_keeps (one_semaphore known args) action.Acquire
-operation_keeps known Release args = alone_keeps (one_semaphore known args) action.Release
-operation_keeps known Create args = alone_keeps (one_actor known args) action.Create
-operation_keeps known Join args = alone_keeps (one_actor known args) action.Join
-operation_keeps known Kill args = alone_keeps (one_actor known args) action.Kill
-operation_keeps known Suspend args = alone_keeps (one_actor known args) action.Suspend
-operation_keeps known Resume args = alone_keeps (one_actor known args) action.Resume
-operation_keeps known Bcast args = together_keeps IsSmall (one_amount args) collective.Bcast (one_small args) (λ n small. small)
-operation_keeps known Reduce args = together_keeps AreSmall (two_amounts args) (λ b. collective.Reduce b.0 b.1) (both_small args) (λ b small. small)
-operation_keeps known Allreduce args = together_keeps AreSmall (two_amounts args) (λ b. collective.Allreduce b.0 b.1) (both_small args) (λ b small. small)
-operation_keeps known Alltoall args = together_keeps IsSmall (one_amount args) collective.Alltoall (one_small args) (λ n small. small)
+operation_keeps known Lock args = alone_keeps (one_of known.mutex fault.UnknownObject args) action.Lock
+operation_keeps known Unlock args = alone_keeps (one_of known.mutex fault.UnknownObject args) action.Unlock
+operation_keeps known Acquire args = alone_keeps (one_of known.semaphore fault.UnknownObject args) action.Acquire
+operation_keeps known Release args = alone_keeps (one_of known.semaphore fault.UnknownObject args) action.Release
+operation_keeps known Create args = alone_keeps (one_of known.anyone fault.UnknownActor args) action.Create
+operation_keeps known Join args = alone_keeps (one_of known.anyone fault.UnknownActor args) action.Join
+operation_keeps known Kill args = alone_keeps (one_of known.anyone fault.UnknownActor args) action.Kill
+operation_keeps known Suspend args = alone_keeps (one_of known.anyone fault.UnknownActor args) action.Suspend
+operation_keeps known Resume args = alone_keeps (one_of known.anyone fault.UnknownActor args) action.Resume
+operation_keeps known Bcast args = together_keeps IsSmall (one_of (λ text. result_ok (amount_of text)) fault.BadAmount args) collective.Bcast (one_small args) (λ n small. small)
+operation_keeps known Reduce args = together_keeps AreSmall (both script_amount script_amount args) (λ b. collective.Reduce b.0 b.1) (both_small args) (λ b small. small)
+operation_keeps known Allreduce args = together_keeps AreSmall (both script_amount script_amount args) (λ b. collective.Allreduce b.0 b.1) (both_small args) (λ b small. small)
+operation_keeps known Alltoall args = together_keeps IsSmall (one_of (λ text. result_ok (amount_of text)) fault.BadAmount args) collective.Alltoall (one_small args) (λ n small. small)
 
 -- ---- entries
 abbrev IsFrom : ScriptNames → Entry → Type 0
@@ -138,17 +142,17 @@ abbrev IsGood : ScriptNames → Option Entry → Type 0
 IsGood known None = ⊤
 IsGood known (Some entry) = IsFrom known entry
 
-by_verb : (known : ScriptNames) (a : ActorId) (found : Option Verb) (args : List (List ℕ)) → IsKnown known a →
-    Accepted (IsGood known) (then_go (then_go (ok_or found fault.UnknownAction) (λ verb. operation_of known verb args))
-    (λ operation. Ok (Some (record { actor = a; operation = operation }))))
-by_verb known a None args is = tt
-by_verb known a (Some verb) args is =
-    went KeepsAmounts (IsGood known) (operation_of known verb args) (λ operation. Ok (Some (record { actor = a; operation = operation })))
-    (operation_keeps known verb args) (λ operation held. (is, held))
+verb_keeps : (known : ScriptNames) (found : Option Verb) (args : List (List ℕ)) →
+    Accepted KeepsAmounts (then_go (ok_or found fault.UnknownAction) (λ verb. operation_of known verb args))
+verb_keeps known None args = tt
+verb_keeps known (Some verb) args = operation_keeps known verb args
 
 action_good : (known : ScriptNames) (a : ActorId) (args : List (List ℕ)) → IsKnown known a → Accepted (IsGood known) (with_action known a args)
 action_good known a [] is = tt
-action_good known a (word ∷ args) is = by_verb known a (verb_of word) args is
+action_good known a (word ∷ args) is =
+    went KeepsAmounts (IsGood known) (operation_in known word args) (λ operation. Ok (Some (record { actor = a; operation = operation })))
+    (subst (λ (r : Result Operation LineFault). Accepted KeepsAmounts r) (sym (by_verb known word args)) (verb_keeps known (verb_of word) args))
+    (λ operation held. (is, held))
 
 known_actor : (known : ScriptNames) (name : List ℕ) → Accepted (IsKnown known) (actor_in known name)
 known_actor known name = by (known.actor name) (λ a e. (name, e))

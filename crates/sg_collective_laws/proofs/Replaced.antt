@@ -5,7 +5,7 @@ use Rattle.std.proofs.lemmas.List.{map-append}
 use Rattle.sg_base.specs.declared.call.Action.{Action}
 use Rattle.sg_base.specs.declared.ids.ActorId.{ActorId}
 use Rattle.sg_collectives.specs.Members.{actions_of as collective_actions}
-use Rattle.sg_script.specs.Answer.{script_actions, first_bad}
+use Rattle.sg_script.specs.kept.Answers.{first_bad, script_actions}
 use Rattle.sg_script.specs.Known.{ScriptNames}
 use Rattle.sg_script.specs.Line.{Judgement, line_judgement}
 use Rattle.sg_script.specs.Operation.{line_actions}

@@ -19,6 +19,7 @@ use Rattle.sg_script.specs.Stands.{IsFetched, IsCut, IsEnough, IsNearNeed, Fetch
 use Rattle.sg_script.specs.kept.Queues.{waits}
 use Rattle.sg_script.specs.kept.Spending.{IsThrifty, Spends}
 use Rattle.sg_script.specs.kept.Steps.{Goes, Answers, Ends, no_fetch, one_fetch}
+use Rattle.sg_script.proofs.Answered.{answer_is}
 use Rattle.sg_script.proofs.Chains.{may_back}
 use Rattle.sg_script.proofs.Counting.{one_more_is}
 use Rattle.sg_script.proofs.QueueLemmas.{none_wait}
@@ -158,7 +159,8 @@ pub new_stands : (known : ScriptNames) (stage : Stage) (kept : Kept) (n : ℕ) �
 new_stands known stage kept n queues lines pending = record {
   answers = λ rest broken may actor later.
       let one : 0 + later ≡ later = omega arith in
-      ap (λ (k : ℕ). answer_from known nothing_read rest broken actor k) one ∙ rw (queues, lines, pending, none_wait known.members n actor) refl;
+      answer_is known (record { bytes = rest; broken = broken }) actor (0 + later)
+      ∙ ap (λ (k : ℕ). answer_from known nothing_read rest broken actor k) one ∙ rw (queues, lines, pending, none_wait known.members n actor) refl;
   needs = λ rest broken may actor later.
       let wait : length (waits known.members kept.queues actor) ≡ 0 = rw queues (ap length (none_wait known.members n actor)) in
       let number : 0 + length (waits known.members kept.queues actor) + later ≡ later = omega (arith, wait) in

@@ -1,22 +1,26 @@
 -- What the bytes after a line need, and the line before them.
-use Rattle.std.proofs.Common.{◌≡◌, ◌+◌, ◌-◌, ◌∙◌, suc, sym, ap, refl, ℕ, Bool, true, false, cond, ltb, List, [], ◌∷◌, length, min, Option, None, Some, Ok, Err, arith}
-use Rattle.std.specs.Prelude.{option_map}
+use Rattle.std.proofs.Common.{◌≡◌, ◌+◌, ◌-◌, ◌∙◌, suc, sym, ap, refl, ℕ, Bool, true, false, cond, ltb, List, [], ◌∷◌, length, take, min, Option, None, Some, Result, Ok, Err, arith}
+use Rattle.std.specs.Prelude.{option_map, slice_get, sum_by}
 use Rattle.std.specs.List.{slice_split}
 use Rattle.std.proofs.lemmas.Bool.Decides.{nat_tests}
+use Rattle.std.proofs.lemmas.List.Sums.{sum_by-cons}
 use Rattle.sg_script.specs.declared.fault.LineFault.{LineFault}
 use Rattle.sg_script.specs.declared.fault.LineFault.TheVariants.{TooLong, NotAscii, UnknownActor, UnknownAction, ArgumentCount, BadAmount, TooManyLines, UnknownObject}
 use Rattle.sg_script.specs.declared.line.Entry.{Entry}
 use Rattle.sg_script.specs.Known.{ScriptNames}
-use Rattle.sg_script.specs.Answer.{is_newline, judgements}
+use Rattle.sg_base.specs.declared.call.Action.{Action}
+use Rattle.sg_script.specs.Answer.{deciding_line, is_newline, judgements}
 use Rattle.sg_script.specs.Line.{Judgement}
-use Rattle.sg_script.specs.Needed.{deciding_line, front_length, need_by, need_from, own_actions, through, told_at}
+use Rattle.sg_script.specs.Needed.{need_by, need_from, through, told_at}
+use Rattle.sg_script.specs.Operation.{line_actions}
+use Rattle.sg_script.specs.kept.Front.{own_actions}
 
 -- a line after one more
-abbrev behind_one : ℕ × Judgement → ℕ × Judgement
+abbrev behind_one : ℕ × Result (Option Action) LineFault → ℕ × Result (Option Action) LineFault
 behind_one at = (suc at.0, at.1)
 
 -- a line in front moves all places after it
-told_more : (late : Bool) (k start end : ℕ) (said : Judgement) → told_at late (k + start) (k + end) said ≡ k + told_at late start end said
+told_more : (late : Bool) (k start end : ℕ) (said : Result (Option Action) LineFault) → told_at late (k + start) (k + end) said ≡ k + told_at late start end said
 told_more true k start end said = omega arith
 told_more false k start end (Ok said) = refl
 told_more false k start end (Err TooLong) = omega arith
@@ -28,12 +32,18 @@ told_more false k start end (Err BadAmount) = refl
 told_more false k start end (Err TooManyLines) = refl
 told_more false k start end (Err UnknownObject) = refl
 
+-- a line with its newline
+abbrev pub with_newline : List ℕ → ℕ
+with_newline line = length line + 1
+
 through_more : (line whole behind : List ℕ) (n : ℕ) → slice_split is_newline whole ≡ line ∷ slice_split is_newline behind → length whole ≡ length line + 1 + length behind → through whole (suc n) ≡ length line + 1 + through behind n
 through_more line whole behind n cut size =
-    let least : min (length line + 1 + front_length n (slice_split is_newline behind)) (length whole) ≡ length line + 1 + min (front_length n (slice_split is_newline behind)) (length behind) = omega (arith, size) in
-    ap (λ (parts : List (List ℕ)). min (front_length (suc n) parts) (length whole)) cut ∙ least
+    let behind_it : ℕ = sum_by with_newline (take n (slice_split is_newline behind)) in
+    let least : min (length line + 1 + behind_it) (length whole) ≡ length line + 1 + min behind_it (length behind) = omega (arith, size) in
+    ap (λ (parts : List (List ℕ)). min (sum_by with_newline (take (suc n) parts)) (length whole)) cut
+    ∙ ap (λ (sum : ℕ). min sum (length whole)) (sum_by-cons with_newline line (take n (slice_split is_newline behind))) ∙ least
 
-needed_more : (before : ℕ) (line whole behind : List ℕ) (at : Option (ℕ × Judgement)) → slice_split is_newline whole ≡ line ∷ slice_split is_newline behind → length whole ≡ length line + 1 + length behind
+needed_more : (before : ℕ) (line whole behind : List ℕ) (at : Option (ℕ × Result (Option Action) LineFault)) → slice_split is_newline whole ≡ line ∷ slice_split is_newline behind → length whole ≡ length line + 1 + length behind
     → need_by before whole (option_map behind_one at) ≡ length line + 1 + need_by (before + 1) behind at
 needed_more before line whole behind None cut size = size
 needed_more before line whole behind (Some at) cut size =
@@ -46,15 +56,17 @@ needed_more before line whole behind (Some at) cut size =
     ∙ told_more late k (through behind at.0) (through behind (suc at.0)) at.1
 
 -- after the actions of a line the lines after it decide
-passed_over : (known : ScriptNames) (actor later own : ℕ) (said : Option Entry) (more : List Judgement)
-    → cond (ltb (own + later) own) (Some (0, Ok said)) (option_map behind_one (deciding_line known actor (own + later - own) more)) ≡ option_map behind_one (deciding_line known actor later more)
-passed_over known actor later own said more =
+passed_over : (known : ScriptNames) (actor later own : ℕ) (found : Option Action) (more : List Judgement)
+    → cond (ltb (own + later) own) (Some (0, Ok found)) (option_map behind_one (deciding_line known actor (own + later - own) more)) ≡ option_map behind_one (deciding_line known actor later more)
+passed_over known actor later own found more =
     let no : ltb (own + later) own ≡ false = grind (arith, nat_tests) in
     let same : own + later - own ≡ later = omega arith in
     rw (no, same) refl
 
 pub deciding_more : (known : ScriptNames) (actor later : ℕ) (said : Option Entry) (more : List Judgement) → deciding_line known actor (own_actions known actor said + later) (Ok said ∷ more) ≡ option_map behind_one (deciding_line known actor later more)
-deciding_more known actor later said more = passed_over known actor later (own_actions known actor said) said more
+deciding_more known actor later said more =
+    let own : List Action = line_actions known actor said in
+    passed_over known actor later (length own) (slice_get own (length own + later)) more
 
 -- a line with its newline, after its actions
 pub needs_more : (known : ScriptNames) (broken : Bool) (actor before later : ℕ) (line whole behind : List ℕ) (said : Option Entry)

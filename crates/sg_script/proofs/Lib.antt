@@ -1,4 +1,6 @@
+pub mod Actions
 pub mod AllNeeds
+pub mod Answered
 pub mod Asking
 pub mod Chains
 pub mod Counting

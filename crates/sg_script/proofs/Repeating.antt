@@ -3,7 +3,9 @@ use Rattle.std.proofs.Common.{◌≡◌, ◌∙◌, ◌≤◌, sym, refl, ℕ, B
 use Rattle.std.specs.Prelude.{slice_get}
 use Rattle.std.proofs.lemmas.Option.{slice_get_cases, slice_get_past}
 use Rattle.sg_base.specs.declared.call.Action.{Action}
-use Rattle.sg_script.specs.Answer.{script_actions, answer_by, first_bad, judgements}
+use Rattle.sg_script.specs.Answer.{judgements}
+use Rattle.sg_script.specs.kept.Answers.{answered_by, first_bad, script_actions}
+use Rattle.sg_script.proofs.Answered.{answer_is}
 use Rattle.sg_script.specs.Laws.{FaultsRepeat}
 use Rattle.sg_script.specs.declared.fault.ScriptFault.{ScriptFault}
 
@@ -13,11 +15,12 @@ none_later actions earlier later far none = elim (slice_get_cases actions earlie
   | inr past ↦ slice_get_past actions later (omega (arith, far, past.0))
 ]
 
-as_before : (broken : Bool) (bad : Option ScriptFault) (now then : Option Action) (fault : ScriptFault) → (now ≡ None → then ≡ None) → answer_by broken bad now ≡ Err fault → answer_by broken bad then ≡ Err fault
+as_before : (broken : Bool) (bad : Option ScriptFault) (now then : Option Action) (fault : ScriptFault) → (now ≡ None → then ≡ None) → answered_by broken bad now ≡ Err fault → answered_by broken bad then ≡ Err fault
 as_before broken bad (Some action) then fault none told = cc
 as_before broken bad None then fault none told = rw (none refl) told
 
 pub repeats : FaultsRepeat
 repeats known source actor earlier later fault far told =
     let all = judgements known 0 source.bytes source.broken in
-    as_before source.broken (first_bad 0 all) _ _ fault (none_later (script_actions known actor all) earlier later far) told
+    answer_is known source actor later
+    ∙ as_before source.broken (first_bad 0 all) _ _ fault (none_later (script_actions known actor all) earlier later far) (sym (answer_is known source actor earlier) ∙ told)

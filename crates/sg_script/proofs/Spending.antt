@@ -13,8 +13,8 @@ use Rattle.sg_script.specs.declared.fault.ScriptFault.{ScriptFault}
 use Rattle.sg_script.specs.declared.fault.ScriptFault.TheVariants.{Line, Read, Memory}
 use Rattle.sg_script.specs.Answer.{judgement_of}
 use Rattle.sg_script.specs.Rest.{May}
-use Rattle.sg_script.specs.kept.Front.{Leads, IsOpen}
-use Rattle.sg_script.specs.Needed.{need_from, own_actions}
+use Rattle.sg_script.specs.kept.Front.{IsOpen, Leads, own_actions}
+use Rattle.sg_script.specs.Needed.{need_from}
 use Rattle.sg_script.specs.Operation.{line_actions}
 use Rattle.sg_script.specs.kept.Queues.{waits}
 use Rattle.sg_script.specs.Stands.{Kept}

@@ -14,7 +14,8 @@ use Rattle.sg_script.specs.declared.fault.LineFault.{LineFault}
 use Rattle.sg_script.specs.Known.{ScriptNames}
 use Rattle.sg_script.specs.declared.fault.ScriptFault.{ScriptFault}
 use Rattle.sg_script.specs.declared.fault.ScriptFault.TheVariants.{Line, Read}
-use Rattle.sg_script.specs.Answer.{is_newline, lines_among, line_judgements, judgement_of, judgements, script_actions, first_bad, answer_by}
+use Rattle.sg_script.specs.Answer.{is_newline, lines_among, line_judgements, judgement_of, judgements}
+use Rattle.sg_script.specs.kept.Answers.{answered_by, first_bad, script_actions}
 use Rattle.sg_script.specs.Line.{Judgement}
 use Rattle.std.specs.List.{flat_map, slice_split}
 use Rattle.sg_script.proofs.Splits.{split_none}
@@ -31,7 +32,7 @@ use Rattle.sg_script.proofs.Spending.{later_same}
 
 -- the answer by the judgements of what is still to come
 abbrev answer_with : ScriptNames → Kept → Bool → List Judgement → ℕ → ℕ → Result (Option Action) ScriptFault
-answer_with known kept broken more actor earlier = answer_by broken (first_bad kept.lines more) (slice_get (waits known.members kept.queues actor ++ script_actions known actor more) earlier)
+answer_with known kept broken more actor earlier = answered_by broken (first_bad kept.lines more) (slice_get (waits known.members kept.queues actor ++ script_actions known actor more) earlier)
 
 -- the line at the front is good or skipped, and its entry goes into its queue
 said_more : (known : ScriptNames) (queues : List (List Waiting)) (said : Option Entry) (actor : ℕ) (more : List Judgement) → HasQueue (length queues) said → waits known.members queues actor ++ script_actions known actor (Ok said ∷ more) ≡ waits known.members (queues_with said queues) actor ++ script_actions known actor more
@@ -49,7 +50,7 @@ moves_line known stage old new len end said leads is within passes rest broken m
     l.all ∙ ap (λ (list : List Judgement). judgement_of known (old.lines + 1) (take len old.pending) ∷ list) (l.behind (ap is_ok is)) ∙ ap (λ (j : Judgement). j ∷ judgements known (old.lines + 1) (drop end old.pending ++ rest) broken) is in
     let front : answer_with known old broken (judgements known old.lines (old.pending ++ rest) broken) actor later ≡ answer_with known old broken (Ok said ∷ judgements known (old.lines + 1) (drop end old.pending ++ rest) broken) actor later =
     ap (λ (list : List Judgement). answer_with known old broken list actor later) all in
-    front ∙ ap (λ (q : List Action). answer_by broken (first_bad (old.lines + 1) (judgements known (old.lines + 1) (drop end old.pending ++ rest) broken)) (slice_get q later)) (said_more known old.queues said actor (judgements known (old.lines + 1) (drop end old.pending ++ rest) broken) within)
+    front ∙ ap (λ (q : List Action). answered_by broken (first_bad (old.lines + 1) (judgements known (old.lines + 1) (drop end old.pending ++ rest) broken)) (slice_get q later)) (said_more known old.queues said actor (judgements known (old.lines + 1) (drop end old.pending ++ rest) broken) within)
     ∙ rw (passes.queued, passes.lines, passes.pending) refl
 
 -- ---- taking the first action that waits
@@ -76,8 +77,8 @@ moves_pop known stage actor old new pops rest broken may other later =
 pub tells_pop : (known : ScriptNames) (stage : Stage) (actor : ℕ) (action : Action) (old new : Kept) → Pops known actor (Some action) old new → Tells known actor (Ok (Some action)) stage [] old new
 tells_pop known stage actor action old new pops =
     let more : List ℕ → Bool → List Judgement = λ rest broken. judgements known old.lines (old.pending ++ rest) broken in
-    let whole : (rest : List ℕ) (broken : Bool) (k : ℕ) → answer_from known old rest broken actor k ≡ answer_by broken (first_bad old.lines (more rest broken)) (slice_get (action ∷ (waits known.members new.queues actor ++ script_actions known actor (more rest broken))) k) = λ rest broken k.
-    ap (λ (q : List Action). answer_by broken (first_bad old.lines (more rest broken)) (slice_get (q ++ script_actions known actor (more rest broken)) k)) pops.first_is in
+    let whole : (rest : List ℕ) (broken : Bool) (k : ℕ) → answer_from known old rest broken actor k ≡ answered_by broken (first_bad old.lines (more rest broken)) (slice_get (action ∷ (waits known.members new.queues actor ++ script_actions known actor (more rest broken))) k) = λ rest broken k.
+    ap (λ (q : List Action). answered_by broken (first_bad old.lines (more rest broken)) (slice_get (q ++ script_actions known actor (more rest broken)) k)) pops.first_is in
     record {
       now = λ rest broken may. whole rest broken 0;
       later = λ rest broken may later. whole rest broken (suc later) ∙ rw (pops.lines, pops.pending) refl;
@@ -132,7 +133,7 @@ pub tells_bad : (known : ScriptNames) (stage : Stage) (kept : Kept) (len end act
 tells_bad known stage kept len end actor kind leads empty is = stuck known actor (Err (Line (kept.lines + 1) kind)) stage kept (λ rest broken may k.
     let l : Leads known kept.lines kept.pending len end rest broken = leads rest broken may in
     ap (λ (list : List Judgement). answer_with known kept broken list actor k) (l.all ∙ ap (λ (j : Judgement). j ∷ l.others) is)
-    ∙ ap (λ (q : List Action). answer_by broken (Some (Line (kept.lines + 1) kind)) (slice_get (q ++ []) k)) empty)
+    ∙ ap (λ (q : List Action). answered_by broken (Some (Line (kept.lines + 1) kind)) (slice_get (q ++ []) k)) empty)
 
 pub tells_end : (known : ScriptNames) (stage : Stage) (kept : Kept) (actor : ℕ) → stage ≡ Over → kept.pending ≡ [] → waits known.members kept.queues actor ≡ [] → Tells known actor (Ok None) stage [] kept kept
 tells_end known stage kept actor over none empty = stuck known actor (Ok None) stage kept (λ rest broken may k.
@@ -148,7 +149,7 @@ pub tells_broken : (known : ScriptNames) (stage : Stage) (kept : Kept) (actor : 
 tells_broken known stage kept actor is unended empty = stuck known actor (Err Read) stage kept (λ rest broken may k.
     let may' : (rest ≡ []) × (broken ≡ true) = rw is at may in
     rw (may'.0, may'.1) (ap (λ (list : List Judgement). answer_with known kept true list actor k) (none_left known kept.lines kept.pending unended)
-    ∙ ap (λ (q : List Action). answer_by true None (slice_get (q ++ []) k)) empty))
+    ∙ ap (λ (q : List Action). answered_by true None (slice_get (q ++ []) k)) empty))
 
 pub moves_piece : (known : ScriptNames) (stage : Stage) (piece : List ℕ) (old new : Kept) → new.queues ≡ old.queues → new.lines ≡ old.lines → new.pending ≡ old.pending ++ piece → Moves known stage piece old new
 moves_piece known stage piece old new queues lines pending rest broken may actor later =

@@ -14,9 +14,8 @@ use Rattle.sg_script.specs.declared.fault.ScriptFault.{ScriptFault}
 use Rattle.sg_script.specs.declared.fault.ScriptFault.TheVariants.{Line, Read, Memory}
 use Rattle.sg_script.specs.Answer.{judgement_of}
 use Rattle.sg_script.specs.Line.{Judgement}
-use Rattle.sg_script.specs.Needed.{own_actions}
 use Rattle.sg_script.specs.Rest.{May}
-use Rattle.sg_script.specs.kept.Front.{Leads, IsOpen}
+use Rattle.sg_script.specs.kept.Front.{Leads, IsOpen, own_actions}
 use Rattle.sg_script.specs.kept.Queues.{queue_at, waits}
 use Rattle.sg_script.specs.Stands.{Kept}
 use Rattle.sg_script.specs.kept.Steps.{Answers, Ends, Goes, HasQueue, LineTells, no_fetch, one_fetch, Passes, Pops, queues_with, ReadIs, StepIs, to_do}

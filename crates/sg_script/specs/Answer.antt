@@ -1,8 +1,9 @@
 -- The answer to an actor's j-th fetch, by the whole script.
-use Rattle.std.specs.Prelude.{ℕ, Bool, true, false, ◌+◌, ◌==◌, ◌||◌, ◌&&◌, List, [], ◌∷◌, ◌++◌, length, slice_get, Option, None, Some, Result, Ok, Err, if◌then◌else◌, nat_lt}
+use Rattle.std.specs.Prelude.{ℕ, suc, Bool, true, false, ◌+◌, ◌-◌, ◌==◌, ◌||◌, ◌&&◌, List, [], ◌∷◌, length, slice_get, Option, None, Some, option_map, Result, Ok, Err, if◌then◌else◌, nat_lt}
 use Rattle.std.specs.List.{slice_split}
 use Rattle.sg_edge.specs.Sources.{Source}
 use Rattle.sg_base.specs.declared.call.Action.{Action}
+use Rattle.sg_script.specs.declared.fault.LineFault.{LineFault}
 use Rattle.sg_script.specs.declared.fault.LineFault.TheVariants.{TooManyLines}
 use Rattle.sg_script.specs.Known.{ScriptNames}
 use Rattle.sg_script.specs.Line.{Judgement, line_judgement}
@@ -44,30 +45,23 @@ abbrev pub judgements : ScriptNames → ℕ → List ℕ → Bool → List Judge
 judgements known before bytes broken =
     line_judgements known before (lines_among broken before (slice_split is_newline bytes))
 
--- the actions of an actor: the expansions of its good lines before the first bad line, in order
-abbrev pub script_actions : ScriptNames → ℕ → List Judgement → List Action
-script_actions known actor [] = []
-script_actions known actor (Ok said ∷ more) =
-    line_actions known actor said ++ script_actions known actor more
-script_actions known actor (Err kind ∷ more) = []
+-- The line that decides an actor's fetch after so many of its fetches: the one from which its action comes, or a bad
+-- one before that. How many lines precede it, and the action or why it is bad.
+abbrev pub deciding_line : ScriptNames → ℕ → ℕ → List Judgement → Option (ℕ × Result (Option Action) LineFault)
+deciding_line known actor earlier [] = None
+deciding_line known actor earlier (Err kind ∷ more) = Some (0, Err kind)
+deciding_line known actor earlier (Ok said ∷ more) =
+    let own = line_actions known actor said in
+    if nat_lt earlier (length own) then Some (0, Ok (slice_get own earlier))
+    else option_map (λ at. (suc at.0, at.1)) (deciding_line known actor (earlier - length own) more)
 
--- the fault of the first bad line
-abbrev pub first_bad : ℕ → List Judgement → Option ScriptFault
-first_bad before [] = None
-first_bad before (Ok said ∷ more) = first_bad (before + 1) more
-first_bad before (Err kind ∷ more) = Some (Line (before + 1) kind)
-
--- the answer to a fetch: if no action remains, the first bad line is reported, else the read
--- fault, else that there is no more
-abbrev pub answer_by : Bool → Option ScriptFault → Option Action →
-    Result (Option Action) ScriptFault
-answer_by broken bad (Some action) = Ok (Some action)
-answer_by broken (Some fault) None = Err fault
-answer_by true None None = Err Read
-answer_by false None None = Ok None
+-- the answer to a fetch, by the line that decides it; without one the read fault, else that there is no more
+abbrev pub answer_by : Bool → Option (ℕ × Result (Option Action) LineFault) → Result (Option Action) ScriptFault
+answer_by broken None = if broken then Err Read else Ok None
+answer_by broken (Some (before, Ok action)) = Ok action
+answer_by broken (Some (before, Err kind)) = Err (Line (before + 1) kind)
 
 -- the answer to an actor's fetch after so many of its fetches
 abbrev pub answer_of : ScriptNames → Source → ℕ → ℕ → Result (Option Action) ScriptFault
 answer_of known source actor earlier =
-    let all = judgements known 0 source.bytes source.broken in
-    answer_by source.broken (first_bad 0 all) (slice_get (script_actions known actor all) earlier)
+    answer_by source.broken (deciding_line known actor earlier (judgements known 0 source.bytes source.broken))

@@ -8,6 +8,5 @@ pub mod Needed
 pub mod Operation
 pub mod Rest
 pub mod Stands
-pub mod Verbs
 pub mod Words
 pub mod kept

@@ -1,24 +1,21 @@
 -- What one line of a script says.
-use Rattle.std.specs.Prelude.{ℕ, Bool, ◌==◌, ◌||◌, ◌&&◌, ◌-◌, List, [], ◌∷◌, length, take, slice_index, Option, None, Some, Result, Ok, Err, ok_or, if◌then◌else◌, nat_lt, nat_le, ⊤}
-use Rattle.std.specs.List.{list_all}
+use Rattle.std.specs.Prelude.{ℕ, Bool, ◌==◌, ◌||◌, ◌&&◌, ◌-◌, List, [], ◌∷◌, length, take, slice_index, Option, None, Some, Result, Ok, Err, ok_or, if◌then◌else◌, nat_lt, nat_le, codes, bytes_eq, ⊤}
+use Rattle.std.specs.List.{find, list_all}
+use Rattle.std.specs.Result.{result_ok}
 use Rattle.sg_base.specs.declared.call.Action.{Action}
 use Rattle.sg_base.specs.declared.call.Action.TheVariants as action
 use Rattle.sg_base.specs.declared.ids.ActorId.{ActorId}
 use Rattle.sg_base.specs.Limits.{Extent, IsActorIn}
 use Rattle.sg_collectives.specs.declared.collective.Collective.{Collective}
 use Rattle.sg_collectives.specs.declared.collective.Collective.TheVariants as collective
-use Rattle.sg_units.specs.declared.fault.AmountFault.{AmountFault}
 use Rattle.sg_units.specs.Amount.{amount_of, bandwidth_of, time_of}
 use Rattle.sg_script.specs.declared.line.Entry.{Entry}
 use Rattle.sg_script.specs.declared.fault.LineFault.{LineFault}
 use Rattle.sg_script.specs.declared.fault.LineFault.TheVariants.{TooLong, NotAscii, UnknownActor, UnknownAction, ArgumentCount, BadAmount, UnknownObject}
 use Rattle.sg_script.specs.declared.operation.Operation.{Operation}
 use Rattle.sg_script.specs.declared.operation.Operation.TheVariants.{Alone, Together}
-use Rattle.sg_script.specs.declared.verbs.Verb.{Verb}
-use Rattle.sg_script.specs.declared.verbs.Verb.TheVariants.{Compute, Sleep, Send, ISend, Recv, IRecv, Wait, Barrier, Yield, Lock, Unlock, Acquire, Release, Create, Join, Kill, Suspend, Resume, Bcast, Reduce, Allreduce, Alltoall}
 use Rattle.sg_script.specs.Known.{ScriptNames}
 use Rattle.sg_script.specs.Operation.{IsOperation}
-use Rattle.sg_script.specs.Verbs.{verb_of}
 use Rattle.sg_script.specs.Words.{words}
 
 -- what a line says, None if it is skipped; or why it is bad
@@ -37,74 +34,42 @@ abbrev pub no_words : List (List ℕ) → Result (Unit {0}) LineFault
 no_words [] = Ok tt
 no_words (word ∷ more) = Err ArgumentCount
 
--- the only argument
-abbrev pub one_word : List (List ℕ) → Result (List ℕ) LineFault
-one_word (word ∷ []) = Ok word
-one_word other = Err ArgumentCount
+-- the only argument, as what it stands for; if it stands for nothing, this is why the line is bad
+abbrev pub one_of : {X : Type 0} → (List ℕ → Option X) → LineFault → List (List ℕ) → Result X LineFault
+one_of read fault (word ∷ []) = ok_or (read word) fault
+one_of read fault other = Err ArgumentCount
 
--- an argument that a reader of units refuses is a bad amount
-abbrev pub or_bad_amount : Result ℕ AmountFault → Result ℕ LineFault
-or_bad_amount (Ok n) = Ok n
-or_bad_amount (Err kind) = Err BadAmount
+-- two arguments, of which the first is judged first
+abbrev pub both : {X Y : Type 0} → (List ℕ → Result X LineFault) → (List ℕ → Result Y LineFault) → List (List ℕ) →
+    Result (X × Y) LineFault
+both first second (one ∷ two ∷ []) = then_go (first one) (λ x. then_go (second two) (λ y. Ok (x, y)))
+both first second other = Err ArgumentCount
 
 -- an argument in flops or bytes, up to 10^15
 abbrev pub script_amount : List ℕ → Result ℕ LineFault
-script_amount text = or_bad_amount (amount_of text)
+script_amount text = ok_or (result_ok (amount_of text)) BadAmount
 
 -- a number from 1 on up to this one
 abbrev pub from_one_to : ℕ → ℕ → Result ℕ LineFault
 from_one_to most n = if nat_lt 0 n && nat_le n most then Ok n else Err BadAmount
 
--- the priority of an execution, from 1 to 1,000
-abbrev pub priority_in : List ℕ → Result ℕ LineFault
-priority_in text = then_go (script_amount text) (from_one_to 1000)
-
 -- the rate of a send, from 1 to 10^15 bytes a second
 abbrev pub rate_in : List ℕ → Result ℕ LineFault
-rate_in text = then_go (or_bad_amount (bandwidth_of text)) (from_one_to 1000000000000000)
+rate_in text = then_go (ok_or (result_ok (bandwidth_of text)) BadAmount) (from_one_to 1000000000000000)
 
 -- an actor that replays
 abbrev pub actor_in : ScriptNames → List ℕ → Result ActorId LineFault
 actor_in known name = ok_or (known.actor name) UnknownActor
 
 -- ---- arguments
--- the only argument, as an amount
-abbrev pub one_amount : List (List ℕ) → Result ℕ LineFault
-one_amount args = then_go (one_word args) script_amount
-
--- the only argument, as a time in nanoseconds
-abbrev pub one_time : List (List ℕ) → Result ℕ LineFault
-one_time args = then_go (one_word args) (λ text. or_bad_amount (time_of text))
-
--- the only argument, as the name of an actor of any function
-abbrev pub one_actor : ScriptNames → List (List ℕ) → Result ActorId LineFault
-one_actor known args = then_go (one_word args) (λ name. ok_or (known.anyone name) UnknownActor)
-
--- the only argument, as the name of a mutex
-abbrev pub one_mutex : ScriptNames → List (List ℕ) → Result ℕ LineFault
-one_mutex known args = then_go (one_word args) (λ name. ok_or (known.mutex name) UnknownObject)
-
--- the only argument, as the name of a semaphore
-abbrev pub one_semaphore : ScriptNames → List (List ℕ) → Result ℕ LineFault
-one_semaphore known args =
-    then_go (one_word args) (λ name. ok_or (known.semaphore name) UnknownObject)
-
--- the two arguments of a reduction: its bytes and its flops
-abbrev pub two_amounts : List (List ℕ) → Result (ℕ × ℕ) LineFault
-two_amounts (one ∷ two ∷ []) = then_go (script_amount one) (λ a. then_go (script_amount two) (λ b. Ok (a, b)))
-two_amounts other = Err ArgumentCount
-
--- an amount, and optionally a priority, which is 1 else
+-- an amount, and optionally a priority from 1 to 1,000, which is 1 else
 abbrev pub computing_of : List (List ℕ) → Result (ℕ × ℕ) LineFault
-computing_of (flops ∷ priority ∷ []) =
-    then_go (script_amount flops) (λ n. then_go (priority_in priority) (λ p. Ok (n, p)))
-computing_of other = then_go (one_amount other) (λ n. Ok (n, 1))
+computing_of (flops ∷ []) = then_go (script_amount flops) (λ n. Ok (n, 1))
+computing_of other = both script_amount (λ text. then_go (script_amount text) (from_one_to 1000)) other
 
--- a peer and an amount; the peer is judged first
+-- a peer and an amount
 abbrev pub message_of : ScriptNames → List (List ℕ) → Result (ActorId × ℕ) LineFault
-message_of known (peer ∷ bytes ∷ []) =
-    then_go (actor_in known peer) (λ to. then_go (script_amount bytes) (λ n. Ok (to, n)))
-message_of known other = Err ArgumentCount
+message_of known = both (actor_in known) script_amount
 
 -- a peer and an amount, and optionally a rate, which is 0 else
 abbrev pub sending_of : ScriptNames → List (List ℕ) → Result (ActorId × ℕ × ℕ) LineFault
@@ -119,46 +84,47 @@ receiving_of known (peer ∷ []) = actor_in known peer
 receiving_of known other = then_go (message_of known other) (λ both. Ok both.0)
 
 -- ---- operations
--- an action of these arguments, which an actor does alone
-abbrev pub single_action : {X : Type 0} → (X → Action) → Result X LineFault → Result Operation LineFault
-single_action make args = then_go args (λ x. Ok (Alone (make x)))
-
--- a collective of these arguments, which all members do together
-abbrev pub together : {X : Type 0} → (X → Collective) → Result X LineFault →
+-- an action of what is read of the arguments, which an actor does alone
+abbrev pub alone : {X : Type 0} → (X → Action) → (List (List ℕ) → Result X LineFault) → List (List ℕ) →
     Result Operation LineFault
-together make args = then_go args (λ x. Ok (Together (make x)))
+alone make read args = then_go (read args) (λ x. Ok (Alone (make x)))
 
--- the table of actions
-abbrev pub operation_of : ScriptNames → Verb → List (List ℕ) → Result Operation LineFault
-operation_of known Compute args = single_action (λ c. action.Compute c.0 c.1) (computing_of args)
-operation_of known Sleep args = single_action action.Sleep (one_time args)
-operation_of known Send args = single_action (λ s. action.Send s.0 s.1 s.2) (sending_of known args)
-operation_of known ISend args = single_action (λ s. action.ISend s.0 s.1 s.2) (sending_of known args)
-operation_of known Recv args = single_action action.Recv (receiving_of known args)
-operation_of known IRecv args = single_action action.IRecv (receiving_of known args)
-operation_of known Wait args = single_action (λ _. action.Wait) (no_words args)
-operation_of known Barrier args = single_action (λ _. action.Barrier) (no_words args)
-operation_of known Yield args = single_action (λ _. action.Yield) (no_words args)
-operation_of known Lock args = single_action action.Lock (one_mutex known args)
-operation_of known Unlock args = single_action action.Unlock (one_mutex known args)
-operation_of known Acquire args = single_action action.Acquire (one_semaphore known args)
-operation_of known Release args = single_action action.Release (one_semaphore known args)
-operation_of known Create args = single_action action.Create (one_actor known args)
-operation_of known Join args = single_action action.Join (one_actor known args)
-operation_of known Kill args = single_action action.Kill (one_actor known args)
-operation_of known Suspend args = single_action action.Suspend (one_actor known args)
-operation_of known Resume args = single_action action.Resume (one_actor known args)
-operation_of known Bcast args = together collective.Bcast (one_amount args)
-operation_of known Reduce args = together (λ b. collective.Reduce b.0 b.1) (two_amounts args)
-operation_of known Allreduce args = together (λ b. collective.Allreduce b.0 b.1) (two_amounts args)
-operation_of known Alltoall args = together collective.Alltoall (one_amount args)
+-- a collective of what is read of the arguments, which all members do together
+abbrev pub together : {X : Type 0} → (X → Collective) → (List (List ℕ) → Result X LineFault) → List (List ℕ) →
+    Result Operation LineFault
+together make read args = then_go (read args) (λ x. Ok (Together (make x)))
+
+-- the table of actions: the word of each, and what it makes of its arguments
+abbrev pub actions : ScriptNames → List (List ℕ × (List (List ℕ) → Result Operation LineFault))
+actions known =
+    let time = one_of (λ text. result_ok (time_of text)) BadAmount in
+    let amount = one_of (λ text. result_ok (amount_of text)) BadAmount in
+    let amounts = both script_amount script_amount in
+    let mutex = one_of known.mutex UnknownObject in
+    let semaphore = one_of known.semaphore UnknownObject in
+    let actor = one_of known.anyone UnknownActor in
+    (codes "compute", alone (λ c. action.Compute c.0 c.1) computing_of) ∷ (codes "sleep", alone action.Sleep time)
+    ∷ (codes "send", alone (λ s. action.Send s.0 s.1 s.2) (sending_of known))
+    ∷ (codes "isend", alone (λ s. action.ISend s.0 s.1 s.2) (sending_of known))
+    ∷ (codes "recv", alone action.Recv (receiving_of known)) ∷ (codes "irecv", alone action.IRecv (receiving_of known))
+    ∷ (codes "wait", alone (λ _. action.Wait) no_words) ∷ (codes "barrier", alone (λ _. action.Barrier) no_words)
+    ∷ (codes "yield", alone (λ _. action.Yield) no_words)
+    ∷ (codes "lock", alone action.Lock mutex) ∷ (codes "unlock", alone action.Unlock mutex)
+    ∷ (codes "acquire", alone action.Acquire semaphore) ∷ (codes "release", alone action.Release semaphore)
+    ∷ (codes "create", alone action.Create actor) ∷ (codes "join", alone action.Join actor)
+    ∷ (codes "kill", alone action.Kill actor)
+    ∷ (codes "suspend", alone action.Suspend actor) ∷ (codes "resume", alone action.Resume actor)
+    ∷ (codes "bcast", together collective.Bcast amount)
+    ∷ (codes "reduce", together (λ b. collective.Reduce b.0 b.1) amounts)
+    ∷ (codes "allreduce", together (λ b. collective.Allreduce b.0 b.1) amounts)
+    ∷ (codes "alltoall", together collective.Alltoall amount) ∷ []
 
 -- ---- lines
 -- the second word is the action, those after it are its arguments
 abbrev pub with_action : ScriptNames → ActorId → List (List ℕ) → Judgement
 with_action known a [] = Err UnknownAction
 with_action known a (word ∷ args) =
-    then_go (then_go (ok_or (verb_of word) UnknownAction) (λ verb. operation_of known verb args))
+    then_go (then_go (ok_or (find (λ row. bytes_eq row.0 word) (actions known)) UnknownAction) (λ row. row.1 args))
     (λ operation. Ok (Some (record { actor = a; operation = operation })))
 
 -- the first word is the actor

@@ -12,7 +12,8 @@ use Rattle.sg_script.specs.Fetched.{fetches_of, one_more}
 use Rattle.sg_script.specs.declared.waiting.Waiting.{Waiting}
 use Rattle.sg_script.specs.declared.script.Script.{Script}
 use Rattle.sg_script.specs.declared.fault.ScriptFault.{ScriptFault}
-use Rattle.sg_script.specs.Answer.{judgements, script_actions, first_bad, answer_by, answer_of}
+use Rattle.sg_script.specs.Answer.{answer_of, judgements}
+use Rattle.sg_script.specs.kept.Answers.{answered_by, first_bad, script_actions}
 use Rattle.sg_edge.specs.Sources.{Source}
 use Rattle.sg_script.specs.Needed.{need_from, need_of}
 use Rattle.sg_script.specs.Rest.{GoesOn, May}
@@ -42,7 +43,7 @@ nothing_read = record { queues = []; lines = 0; pending = [] }
 abbrev pub answer_from : ScriptNames → Kept → List ℕ → Bool → ℕ → ℕ → Result (Option Action) ScriptFault
 answer_from known kept rest broken actor earlier =
     let more = judgements known kept.lines (kept.pending ++ rest) broken in
-    answer_by broken (first_bad kept.lines more)
+    answered_by broken (first_bad kept.lines more)
     (slice_get (waits known.members kept.queues actor ++ script_actions known actor more) earlier)
 
 -- The script stands for these bytes and fetches: whatever may still come, each later fetch has its

@@ -1,9 +1,12 @@
 //! The arguments of an action.
 ghost use Rattle.std.specs.Prelude.{◌≡◌, IfOk, Ok};
+ghost use Rattle.std.specs.Result.{result_ok};
 ghost use Rattle.sg_base.specs.Limits.{IsActorIn, IsAmount, IsMutexIn, IsPriority, IsRate, IsSemaphoreIn, IsTime};
 ghost use Rattle.sg_rows.specs.Deployment.{extent_of};
 ghost use Rattle.sg_script.specs.Known.{known_in};
-ghost use Rattle.sg_script.specs.Line.{actor_in, single_action, script_amount, computing_of, no_words, one_actor, one_amount, one_mutex, one_semaphore, one_time, priority_in, rate_in, receiving_of, sending_of, two_amounts};
+ghost use Rattle.sg_script.specs.Line.{actor_in, alone, both, computing_of, from_one_to, no_words, one_of, rate_in, receiving_of, script_amount, sending_of, then_go};
+ghost use Rattle.sg_script.specs.declared.fault.LineFault.TheVariants.{BadAmount, UnknownActor, UnknownObject};
+ghost use Rattle.sg_units.specs.Amount.{amount_of, time_of};
 ghost use Rattle.sg_script.specs.Words.{words};
 
 use crate::fault::LineFault;
@@ -25,7 +28,7 @@ pub fn amount(text: &[u8]) -> Result<u64, LineFault>
 
 /// Reads a priority of an execution: an amount from 1 to 1,000.
 pub fn priority(text: &[u8]) -> Result<u32, LineFault>
-    ensures value { result ≡ priority_in text.now }
+    ensures value { result ≡ then_go (script_amount text.now) (from_one_to 1000) }
     ensures limit { IfOk result IsPriority }
 {
     match amount(text)? {
@@ -59,16 +62,19 @@ pub fn actor(name: &[u8], deployment: &Deployment) -> Result<ActorId, LineFault>
 }
 
 /// Reads the only argument as an amount.
+#[tactic(auto, using(crate::proofs::Actions::one_is, crate::proofs::Actions::one_fails))]
 pub fn one_amount(text: &[u8]) -> Result<u64, LineFault>
-    ensures value { result ≡ one_amount (words text.now) }
+    ensures value { result
+        ≡ one_of (λ word. result_ok (amount_of word)) BadAmount (words text.now) }
     ensures limit { IfOk result IsAmount }
 {
     amount(one(text)?)
 }
 
 /// Reads the only argument as a time.
+#[tactic(auto, using(crate::proofs::Actions::one_is, crate::proofs::Actions::one_fails))]
 pub fn one_time(text: &[u8]) -> Result<u64, LineFault>
-    ensures value { result ≡ one_time (words text.now) }
+    ensures value { result ≡ one_of (λ word. result_ok (time_of word)) BadAmount (words text.now) }
     ensures limit { IfOk result IsTime }
 {
     match read_time(one(text)?) {
@@ -78,9 +84,9 @@ pub fn one_time(text: &[u8]) -> Result<u64, LineFault>
 }
 
 /// Reads the actor that the only argument names, whatever it does.
-#[tactic(auto, using(crate::proofs::KnownLemmas::anyone_exists))]
+#[tactic(auto, using(crate::proofs::KnownLemmas::anyone_exists, crate::proofs::Actions::one_is, crate::proofs::Actions::one_fails))]
 pub fn one_actor(text: &[u8], deployment: &Deployment) -> Result<ActorId, LineFault>
-    ensures named { result ≡ one_actor (known_in deployment.now) (words text.now) }
+    ensures named { result ≡ one_of (known_in deployment.now).anyone UnknownActor (words text.now) }
     ensures exists { IfOk result (IsActorIn (extent_of deployment.now)) }
 {
     match deployment.actor(one(text)?) {
@@ -90,9 +96,9 @@ pub fn one_actor(text: &[u8], deployment: &Deployment) -> Result<ActorId, LineFa
 }
 
 /// Reads the number of the mutex that the only argument names.
-#[tactic(auto, using(crate::proofs::KnownLemmas::mutex_exists))]
+#[tactic(auto, using(crate::proofs::KnownLemmas::mutex_exists, crate::proofs::Actions::one_is, crate::proofs::Actions::one_fails))]
 pub fn one_mutex(text: &[u8], deployment: &Deployment) -> Result<u32, LineFault>
-    ensures named { result ≡ one_mutex (known_in deployment.now) (words text.now) }
+    ensures named { result ≡ one_of (known_in deployment.now).mutex UnknownObject (words text.now) }
     ensures exists { IfOk result (IsMutexIn (extent_of deployment.now)) }
 {
     match deployment.mutex_named(one(text)?) {
@@ -102,9 +108,10 @@ pub fn one_mutex(text: &[u8], deployment: &Deployment) -> Result<u32, LineFault>
 }
 
 /// Reads the number of the semaphore that the only argument names.
-#[tactic(auto, using(crate::proofs::KnownLemmas::semaphore_exists))]
+#[tactic(auto, using(crate::proofs::KnownLemmas::semaphore_exists, crate::proofs::Actions::one_is, crate::proofs::Actions::one_fails))]
 pub fn one_semaphore(text: &[u8], deployment: &Deployment) -> Result<u32, LineFault>
-    ensures named { result ≡ one_semaphore (known_in deployment.now) (words text.now) }
+    ensures named { result
+        ≡ one_of (known_in deployment.now).semaphore UnknownObject (words text.now) }
     ensures exists { IfOk result (IsSemaphoreIn (extent_of deployment.now)) }
 {
     match deployment.semaphore_named(one(text)?) {
@@ -168,7 +175,7 @@ pub fn receiving(text: &[u8], deployment: &Deployment) -> Result<ActorId, LineFa
 
 /// Reads two amounts.
 pub fn two_amounts(text: &[u8]) -> Result<(u64, u64), LineFault>
-    ensures said { result ≡ two_amounts (words text.now) }
+    ensures said { result ≡ both script_amount script_amount (words text.now) }
     ensures limits { IfOk result (λ both. IsAmount both.0 × IsAmount both.1) }
 {
     match cut_arguments(text) {
@@ -182,7 +189,7 @@ pub fn two_amounts(text: &[u8]) -> Result<(u64, u64), LineFault>
 
 /// Reads an action without arguments.
 pub fn bare(action: Action, text: &[u8]) -> Result<Operation, LineFault>
-    ensures { result ≡ single_action (λ _. action) (no_words (words text.now)) }
+    ensures { result ≡ alone (λ _. action) no_words (words text.now) }
 {
     none(text)?;
     Ok(Operation::Alone(action))

@@ -3,10 +3,11 @@ ghost use Rattle.std.specs.Prelude.{◌≡◌, IfOk, IsTrue, Ok, true};
 ghost use Rattle.std.specs.List.{list_all};
 ghost use Rattle.sg_rows.specs.Deployment.{extent_of};
 ghost use Rattle.sg_script.specs.Known.{known_in};
-ghost use Rattle.sg_script.specs.Line.{entry_of, is_plain, KeepsLimits, line_judgement, operation_of, text_judgement, without_return};
+ghost use Rattle.sg_script.specs.Line.{entry_of, is_plain, KeepsLimits, line_judgement, text_judgement, without_return};
 ghost use Rattle.sg_script.specs.Operation.{IsOperation};
 ghost use Rattle.sg_script.specs.Words.{words};
 ghost use Rattle.sg_script.specs.kept.Asks.{IsJudged};
+ghost use Rattle.sg_script.specs.kept.Verbs.{operation_in, operation_of};
 ghost use Rattle.sg_script.specs.declared.operation.Operation.TheVariants.{Alone, Together};
 ghost use Rattle.sg_script.specs.declared.verbs.Verb.TheVariants.{ISend, Send};
 
@@ -106,6 +107,17 @@ fn read_operation(verb: Verb, text: &[u8], deployment: &Deployment) -> Result<Op
     }
 }
 
+// Reads what the action of a word asks for with the arguments that stand in this text.
+fn read_action(word: &[u8], text: &[u8], deployment: &Deployment) -> Result<Operation, LineFault>
+    ensures said { result ≡ operation_in (known_in deployment.now) word.now (words text.now) }
+    ensures limits { IfOk result (IsOperation (extent_of deployment.now)) }
+{
+    match read_verb(word) {
+        Some(verb) => read_operation(verb, text, deployment),
+        None => Err(LineFault::UnknownAction),
+    }
+}
+
 // Reads the entry of a first word and the text after it.
 fn read_entry(name: &[u8], text: &[u8], deployment: &Deployment) -> Result<Option<Entry>, LineFault>
     ensures { IsJudged deployment.now
@@ -115,10 +127,7 @@ fn read_entry(name: &[u8], text: &[u8], deployment: &Deployment) -> Result<Optio
     let Some((word, rest)) = next_word(text) else {
         return Err(LineFault::UnknownAction);
     };
-    let Some(verb) = read_verb(word) else {
-        return Err(LineFault::UnknownAction);
-    };
-    let operation = read_operation(verb, rest, deployment)?;
+    let operation = read_action(word, rest, deployment)?;
     Ok(Some(Entry { actor, operation }))
 }
 

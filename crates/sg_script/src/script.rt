@@ -59,7 +59,7 @@ impl Script {
     ghost use Rattle.sg_script.specs.kept.Steps.{LineIs, LineTells, Pops, ReadIs, StepIs};
 
     /// Makes a script of which nothing was read, for so many actors.
-    #[tactic(auto, using(crate::proofs::LimitLemmas::limited_none))]
+    #[tactic(auto, using(crate::proofs::LimitLemmas::limited_none, crate::proofs::Asking::new_stands))]
     pub fn new(alloc: Global, actors: u32) -> Result<Script, Memory>
         ensures actors { IfOk result (λ s. actors_of s ≡ actors) }
         ensures stands { IfOk result

@@ -1,7 +1,6 @@
 //! The actions of a script by their words.
 ghost use Rattle.std.specs.Prelude.{◌≡◌, bytes_eq};
-ghost use Rattle.sg_script.specs.Verbs.{verb_of};
-ghost use Rattle.sg_script.specs.kept.RarerVerbs.{rarer_verb_of};
+ghost use Rattle.sg_script.specs.kept.Verbs.{rarer_verb_of, verb_of};
 
 /// An action without its arguments.
 #[derive(Clone, Copy)]

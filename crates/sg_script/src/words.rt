@@ -2,8 +2,8 @@
 ghost use Rattle.std.specs.Prelude.{◌≡◌, ◌∷◌, ◌<◌, [], length, IfSome, MatchOption, MatchResult, Ok, Err};
 ghost use Rattle.std.specs.List.{position, slice_split};
 ghost use Rattle.sg_script.specs.Words.{is_blank, words};
-ghost use Rattle.sg_script.specs.Line.{no_words, one_word};
-ghost use Rattle.sg_script.specs.kept.Arguments.{AreArguments};
+ghost use Rattle.sg_script.specs.Line.{no_words};
+ghost use Rattle.sg_script.specs.kept.Arguments.{AreArguments, one_word};
 
 use crate::fault::LineFault;
 

@@ -5,12 +5,17 @@ use Rattle.sg_edge.specs.declared.files.Stage.{Stage}
 use Rattle.sg_edge.specs.declared.files.Stage.TheVariants.{Begun, Over, Broken as IsBroken}
 use Rattle.sg_script.specs.declared.line.Entry.{Entry}
 use Rattle.sg_script.specs.Known.{ScriptNames}
-use Rattle.sg_script.specs.Needed.{need_from, own_actions}
+use Rattle.sg_script.specs.Needed.{need_from}
+use Rattle.sg_script.specs.Operation.{line_actions}
 use Rattle.sg_script.specs.Rest.{May}
 use Rattle.sg_script.specs.Answer.{is_newline, is_last_line, judgement_of, judgements}
 use Rattle.sg_script.specs.Line.{is_plain, Judgement}
 use Rattle.sg_script.specs.declared.front.Front.{Front}
 use Rattle.sg_script.specs.declared.front.Front.TheVariants.{Line, Unread, End, Broken}
+
+-- how many actions of the actor a line gives
+abbrev pub own_actions : ScriptNames → ℕ → Option Entry → ℕ
+own_actions known actor said = length (line_actions known actor said)
 
 -- the first line is judged as these bytes of it are; if it is good or skipped, the others are
 -- those after it
