@@ -17,7 +17,7 @@ use Rattle.sg_calls.specs.declared.meetings.Comer.{Comer}
 use Rattle.sg_calls.specs.declared.simulation_state.Fields.{Fields}
 use Rattle.sg_mailbox.specs.declared.owners.How.TheVariants as how
 use Rattle.sg_mailbox.specs.declared.owners.Whose.TheVariants.{Over, Posted}
-use Rattle.sg_calls.specs.Meetings.{comes, comes_by, joins_over, posts, posts_from, receiver_of, route_between, sender_of, takes_part}
+use Rattle.sg_calls.specs.Meetings.{comes, comes_by, joins_over, posted, posts_from, receiver_of, route_between, sender_of, takes_part}
 use Rattle.sg_calls.specs.Steps.{counted}
 use Rattle.sg_calls.specs.World.{Core, extent}
 use Rattle.sg_calls.specs.kept.Sound.{core_of, setup_in, is_idle, IsSide, IsOwner, IsSound, AreLimited, AreMeeting}
@@ -105,5 +105,5 @@ comes_met fields roads comer serial other r m meeting way =
     ∙ ap (λ w. joins_over w setup comer (record { serial = serial; sends = m.post.sends; side = other }) core) way
 
 -- without one, it is posted
-pub comes_alone : (fields : Fields) (roads : Roads) (comer : Comer) → partner comer.sends (waiters fields.boxes comer.mailbox) ≡ None → AreMeeting fields → comes roads (setup_in fields) comer (core_of fields) ≡ posts comer (counted (core_of fields))
+pub comes_alone : (fields : Fields) (roads : Roads) (comer : Comer) → partner comer.sends (waiters fields.boxes comer.mailbox) ≡ None → AreMeeting fields → comes roads (setup_in fields) comer (core_of fields) ≡ takes_part comer.waits comer (length fields.doing.under.tasks + 1) (posted comer (counted (core_of fields)))
 comes_alone fields roads comer alone meeting = ap (λ o. comes_by o roads (setup_in fields) comer (core_of fields)) (ap (partner comer.sends) (sym (meeting.posts comer.mailbox)) ∙ alone)

@@ -16,7 +16,7 @@ use Rattle.sg_base.specs.contracts.awaits.PartyPartialEq.TheImpl as party_eq_imp
 use Rattle.sg_mailbox.specs.declared.owners.How.{How}
 use Rattle.sg_mailbox.specs.declared.owners.How.TheVariants as how
 use Rattle.sg_mailbox.specs.declared.owners.Whose.{Whose}
-use Rattle.sg_mailbox.specs.declared.owners.Whose.TheVariants.{Over, Alone, Posted, Pair}
+use Rattle.sg_mailbox.specs.declared.owners.Whose.TheVariants.{Over, Alone, Pair}
 use Rattle.sg_calls.specs.World.{Core, state_of, whose_at}
 use Rattle.sg_states.specs.declared.state.Blocking.{Blocking}
 use Rattle.sg_states.specs.Actors.{blocking_in}
@@ -48,14 +48,10 @@ tells_bytes (call.Send mailbox bytes message rate) = true
 tells_bytes (call.Recv mailbox) = true
 tells_bytes other = false
 
--- a receive gets the message, and any other call is done
-abbrev pub answer_of_done : Call → Msg → Answer
-answer_of_done (call.Recv mailbox) message = answer.Got message
-answer_of_done other message = answer.Done
-
--- the answer to a call, by how its activity ended
+-- the answer to a call, by how its activity ended: a receive gets the message, and any other call is done
 abbrev pub answer_to : How → Call → Msg → Answer
-answer_to how.Done what message = answer_of_done what message
+answer_to how.Done (call.Recv mailbox) message = answer.Got message
+answer_to how.Done other message = answer.Done
 answer_to how.Failed what message = answer.Failed
 
 -- the actor is answered if it is blocked on this endpoint of this activity
@@ -77,10 +73,11 @@ for_receiver sender receiver = record sender { actor = receiver.actor }
 -- the answers when an activity ends: of a communication the sending endpoint is answered, and then
 -- the receiving one
 abbrev pub answers : How → ℕ → Whose → Core → Step
-answers over serial (Over before) core = goes_on core []
 answers over serial (Alone actor) core = answers_side over serial party.Alone (bare_side actor.0) core
-answers over serial (Posted mailbox sends side) core = goes_on core []
-answers over serial (Pair sender receiver) core = and_then (answers_side over serial Sender sender core) (answers_side over serial Receiver (for_receiver sender receiver))
+answers over serial (Pair sender receiver) core =
+    and_then (answers_side over serial Sender sender core)
+    (answers_side over serial Receiver (for_receiver sender receiver))
+answers over serial other core = goes_on core []
 
 -- the core after an activity ended: it no longer runs, and it has no waiter
 abbrev pub with_over : How → ℕ → Core → Core

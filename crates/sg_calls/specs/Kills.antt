@@ -1,5 +1,5 @@
 -- How an actor is killed. All of it is one event.
-use Rattle.std.specs.Prelude.{ℕ, ◌==◌, Option, None, Some, if◌then◌else◌, List, [], ◌∷◌}
+use Rattle.std.specs.Prelude.{ℕ, ◌==◌, Option, option_and_then, if◌then◌else◌, List, [], ◌∷◌}
 use Rattle.sg_base.specs.declared.awaits.Await.{Await}
 use Rattle.sg_base.specs.declared.call.Answer.TheVariants as answer
 use Rattle.sg_base.specs.declared.call.Call.TheVariants as call
@@ -11,7 +11,7 @@ use Rattle.sg_states.specs.Actors.{blocking_in, is_alive, put_state}
 use Rattle.sg_sync.specs.Objects as sync
 use Rattle.sg_mailbox.specs.declared.owners.How.TheVariants as how
 use Rattle.sg_mailbox.specs.declared.owners.Whose.{Whose}
-use Rattle.sg_mailbox.specs.declared.owners.Whose.TheVariants.{Over, Alone, Posted, Pair}
+use Rattle.sg_mailbox.specs.declared.owners.Whose.TheVariants.{Over}
 use Rattle.sg_calls.specs.World.{Core, state_of, whose_at}
 use Rattle.sg_calls.specs.Steps.{Step, goes_on, each, all_of, at_once}
 use Rattle.sg_calls.specs.Answers.{finishes}
@@ -19,8 +19,7 @@ use Rattle.sg_calls.specs.Locks.{joiners_wake}
 
 -- the activity on which an actor is blocked
 abbrev pub blocked_on : Option Blocking → Option Await
-blocked_on None = None
-blocked_on (Some blocking) = blocking.on
+blocked_on blocking = option_and_then (λ (by : Blocking). by.on) blocking
 
 -- the ids of the activity on which an actor is blocked and of its requests, in rising order, each
 -- once
@@ -39,9 +38,7 @@ withdrawn target core = record core {
 -- an activity that hasn't ended fails, and the other endpoint is answered
 abbrev pub gives_up_by : Whose → ℕ → Core → Step
 gives_up_by (Over before) serial core = goes_on core []
-gives_up_by (Alone actor) serial core = finishes how.Failed serial core
-gives_up_by (Posted mailbox sends side) serial core = finishes how.Failed serial core
-gives_up_by (Pair sender receiver) serial core = finishes how.Failed serial core
+gives_up_by other serial core = finishes how.Failed serial core
 
 -- an activity that a killed actor awaited fails, unless it had ended already
 abbrev pub gives_up : ℕ → Core → Step
@@ -53,7 +50,17 @@ kill_done actor target core =
     if actor == target.0 then goes_on core []
     else at_once actor (call.Kill target) 0 answer.Done core
 
--- what follows, in this order
+-- A living actor is killed: the record of the kill comes first, then what the actor awaited before fails, and then
+-- those that joined it are unblocked. One that isn't alive stays as it is.
+abbrev pub kills : ℕ → ActorId → Core → Step
+kills actor target core =
+    let fails = each gives_up (awaited target core) in
+    if is_alive (state_of core target.0)
+    then all_of (kill_done actor target ∷ fails ∷ joiners_wake target.0 ∷ []) (withdrawn target core)
+    else at_once actor (call.Kill target) 0 answer.Done core
+
+-- ---- parts, as proofs name them
+-- what follows a kill, in this order
 abbrev pub kill_stretches : ℕ → ActorId → List ℕ → List (Core → Step)
 kill_stretches actor target serials =
     kill_done actor target ∷
@@ -61,13 +68,7 @@ kill_stretches actor target serials =
     joiners_wake target.0 ∷
     []
 
--- a living actor is killed; the world before gives what it awaits
+-- a living actor is killed
 abbrev pub kills_alive : ℕ → ActorId → Core → Step
 kills_alive actor target core =
     all_of (kill_stretches actor target (awaited target core)) (withdrawn target core)
-
--- one that isn't alive stays as it is
-abbrev pub kills : ℕ → ActorId → Core → Step
-kills actor target core =
-    if is_alive (state_of core target.0) then kills_alive actor target core
-    else at_once actor (call.Kill target) 0 answer.Done core

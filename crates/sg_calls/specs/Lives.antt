@@ -4,8 +4,7 @@ use Rattle.sg_base.specs.declared.call.Answer.TheVariants as answer
 use Rattle.sg_base.specs.declared.call.Call.TheVariants as call
 use Rattle.sg_base.specs.declared.ids.ActorId.{ActorId}
 use Rattle.sg_states.specs.declared.state.State.TheVariants.{Ready, Ended}
-use Rattle.sg_states.specs.Actors.{is_ended}
-use Rattle.sg_calls.specs.World.{Core, state_of, with_state}
+use Rattle.sg_calls.specs.World.{Core, with_state}
 use Rattle.sg_calls.specs.Steps.{Step, goes_on, counted, blocked_by, at_once}
 use Rattle.sg_calls.specs.Locks.{joiners_wake}
 
@@ -22,15 +21,12 @@ answers_create false actor target core = at_once actor (call.Create target) 0 an
 abbrev pub created : Bool → ℕ → ActorId → Core → Step
 created given actor target core = answers_create given actor target (counted core)
 
--- whether the named actor has ended: the caller waits until it has
+-- A join: the caller is answered at once if the named actor has ended, else it waits until it has.
 abbrev pub joins_by : Bool → ℕ → ActorId → Core → Step
 joins_by true actor target core = at_once actor (call.Join target) 0 answer.Done core
 joins_by false actor target core = goes_on (blocked_by actor (call.Join target) None core) []
 
--- a join: the caller is answered at once if the actor has ended, else it waits for that
-abbrev pub joins_one : ℕ → ActorId → Core → Step
-joins_one actor target core = joins_by (is_ended (state_of core target.0)) actor target core
-
+-- ---- parts, as contracts and proofs name them
 -- the actor has made its last call
 abbrev pub with_actor_ended : ℕ → Core → Core
 with_actor_ended actor core = with_state actor Ended core

@@ -36,22 +36,16 @@ abbrev pub joiners_wake : ℕ → Core → Step
 joiners_wake target core = all_wake (joiners target 1 core.actors) core
 
 -- ---- what a call on an object leads to, once it is counted
--- the caller is answered before those that its call unblocks
-abbrev pub gets_first : Outcome → List ActorId → ℕ → Call → Core → Step
-gets_first outcome others actor what core = and_then (caller_gets outcome actor what core) (all_wake others)
-
--- the caller is answered after those that its call unblocks
-abbrev pub gets_last : Outcome → List ActorId → ℕ → Call → Core → Step
-gets_last outcome others actor what core = and_then (all_wake others core) (caller_gets outcome actor what)
-
 -- the core, in which the mutexes, semaphores and the barrier are as this call leaves them
 abbrev pub with_objects : Done → Core → Core
 with_objects done core = record core { objects = done.after }
 
--- what a call on a mutex or semaphore leads to: its caller is answered first
+-- what a call on a mutex or semaphore leads to: its caller is answered before those that its call unblocks
 abbrev pub caller_first : Done → ℕ → Call → Core → Step
-caller_first done actor what core = gets_first done.outcome done.after.others actor what (with_objects done core)
+caller_first done actor what core =
+    and_then (caller_gets done.outcome actor what (with_objects done core)) (all_wake done.after.others)
 
--- what a call on the barrier leads to: its caller is answered last
+-- what a call on the barrier leads to: its caller is answered after those that its call unblocks
 abbrev pub caller_last : Done → ℕ → Call → Core → Step
-caller_last done actor what core = gets_last done.outcome done.after.others actor what (with_objects done core)
+caller_last done actor what core =
+    and_then (all_wake done.after.others (with_objects done core)) (caller_gets done.outcome actor what)

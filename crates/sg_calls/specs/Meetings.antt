@@ -2,6 +2,7 @@
 -- requests.
 use Rattle.std.specs.Prelude.{ℕ, ◌+◌, ◌-◌, Bool, true, false, Option, None, Some, Result, Ok, Err, if◌then◌else◌, List, [], ◌∷◌, ◌++◌, length, slice_set}
 use Rattle.std.specs.Option.{option_to_list}
+use Rattle.std.specs.Result.{result_map_both}
 use Rattle.sg_base.specs.declared.call.Answer.{Answer}
 use Rattle.sg_base.specs.declared.call.Answer.TheVariants as answer
 use Rattle.sg_base.specs.declared.call.Call.{Call}
@@ -17,7 +18,7 @@ use Rattle.sg_mailbox.specs.Posts.{box_eq, partner}
 use Rattle.sg_base.specs.declared.awaits.Await.{Await}
 use Rattle.sg_base.specs.declared.awaits.Party.{Party}
 use Rattle.sg_base.specs.declared.awaits.Party.TheVariants.{Sender, Receiver}
-use Rattle.sg_requests.specs.Requested.{queue_at, oldest, queues_with_request, queues_without_oldest}
+use Rattle.sg_requests.specs.Requested.{queues_with_request, queues_without_oldest}
 use Rattle.sg_route.specs.declared.router.RouteFault.{RouteFault}
 use Rattle.sg_route.specs.declared.router.RouteFault.TheVariants as fault
 use Rattle.sg_route.specs.Roads.{Roads}
@@ -27,7 +28,7 @@ use Rattle.sg_mailbox.specs.declared.owners.How.TheVariants as how
 use Rattle.sg_calls.specs.declared.stop.Stop.{Stop}
 use Rattle.sg_calls.specs.declared.stop.Stop.TheVariants as stop
 use Rattle.sg_mailbox.specs.declared.owners.Whose.{Whose}
-use Rattle.sg_mailbox.specs.declared.owners.Whose.TheVariants.{Over, Alone, Posted, Pair}
+use Rattle.sg_mailbox.specs.declared.owners.Whose.TheVariants.{Over, Posted, Pair}
 use Rattle.sg_calls.specs.Answers.{answers_side, bare_side, for_receiver, side_of, with_over}
 use Rattle.sg_calls.specs.Network.{route_latency, own_bound}
 use Rattle.sg_calls.specs.Setup.{Setup}
@@ -37,10 +38,9 @@ use Rattle.sg_calls.specs.Steps.{Step, goes_on, stops, counted, and_then, blocke
 -- ---- who waits in a mailbox
 -- the endpoint that an activity has waiting in this mailbox, if it is posted there
 abbrev pub post_in : BoxId → ℕ → Whose → Option Post
-post_in mailbox serial (Over before) = None
-post_in mailbox serial (Alone actor) = None
-post_in mailbox serial (Posted there sends side) = if box_eq mailbox there then Some (record { serial = record { 0 = serial }; sends = sends; side = side }) else None
-post_in mailbox serial (Pair sender receiver) = None
+post_in mailbox serial (Posted there sends side) =
+    if box_eq mailbox there then Some (record { serial = record { 0 = serial }; sends = sends; side = side }) else None
+post_in mailbox serial other = None
 
 -- the posts of a mailbox in order of activity id, if the first activity of the list has this one
 unfoldable pub posts_from : BoxId → ℕ → List Whose → List Post
@@ -54,8 +54,7 @@ posts_at mailbox core = posts_from mailbox 1 core.whose
 -- ---- an actor takes part in a communication
 -- which endpoint an actor is: the sender if it sends, else the receiver
 abbrev pub party_of : Bool → Party
-party_of true = Sender
-party_of false = Receiver
+party_of sends = if sends then Sender else Receiver
 
 -- what an actor waits for: the activity of this id, as its sender or its receiver
 abbrev pub await : ℕ → Bool → Await
@@ -129,20 +128,10 @@ joined setup serial route sender receiver core = record core {
 abbrev pub point_of : Setup → Side → PointId
 point_of setup side = record { 0 = host_of setup side.actor.0 }
 
--- from the host of the sender to that of the receiver
-abbrev pub route_between : Roads → Setup → Side → Side → Result Route RouteFault
-route_between roads setup sender receiver = route_of roads (point_of setup sender) (point_of setup receiver)
-
 -- why a run stops if two hosts have no route between them, or one that is too long
 abbrev pub stop_of : PointId → PointId → RouteFault → Stop
 stop_of from to (fault.NoRoute zone a b) = stop.NoRoute from to zone a b
 stop_of from to fault.TooLong = stop.TooLong from to
-
--- the communication of a match begins over this route, and the arriving call waits for it or is done
-abbrev pub joins_with : Route → Setup → Comer → Serial → Side → Core → Step
-joins_with route setup comer serial other core =
-    takes_part comer.waits comer serial.0
-    (joined setup serial.0 route (sender_of comer other) (receiver_of comer other) core)
 
 -- ---- or it fails in the call, if something that it would use is off
 -- the arriving endpoint: a call that waits fails, and any other is done at once, as always
@@ -166,48 +155,32 @@ both_fail comer serial other core =
     if comer.sends then and_then (comer_fails comer serial other core) (other_fails comer serial other)
     else and_then (other_fails comer serial other core) (comer_fails comer serial other)
 
--- a communication fails in the call that would begin it, and both endpoints are answered
-abbrev pub fails_with : Comer → Serial → Side → Core → Step
-fails_with comer serial other core =
-    both_fail comer serial.0 other (with_over how.Failed serial.0 core)
-
--- the route of a communication with this other endpoint
-abbrev pub way_with : Route → Setup → Comer → Side → Way
-way_with route setup comer other =
-    way_over setup route (sender_of comer other) (receiver_of comer other)
-
--- a match was found: the communication begins, or fails if its route or a host is off
-abbrev pub joins_on : Route → Setup → Comer → Serial → Side → Core → Step
-joins_on route setup comer serial other core =
-    if is_cut core.under.on (way_with route setup comer other)
-    then fails_with comer serial other core
-    else joins_with route setup comer serial other core
-
--- an endpoint without a match is posted: it waits in its mailbox
-abbrev pub posts : Comer → Core → Step
-posts comer core = takes_part comer.waits comer (length core.under.tasks + 1) (posted comer core)
-
 -- whom an arriving endpoint matches, and the route between them
 pub record Meeting : Type 0 where
   pub post : Post
   pub route : Route
 
--- an endpoint arrives: it is posted, or begins a communication with the match that it finds, over the route to it
+-- An endpoint arrives: without a match it is posted, and waits in its mailbox. Else its communication begins over the
+-- route to its match; if that route or a host is off, the communication fails, and both endpoints are answered.
 abbrev pub arrives : Option Meeting → Setup → Comer → Core → Step
-arrives None setup comer core = posts comer core
-arrives (Some meeting) setup comer core = joins_on meeting.route setup comer meeting.post.serial meeting.post.side core
+arrives None setup comer core = takes_part comer.waits comer (length core.under.tasks + 1) (posted comer core)
+arrives (Some meeting) setup comer core =
+    let serial = meeting.post.serial.0 in
+    let sender = sender_of comer meeting.post.side in
+    let receiver = receiver_of comer meeting.post.side in
+    if is_cut core.under.on (way_over setup meeting.route sender receiver)
+    then both_fail comer serial meeting.post.side (with_over how.Failed serial core)
+    else takes_part comer.waits comer serial (joined setup serial meeting.route sender receiver core)
 
 -- ---- the route comes first, then the count, and then what the call leads to
--- an arriving endpoint meets this match over the route between them; a missing or too long one stops the run
-abbrev pub meeting_over : Result Route RouteFault → Setup → Comer → Post → Result (Option Meeting) Stop
-meeting_over (Err why) setup comer post = Err (stop_of (point_of setup (sender_of comer post.side)) (point_of setup (receiver_of comer post.side)) why)
-meeting_over (Ok route) setup comer post = Ok (Some (record { post = post; route = route }))
-
--- whom an endpoint meets, by the match that it finds: without one it needs no route
+-- Whom an endpoint meets, by the match that it finds: without one it needs no route. A missing or too long one stops
+-- the run.
 abbrev pub meeting_by : Option Post → Roads → Setup → Comer → Result (Option Meeting) Stop
 meeting_by None roads setup comer = Ok None
 meeting_by (Some post) roads setup comer =
-    meeting_over (route_between roads setup (sender_of comer post.side) (receiver_of comer post.side)) setup comer post
+    let from = point_of setup (sender_of comer post.side) in
+    let to = point_of setup (receiver_of comer post.side) in
+    result_map_both (λ route. Some (record { post = post; route = route })) (stop_of from to) (route_of roads from to)
 
 -- Whom the endpoint of a call meets, if it brings one. It matches the one with the least activity id of those that wait
 -- for it in its mailbox.
@@ -220,37 +193,66 @@ abbrev pub unless_unrouted : Result (Option Meeting) Stop → Core → (Option M
 unless_unrouted (Err why) core next = stops core [] why
 unless_unrouted (Ok meeting) core next = next meeting
 
--- what an endpoint that arrives leads to, as one event, by the route to its match
-abbrev pub joins_over : Result Route RouteFault → Setup → Comer → Post → Core → Step
-joins_over route setup comer post core = unless_unrouted (meeting_over route setup comer post) core (λ meeting. arrives meeting setup comer (counted core))
-
--- what it leads to by its match, if it has one
-abbrev pub comes_by : Option Post → Roads → Setup → Comer → Core → Step
-comes_by found roads setup comer core = unless_unrouted (meeting_by found roads setup comer) core (λ meeting. arrives meeting setup comer (counted core))
-
--- what it leads to by the match that it finds
-abbrev pub comes : Roads → Setup → Comer → Core → Step
-comes roads setup comer core = unless_unrouted (meeting_of roads setup core (Some comer)) core (λ meeting. arrives meeting setup comer (counted core))
-
 -- ---- Wait
 -- what an actor that waits for an activity is answered at once; none: it isn't over
 abbrev pub answer_of_over : Whose → Option Answer
 answer_of_over (Over how.Done) = Some answer.Done
 answer_of_over (Over how.Failed) = Some answer.Failed
-answer_of_over (Alone actor) = None
-answer_of_over (Posted mailbox sends side) = None
-answer_of_over (Pair sender receiver) = None
+answer_of_over other = None
 
 -- the actor is answered at once if the communication has ended, else once it ends
 abbrev pub waits_until : Option Answer → ℕ → Await → Core → Step
 waits_until (Some over) actor on core = at_once actor call.Wait 0 over core
 waits_until None actor on core = goes_on (blocked_by actor call.Wait (Some on) core) []
 
--- the oldest request is taken away; with none the call is refused
+-- a wait takes the oldest request of the actor away; with none it is refused
 abbrev pub waits_by : Option Await → ℕ → Core → Step
 waits_by None actor core = at_once actor call.Wait 0 answer.Refused core
 waits_by (Some on) actor core = waits_until (answer_of_over (whose_at core on.serial.0)) actor on (record core { requests = queues_without_oldest core.requests actor })
 
--- a wait for the oldest request of the actor
-abbrev pub waits : ℕ → Core → Step
-waits actor core = waits_by (oldest (queue_at core.requests actor)) actor core
+-- ---- parts, as contracts, laws and proofs name them
+-- from the host of the sender to that of the receiver
+abbrev pub route_between : Roads → Setup → Side → Side → Result Route RouteFault
+route_between roads setup sender receiver = route_of roads (point_of setup sender) (point_of setup receiver)
+
+-- a communication fails in the call that would begin it, and both endpoints are answered
+abbrev pub fails_with : Comer → Serial → Side → Core → Step
+fails_with comer serial other core =
+    both_fail comer serial.0 other (with_over how.Failed serial.0 core)
+
+-- the route of a communication with this other endpoint
+abbrev pub way_with : Route → Setup → Comer → Side → Way
+way_with route setup comer other =
+    way_over setup route (sender_of comer other) (receiver_of comer other)
+
+-- the communication of a match begins over this route, and the arriving call waits for it or is done
+abbrev pub joins_with : Route → Setup → Comer → Serial → Side → Core → Step
+joins_with route setup comer serial other core =
+    takes_part comer.waits comer serial.0
+    (joined setup serial.0 route (sender_of comer other) (receiver_of comer other) core)
+
+-- a match was found: the communication begins, or fails if its route or a host is off
+abbrev pub joins_on : Route → Setup → Comer → Serial → Side → Core → Step
+joins_on route setup comer serial other core =
+    if is_cut core.under.on (way_with route setup comer other)
+    then fails_with comer serial other core
+    else joins_with route setup comer serial other core
+
+-- what an endpoint that arrives leads to, as one event, by the route to its match
+abbrev pub joins_over : Result Route RouteFault → Setup → Comer → Post → Core → Step
+joins_over route setup comer post core =
+    let from = point_of setup (sender_of comer post.side) in
+    let to = point_of setup (receiver_of comer post.side) in
+    unless_unrouted (result_map_both (λ on. Some (record { post = post; route = on })) (stop_of from to) route) core
+    (λ meeting. arrives meeting setup comer (counted core))
+
+-- what it leads to by its match, if it has one
+abbrev pub comes_by : Option Post → Roads → Setup → Comer → Core → Step
+comes_by found roads setup comer core =
+    unless_unrouted (meeting_by found roads setup comer) core (λ meeting. arrives meeting setup comer (counted core))
+
+-- what it leads to by the match that it finds
+abbrev pub comes : Roads → Setup → Comer → Core → Step
+comes roads setup comer core =
+    let meeting = meeting_of roads setup core (Some comer) in
+    unless_unrouted meeting core (λ meeting. arrives meeting setup comer (counted core))

@@ -9,7 +9,7 @@ use Rattle.sg_lives.specs.declared.kinds.Power.{Power}
 use Rattle.sg_profile.specs.Profiles.{profiles_in}
 use Rattle.sg_rows.specs.declared.rows.ActorRow.{ActorRow}
 use Rattle.sg_rows.specs.declared.rows.Function.{Function}
-use Rattle.sg_rows.specs.declared.rows.Function.TheVariants.{Replay, Worker, Master, Churn}
+use Rattle.sg_rows.specs.declared.rows.Function.TheVariants.{Replay}
 use Rattle.sg_rows.specs.declared.rows.HostRow.{HostRow}
 use Rattle.sg_rows.specs.declared.rows.LinkRow.{LinkRow}
 use Rattle.sg_rows.specs.declared.rows.Policy.{Policy}
@@ -60,24 +60,14 @@ caps_in network row = caps_of row.policy (bandwidth_over network row.bandwidth)
 abbrev pub link_caps : Network → List LinkRow → List LinkCap
 link_caps network rows = flat_map (caps_in network) rows ++ link_cap 498000000 true ∷ []
 
--- the number of the host on which an actor is deployed
-abbrev pub home_of : ActorRow → ℕ
-home_of actor = actor.host.0
-
 -- whether a function is replay: its actor takes actions from the script
 abbrev pub is_replay : Function → Bool
 is_replay Replay = true
-is_replay Worker = false
-is_replay (Master tasks flops bytes workers) = false
-is_replay (Churn seed next prev steps) = false
+is_replay other = false
 
 -- whether an actor takes its actions from the script, and so is a member of collectives
 abbrev pub replays : ActorRow → Bool
 replays actor = is_replay actor.function
-
--- the capacity of a semaphore at the start of the run
-abbrev pub capacity_of : SemaphoreRow → ℕ
-capacity_of semaphore = semaphore.capacity
 
 -- what is simulated; the barrier has as many members as there are replay actors
 abbrev pub setup_of : Platform → Deployed → ℕ → Setup
@@ -86,10 +76,19 @@ setup_of platform deployed budget = record {
   links = length (link_ends platform.links);
   network = platform.network;
   profiles = profiles_in platform;
-  homes = map home_of deployed.actors;
+  homes = map (λ (actor : ActorRow). actor.host.0) deployed.actors;
   starts = map starts deployed.actors;
   mutexes = length deployed.mutexes;
-  semaphores = map capacity_of deployed.semaphores;
+  semaphores = map (λ (semaphore : SemaphoreRow). semaphore.capacity) deployed.semaphores;
   members = count_by replays deployed.actors;
   budget = budget;
 }
+
+-- ---- parts, as contracts and proofs name them
+-- the number of the host on which an actor is deployed
+abbrev pub home_of : ActorRow → ℕ
+home_of actor = actor.host.0
+
+-- the capacity of a semaphore at the start of the run
+abbrev pub capacity_of : SemaphoreRow → ℕ
+capacity_of semaphore = semaphore.capacity

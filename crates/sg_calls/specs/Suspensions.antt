@@ -1,19 +1,15 @@
 -- How actors are suspended and resumed.
 use Rattle.std.specs.Prelude.{ℕ, Bool, true, false, Option, None, Some, if◌then◌else◌}
 use Rattle.sg_base.specs.declared.awaits.Await.{Await}
-use Rattle.sg_base.specs.declared.call.Answer.TheVariants as answer
-use Rattle.sg_base.specs.declared.call.Call.TheVariants as call
 use Rattle.sg_base.specs.declared.ids.ActorId.{ActorId}
 use Rattle.sg_activity.specs.Underway.{Underway, gone_on, held, is_computing, is_kept}
 use Rattle.sg_states.specs.declared.state.Blocking.{Blocking}
-use Rattle.sg_states.specs.Actors.{blocking_in, is_alive}
-use Rattle.sg_calls.specs.World.{Core, state_of, with_suspended}
-use Rattle.sg_calls.specs.Steps.{Step, at_once}
+use Rattle.sg_states.specs.Actors.{blocking_in, is_alive, put_suspended}
+use Rattle.sg_calls.specs.World.{Core, state_of}
 
 -- the execution with this id is suspended if its actor is
 abbrev pub held_if : Bool → ℕ → Core → Core
-held_if true serial core = record core { under = held serial core.under }
-held_if false serial core = core
+held_if on serial core = if on then record core { under = held serial core.under } else core
 
 -- a running execution is suspended, or a suspended one resumes; anything else stays as it is
 abbrev pub held_to : Bool → ℕ → Underway → Underway
@@ -30,19 +26,9 @@ abbrev pub held_by : Bool → Option Blocking → Core → Core
 held_by on None core = core
 held_by on (Some blocking) core = held_on on blocking.on core
 
--- one that is alive is suspended, or resumed
+-- One that is alive is suspended, or resumed: suspended, it takes no turn, and its execution keeps its remaining work.
 abbrev pub suspended_to : Bool → ActorId → Core → Core
 suspended_to on target core =
-    if is_alive (state_of core target.0)
-    then held_by on (blocking_in (state_of core target.0)) (with_suspended target.0 on core)
-    else core
-
--- a call that suspends an actor: it takes no turn, and its execution keeps its remaining work
-abbrev pub suspends : ℕ → ActorId → Core → Step
-suspends actor target core =
-    at_once actor (call.Suspend target) 0 answer.Done (suspended_to true target core)
-
--- a call that resumes an actor: it may take turns again, and its execution continues
-abbrev pub resumes : ℕ → ActorId → Core → Step
-resumes actor target core =
-    at_once actor (call.Resume target) 0 answer.Done (suspended_to false target core)
+    let marked : Core = record core { actors = put_suspended core.actors target.0 on } in
+    let state = state_of core target.0 in
+    if is_alive state then held_by on (blocking_in state) marked else core

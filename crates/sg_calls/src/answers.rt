@@ -1,7 +1,7 @@
 //! Who is answered when an activity ends.
 
 ghost use Rattle.std.specs.Prelude.{◌≡◌, ◌<◌, ◌^◌, if◌then◌else◌};
-ghost use Rattle.sg_calls.specs.Answers.{answer_of_done as answer_of_done_spec, answer_to as answer_to_spec, answers, answers_side, for_receiver, tells_bytes as tells_bytes_spec};
+ghost use Rattle.sg_calls.specs.Answers.{answer_to as answer_to_spec, answers, answers_side, for_receiver, tells_bytes as tells_bytes_spec};
 ghost use Rattle.sg_calls.specs.World.{extent};
 ghost use Rattle.sg_calls.specs.kept.Sound.{setup_in, IsOwner, IsSide, IsSound, StepsBy};
 ghost use Rattle.sg_calls.specs.kept.Whole.{KeepsWhole};
@@ -28,21 +28,15 @@ fn bytes_told(what: Call, bytes: u64) -> u64
     if tells_bytes(what) { bytes } else { 0 }
 }
 
-fn answer_of_done(what: Call, msg: Msg) -> Answer
-    ensures { result ≡ answer_of_done_spec what msg }
-{
-    match what {
-        Call::Recv(_) => Answer::Got(msg),
-        _ => Answer::Done,
-    }
-}
-
 // Returns the answer to a call, by how its activity ended.
 fn answer_to(over: How, what: Call, msg: Msg) -> Answer
     ensures { result ≡ answer_to_spec over what msg }
 {
     match over {
-        How::Done => answer_of_done(what, msg),
+        How::Done => match what {
+            Call::Recv(_) => Answer::Got(msg),
+            _ => Answer::Done,
+        },
         How::Failed => Answer::Failed,
     }
 }

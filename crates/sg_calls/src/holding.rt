@@ -1,8 +1,9 @@
 //! Actors are suspended and resumed.
-ghost use Rattle.std.specs.Prelude.{◌≡◌, ◌+◌, ◌-◌, ◌<◌, ◌≤◌, length};
+ghost use Rattle.std.specs.Prelude.{◌≡◌, ◌+◌, ◌-◌, ◌<◌, ◌≤◌, false, true, length};
 ghost use Rattle.sg_states.specs.States.{with_suspended, IsAlive};
 ghost use Rattle.sg_calls.specs.World.{is_suspended, IsActor};
-ghost use Rattle.sg_calls.specs.Suspensions.{held_by, held_if, held_to, resumes, suspended_to, suspends};
+ghost use Rattle.sg_calls.specs.Steps.{at_once};
+ghost use Rattle.sg_calls.specs.Suspensions.{held_by, held_if, held_to, suspended_to};
 ghost use Rattle.sg_calls.specs.kept.Acts.{Answers, CanMake};
 ghost use Rattle.sg_calls.specs.kept.Asks.{CanHold};
 ghost use Rattle.sg_calls.specs.kept.Sound.{core_of, known_of, AwaitsMade};
@@ -93,7 +94,9 @@ fn set(fields: &mut Fields, target: ActorId, on: bool)
 /// Suspends the named actor: it takes no turns, and computes nothing, until it is resumed.
 pub(crate) fn suspend(fields: &mut Fields, actor: ActorId, target: ActorId)
     requires { CanMake fields.old actor.0 (Call.Suspend target) }
-    ensures { Answers (suspends actor.0 target) fields.old fields.new }
+    ensures { Answers
+        (λ core. at_once actor.0 (Call.Suspend target) 0 Answer.Done (suspended_to true target core))
+        fields.old fields.new }
 {
     set(fields, target, true);
     answer_now(fields, actor, Call::Suspend(target), 0, Answer::Done);
@@ -102,7 +105,9 @@ pub(crate) fn suspend(fields: &mut Fields, actor: ActorId, target: ActorId)
 /// Resumes the named actor: it takes turns again, and its suspended execution continues.
 pub(crate) fn resume(fields: &mut Fields, actor: ActorId, target: ActorId)
     requires { CanMake fields.old actor.0 (Call.Resume target) }
-    ensures { Answers (resumes actor.0 target) fields.old fields.new }
+    ensures { Answers
+        (λ core. at_once actor.0 (Call.Resume target) 0 Answer.Done (suspended_to false target core))
+        fields.old fields.new }
 {
     set(fields, target, false);
     answer_now(fields, actor, Call::Resume(target), 0, Answer::Done);

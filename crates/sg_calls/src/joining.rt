@@ -1,7 +1,8 @@
 //! How actors end, and how those that joined them are unblocked.
 ghost use Rattle.std.specs.Prelude.{◌≡◌, drop};
 ghost use Rattle.sg_states.specs.Actors.{is_ended, joiners, IsJoiner};
-ghost use Rattle.sg_calls.specs.Lives.{exits, joins_one, with_actor_ended};
+ghost use Rattle.sg_calls.specs.World.{state_of};
+ghost use Rattle.sg_calls.specs.Lives.{exits, joins_by, with_actor_ended};
 ghost use Rattle.sg_calls.specs.Locks.{joiners_wake, wakes};
 ghost use Rattle.sg_calls.specs.kept.Acts.{Answers, Becomes, CanMake, Wakes};
 ghost use Rattle.sg_calls.specs.kept.Whole.{CanConclude, CanStep, IsWhole};
@@ -64,7 +65,8 @@ fn has_ended(state: State) -> bool
 /// Makes the actor wait until the named one has ended.
 pub(crate) fn join(fields: &mut Fields, actor: ActorId, target: ActorId)
     requires { CanMake fields.old actor.0 (Call.Join target) }
-    ensures { Answers (joins_one actor.0 target) fields.old fields.new }
+    ensures { Answers (λ core. joins_by (is_ended (state_of core target.0)) actor.0 target core)
+        fields.old fields.new }
 {
     if has_ended(fields.states.state(target)) {
         answer_now(fields, actor, Call::Join(target), 0, Answer::Done)

@@ -5,7 +5,8 @@ ghost use Rattle.sg_base.specs.declared.ids.ActorId.{ActorId};
 ghost use Rattle.sg_sync.specs.Laws.{comers};
 ghost use Rattle.sg_sync.specs.Objects.{locked, unlocked, acquired, released, arrived};
 ghost use Rattle.sg_calls.specs.World.{IsActor};
-ghost use Rattle.sg_calls.specs.Locks.{all_wake, caller_first, caller_gets, caller_last, gets_first, gets_last, wakes};
+ghost use Rattle.sg_calls.specs.Locks.{all_wake, caller_first, caller_gets, caller_last, wakes};
+ghost use Rattle.sg_calls.specs.Steps.{and_then};
 ghost use Rattle.sg_calls.specs.Known.{after_call};
 ghost use Rattle.sg_calls.specs.kept.Acts.{Answers, CanMake, CanServe};
 ghost use Rattle.sg_calls.specs.kept.Sound.{core_of, known_of, StepsBy};
@@ -72,7 +73,8 @@ fn wake_others(fields: &mut Fields)
 fn answer_first(fields: &mut Fields, outcome: Outcome, actor: ActorId, what: Call)
     requires serves { CanServe fields.old actor.0 what }
     requires waking { AreWaking fields.old (comers actor outcome) fields.old.objects.others }
-    ensures { Answers (gets_first outcome fields.old.objects.others actor.0 what)
+    ensures { Answers (λ core. and_then (caller_gets outcome actor.0 what core)
+        (all_wake fields.old.objects.others))
         fields.old fields.new }
 {
     answer_caller(fields, outcome, actor, what);
@@ -83,7 +85,8 @@ fn answer_first(fields: &mut Fields, outcome: Outcome, actor: ActorId, what: Cal
 fn answer_last(fields: &mut Fields, outcome: Outcome, actor: ActorId, what: Call)
     requires serves { CanServe fields.old actor.0 what }
     requires waking { AreWaking fields.old (comers actor outcome) fields.old.objects.others }
-    ensures { Answers (gets_last outcome fields.old.objects.others actor.0 what)
+    ensures { Answers (λ core. and_then (all_wake fields.old.objects.others core)
+        (caller_gets outcome actor.0 what))
         fields.old fields.new }
 {
     wake_others(fields);

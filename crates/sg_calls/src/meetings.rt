@@ -1,12 +1,13 @@
 //! Endpoints of communications arrive at mailboxes, and actors wait for their requests.
 
-ghost use Rattle.std.specs.Prelude.{◌≡◌, ◌≢◌, ◌<◌, ◌^◌, AllPairs, None};
+ghost use Rattle.std.specs.Prelude.{◌≡◌, ◌≢◌, ◌+◌, ◌<◌, ◌^◌, AllPairs, None, length};
 ghost use Rattle.sg_base.specs.declared.ids.BoxId.{BoxId};
 ghost use Rattle.sg_base.specs.Limits.{IsActorIn};
 ghost use Rattle.sg_mailbox.specs.Posts.{partner, waiters, IsFound};
+ghost use Rattle.sg_requests.specs.Requested.{oldest, queue_at};
 ghost use Rattle.sg_calls.specs.World.{extent};
 ghost use Rattle.sg_calls.specs.Answers.{bare_side, side_of};
-ghost use Rattle.sg_calls.specs.Meetings.{answer_of_over as answer_of_over_spec, comer_fails, fails_with, joins_on, joins_with, other_fails, party_of, point_of, posts, receiver_of, receives_by, sender_of, sends_by, stop_of, takes_part, waits as waits_spec};
+ghost use Rattle.sg_calls.specs.Meetings.{answer_of_over as answer_of_over_spec, comer_fails, fails_with, joins_on, joins_with, other_fails, party_of, point_of, posted, receiver_of, receives_by, sender_of, sends_by, stop_of, takes_part, waits_by};
 ghost use Rattle.sg_calls.specs.Roads.{AreOver, IsOver};
 ghost use Rattle.sg_calls.specs.kept.Acts.{Answers, CanCome, CanMeet, CanPost, CanTakePart, LeavesWay, Replies};
 ghost use Rattle.sg_calls.specs.kept.Sound.{setup_in, comes_in, IsComer, IsSide, IsSound, StepsBy};
@@ -113,7 +114,9 @@ fn post(fields: &mut Fields, comer: &Comer, found: Found)
     requires comes { CanPost fields.old comer.now }
     requires found { IsFound fields.old.boxes comer.now.mailbox comer.now.sends found }
     requires alone { partner comer.now.sends (waiters fields.old.boxes comer.now.mailbox) ≡ None }
-    ensures { Answers (posts comer.now) fields.old fields.new }
+    ensures { Answers (λ core. takes_part comer.now.waits comer.now (length core.under.tasks + 1)
+        (posted comer.now core))
+        fields.old fields.new }
 {
     let serial = fields.doing.take_serial();
     fields
@@ -348,7 +351,8 @@ fn answer_of_over(whose: Whose) -> Option<Answer>
 /// Makes the actor wait for its oldest request.
 pub(crate) fn wait(fields: &mut Fields, actor: ActorId)
     requires { CanStep fields.old actor.0 }
-    ensures { Answers (waits_spec actor.0) fields.old fields.new }
+    ensures { Answers (λ core. waits_by (oldest (queue_at core.requests actor.0)) actor.0 core)
+        fields.old fields.new }
 {
     match fields.requests.take(actor) {
         None => answer_now(fields, actor, Call::Wait, 0, Answer::Refused),

@@ -1,8 +1,8 @@
 //! What the network does to a communication over a route.
-ghost use Rattle.std.specs.Prelude.{◌≡◌, ◌≤◌, ◌^◌};
+ghost use Rattle.std.specs.Prelude.{◌≡◌, ◌==◌, ◌≤◌, ◌^◌, None, Some, if◌then◌else◌};
 ghost use Rattle.sg_lives.specs.Slots.{sooner};
-ghost use Rattle.sg_rows.specs.Network.{IsNetwork};
-ghost use Rattle.sg_calls.specs.Network.{is_loopback, route_latency, own_bound, rate_bound};
+ghost use Rattle.sg_rows.specs.Network.{window_bound, IsNetwork};
+ghost use Rattle.sg_calls.specs.Network.{is_loopback, route_latency, own_bound};
 ghost use Rattle.sg_calls.specs.kept.Sound.{setup_in};
 
 use crate::simulation_state::Fields;
@@ -27,10 +27,25 @@ fn sooner(a: Option<u64>, b: Option<u64>) -> Option<u64>
     }
 }
 
+// Returns the most that a rate allows; 0 stands for no rate.
 fn rate_bound(rate: u64) -> Option<u64>
-    ensures { result ≡ rate_bound rate }
+    ensures { result ≡ (if rate == 0 then None else Some rate) }
 {
     if rate == 0 { None } else { Some(rate) }
+}
+
+// Returns the most that the window allows over a route. The loopback has no window.
+fn window_bound(fields: &Fields, links: &[LinkId], latency: u128) -> Option<u64>
+    requires network { IsNetwork fields.now.network }
+    requires short { latency ≤ 64000000000000000 }
+    ensures { result ≡ (if is_loopback fields.now.links links.now then None
+        else window_bound fields.now.network latency) }
+{
+    if is_loopback(fields.links, links) {
+        None
+    } else {
+        fields.network.window_bound(latency)
+    }
 }
 
 /// Returns how long the latency of a route over these links lasts.
@@ -55,9 +70,5 @@ pub(crate) fn own_bound(fields: &Fields, links: &[LinkId], latency: u128, rate: 
     ensures { result ≡ own_bound (setup_in fields.now)
         (record { links = links.now; latency = latency }) rate }
 {
-    if is_loopback(fields.links, links) {
-        rate_bound(rate)
-    } else {
-        sooner(rate_bound(rate), fields.network.window_bound(latency))
-    }
+    sooner(rate_bound(rate), window_bound(fields, links, latency))
 }

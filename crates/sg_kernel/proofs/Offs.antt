@@ -39,12 +39,12 @@ use Rattle.sg_mailbox.specs.declared.owners.Whose.{Whose}
 use Rattle.sg_mailbox.specs.declared.owners.Whose.TheVariants.{Over, Alone, Posted, Pair}
 use Rattle.sg_calls.specs.Answers.{answers_side, finishes, for_receiver, side_of, with_over}
 use Rattle.sg_calls.specs.Calls.{answer_of_ask, answered, answered_call, computes, executes, told, with_execution}
-use Rattle.sg_calls.specs.Lives.{created, exits, joins_by, joins_one, with_actor_ended}
+use Rattle.sg_calls.specs.Lives.{created, exits, joins_by, with_actor_ended}
 use Rattle.sg_calls.specs.Kills.{awaited, gives_up, gives_up_by, kill_done, kill_stretches, kills, kills_alive, withdrawn}
 use Rattle.sg_calls.specs.Suspensions.{held_by, held_if, held_on, held_to, suspended_to}
 use Rattle.sg_kernel.specs.Failures.{UsesNothingOff}
 use Rattle.sg_calls.specs.Locks.{all_wake, caller_first, caller_gets, caller_last, joiners_wake, wakes, wakes_from, with_objects}
-use Rattle.sg_calls.specs.Meetings.{answer_of_over, both_fail, comer_fails, comes, comes_by, fails_with, joined, joins_on, joins_over, joins_with, other_fails, posts_at, receiver_of, route_between, sender_of, sends_by, receives_by, takes_part, takes_part_failed, waits, waits_by, waits_until, way_with}
+use Rattle.sg_calls.specs.Meetings.{answer_of_over, both_fail, comer_fails, comes, comes_by, fails_with, joined, joins_on, joins_over, joins_with, other_fails, posts_at, receiver_of, route_between, sender_of, sends_by, receives_by, takes_part, takes_part_failed, waits_by, waits_until, way_with}
 use Rattle.sg_kernel.specs.Passes.{all_fail, changes, core_later, ends, ends_by, ends_in, ends_one, enters_one, entry_stretches, fails, fails_one, next_span, pass_at, pass_of, settled, stretches}
 use Rattle.sg_kernel.specs.Start.{first_core}
 use Rattle.sg_calls.specs.Steps.{Step, goes_on, stops, counted, follows, and_then, each, all_of, readied, at_once}
@@ -138,7 +138,7 @@ first_leaves done actor what core = both_leave (caller_gets done.outcome actor w
 last_leaves : (done : Done) (actor : ℕ) (what : Call) (core : Core) → (caller_last done actor what core).core.under ≡ core.under
 last_leaves done actor what core = both_leave (all_wake done.after.others (with_objects done core)) (caller_gets done.outcome actor what) core.under (each_leaves wakes wakes_leave done.after.others (with_objects done core)) (gets_leaves done.outcome actor what)
 
-waits_leaves : (actor : ℕ) (core : Core) → (waits actor core).core.under ≡ core.under
+waits_leaves : (actor : ℕ) (core : Core) → (waits_by (oldest (queue_at core.requests actor)) actor core).core.under ≡ core.under
 waits_leaves actor core = by (oldest (queue_at core.requests actor))
   where
     until : (over : Option Answer) (on : Await) (core : Core) → (waits_until over actor on core).core.under ≡ core.under
@@ -308,14 +308,14 @@ call_clear roads setup core actor (call.Send b n m r) clear = comes_clear roads 
 call_clear roads setup core actor (call.Recv b) clear = comes_clear roads setup (receives_by actor (call.Recv b) true b) core clear
 call_clear roads setup core actor (call.ISend b n m r) clear = comes_clear roads setup (sends_by (side_of actor n m r) (call.ISend b n m r) false b) core clear
 call_clear roads setup core actor (call.IRecv b) clear = comes_clear roads setup (receives_by actor (call.IRecv b) false b) core clear
-call_clear roads setup core actor call.Wait clear = kept core (waits actor (counted core)) clear (waits_leaves actor (counted core))
+call_clear roads setup core actor call.Wait clear = kept core (waits_by (oldest (queue_at core.requests actor)) actor (counted core)) clear (waits_leaves actor (counted core))
 call_clear roads setup core actor (call.Lock n) clear = kept core (caller_first (locked (actor_of actor) n core.objects) actor (call.Lock n) (counted core)) clear (first_leaves (locked (actor_of actor) n core.objects) actor (call.Lock n) (counted core))
 call_clear roads setup core actor (call.Unlock n) clear = kept core (caller_first (unlocked (actor_of actor) n core.objects) actor (call.Unlock n) (counted core)) clear (first_leaves (unlocked (actor_of actor) n core.objects) actor (call.Unlock n) (counted core))
 call_clear roads setup core actor (call.Acquire n) clear = kept core (caller_first (acquired (actor_of actor) n core.objects) actor (call.Acquire n) (counted core)) clear (first_leaves (acquired (actor_of actor) n core.objects) actor (call.Acquire n) (counted core))
 call_clear roads setup core actor (call.Release n) clear = kept core (caller_first (released n core.objects) actor (call.Release n) (counted core)) clear (first_leaves (released n core.objects) actor (call.Release n) (counted core))
 call_clear roads setup core actor call.Barrier clear = kept core (caller_last (arrived (actor_of actor) core.objects) actor call.Barrier (counted core)) clear (last_leaves (arrived (actor_of actor) core.objects) actor call.Barrier (counted core))
 call_clear roads setup core actor (call.Create n) clear = clear
-call_clear roads setup core actor (call.Join n) clear = kept core (joins_one actor n (counted core)) clear (joins_leave (is_ended (state_of core n.0)) actor n (counted core))
+call_clear roads setup core actor (call.Join n) clear = kept core (joins_by (is_ended (state_of core n.0)) actor n (counted core)) clear (joins_leave (is_ended (state_of core n.0)) actor n (counted core))
 call_clear roads setup core actor (call.Kill n) clear = kills_clear actor n (counted core) clear
 call_clear roads setup core actor (call.Suspend n) clear = suspended_clear true n (counted core) clear
 call_clear roads setup core actor (call.Resume n) clear = suspended_clear false n (counted core) clear

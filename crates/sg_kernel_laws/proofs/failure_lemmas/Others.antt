@@ -50,13 +50,13 @@ use Rattle.sg_calls.specs.declared.stop.Stop.TheVariants.{Budget}
 use Rattle.sg_calls.specs.Answers.{answer_to, answers, answers_by, answers_side, bare_side, finishes, for_receiver, awaits_side, party_eq, side_of, tells_bytes, with_over}
 use Rattle.sg_calls.specs.Calls.{await_alone, answer_of_ask, answered, answered_call, blocks_on, computes, executed, executes, told, with_execution, with_sleep}
 use Rattle.sg_calls.specs.Kills.{awaited, blocked_on, gives_up, gives_up_by, kill_done, kill_stretches, kills, withdrawn}
-use Rattle.sg_calls.specs.Lives.{begins, answers_create, created, exits, joins_by, joins_one, with_actor_ended}
+use Rattle.sg_calls.specs.Lives.{begins, answers_create, created, exits, joins_by, with_actor_ended}
 use Rattle.sg_calls.specs.Locks.{all_wake, caller_first, caller_gets, caller_last, joiners_wake, wakes, wakes_from, with_objects}
 use Rattle.sg_calls.specs.Meetings.{answer_of_over, asks_for, await, both_fail, comer_fails, comes, comes_by, fails_with, joined, joins_on, joins_over, joins_with, other_fails, posted, posts_at, receiver_of, receives_by, route_between, sender_of, sends_by, takes_part, takes_part_failed, waits_by, waits_until, way_with}
 use Rattle.sg_kernel.specs.Passes.{all_fail, changes, core_later, ends, ends_by, ends_in, ends_one, enters_one, entry_stretches, fails, fails_one, next_span, pass_at, settled, stretches}
 use Rattle.sg_kernel.specs.Start.{first_core}
 use Rattle.sg_calls.specs.Steps.{Step, goes_on, stops, counted, follows, and_then, each, all_of, at_once, blocked_by, readied, replied}
-use Rattle.sg_calls.specs.Suspensions.{held_by, held_if, held_on, held_to, resumes, suspended_to, suspends}
+use Rattle.sg_calls.specs.Suspensions.{held_by, held_if, held_on, held_to, suspended_to}
 use Rattle.sg_calls.specs.Setup.{Setup}
 use Rattle.sg_calls.specs.World.{Core, host_of, is_suspended, state_of, whose_at, with_suspended}
 use Rattle.sg_kernel.proofs.Hits.{rest_is_hit}

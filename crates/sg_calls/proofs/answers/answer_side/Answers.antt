@@ -8,13 +8,13 @@ use Rattle.sg_states.specs.Actors.{is_blocked, state_at, IsActor}
 use Rattle.sg_states.specs.States.{ActorStates, KeepsLimits}
 use Rattle.sg_mailbox.specs.declared.owners.How.{How}
 use Rattle.sg_mailbox.specs.declared.owners.How.TheVariants as how
-use Rattle.sg_calls.specs.Answers.{answer_of_done, answer_to}
+use Rattle.sg_calls.specs.Answers.{answer_to}
 use Rattle.sg_calls.specs.kept.Sound.{is_queued}
 use Rattle.sg_calls.proofs.Limits.{homes_counted}
 use Rattle.sg_calls.proofs.Moves.{moves_replied, whole_answered}
 use Rattle.sg_calls.proofs.answers.answer_side.Goals as goal
 
-done_limited : (ex : Extent) (what : Call) (m : Msg) → IsMsg m → IsAnswer ex (answer_of_done what m)
+done_limited : (ex : Extent) (what : Call) (m : Msg) → IsMsg m → IsAnswer ex (answer_to how.Done what m)
 done_limited ex call.Ask m h = tt
 done_limited ex (call.Compute n p) m h = tt
 done_limited ex (call.Sleep n) m h = tt

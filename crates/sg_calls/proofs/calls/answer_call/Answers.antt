@@ -1,14 +1,17 @@
-use Rattle.std.proofs.Common.{false, [], refl, sym, ◌∙◌}
+use Rattle.std.proofs.Common.{true, false, [], refl, sym, ◌∙◌}
 use Rattle.sg_base.specs.declared.call.Answer.TheVariants as answer
 use Rattle.sg_base.specs.declared.call.Call.TheVariants as call
+use Rattle.sg_requests.specs.Requested.{oldest, queue_at}
+use Rattle.sg_states.specs.Actors.{is_ended}
 use Rattle.sg_sync.specs.Objects.{acquired, arrived, locked, released, unlocked}
 use Rattle.sg_calls.specs.Calls.{answered_call, computes, with_sleep}
 use Rattle.sg_calls.specs.Kills.{kills}
-use Rattle.sg_calls.specs.Lives.{answers_create, exits, joins_one}
+use Rattle.sg_calls.specs.Lives.{answers_create, exits, joins_by}
 use Rattle.sg_calls.specs.Locks.{caller_first, caller_last}
-use Rattle.sg_calls.specs.Meetings.{waits}
+use Rattle.sg_calls.specs.Meetings.{waits_by}
 use Rattle.sg_calls.specs.Steps.{at_once, goes_on, readied}
-use Rattle.sg_calls.specs.Suspensions.{resumes, suspends}
+use Rattle.sg_calls.specs.Suspensions.{suspended_to}
+use Rattle.sg_calls.specs.World.{state_of}
 use Rattle.sg_calls.specs.kept.Sound.{core_of, known_of, setup_in}
 use Rattle.sg_calls.proofs.Alone.{can_come, can_make, comer_replies, row_replies}
 use Rattle.sg_calls.proofs.Each.{called_alone}
@@ -89,19 +92,19 @@ pub returns-in-Create-clause-replies : goal.returns-in-Create-clause-replies
 returns-in-Create-clause-replies c = row_replies c.args.router.now c.args.fields.now c.event.new.fields c.create.new.fields c.args.actor.0 c.args.call (call.Create c.in-Create.target) (λ s. answers_create false c.args.actor.0 c.in-Create.target) c.in-Create.is (c.in_ok-event.ensures {u = tt}).counts refl refl c.create.ensures.known c.create.ensures.whole
 
 pub returns-in-Join-clause-replies : goal.returns-in-Join-clause-replies
-returns-in-Join-clause-replies c = row_replies c.args.router.now c.args.fields.now c.event.new.fields c.join.new.fields c.args.actor.0 c.args.call (call.Join c.in-Join.target) (λ s. joins_one c.args.actor.0 c.in-Join.target) c.in-Join.is (c.in_ok-event.ensures {u = tt}).counts refl refl c.join.ensures.known c.join.ensures.whole
+returns-in-Join-clause-replies c = row_replies c.args.router.now c.args.fields.now c.event.new.fields c.join.new.fields c.args.actor.0 c.args.call (call.Join c.in-Join.target) (λ s core. joins_by (is_ended (state_of core c.in-Join.target.0)) c.args.actor.0 c.in-Join.target core) c.in-Join.is (c.in_ok-event.ensures {u = tt}).counts refl refl c.join.ensures.known c.join.ensures.whole
 
 pub returns-in-Kill-clause-replies : goal.returns-in-Kill-clause-replies
 returns-in-Kill-clause-replies c = row_replies c.args.router.now c.args.fields.now c.event.new.fields c.kill.new.fields c.args.actor.0 c.args.call (call.Kill c.in-Kill.target) (λ s. kills c.args.actor.0 c.in-Kill.target) c.in-Kill.is (c.in_ok-event.ensures {u = tt}).counts refl refl c.kill.ensures.known c.kill.ensures.whole
 
 pub returns-in-Suspend-clause-replies : goal.returns-in-Suspend-clause-replies
-returns-in-Suspend-clause-replies c = row_replies c.args.router.now c.args.fields.now c.event.new.fields c.suspend.new.fields c.args.actor.0 c.args.call (call.Suspend c.in-Suspend.target) (λ s. suspends c.args.actor.0 c.in-Suspend.target) c.in-Suspend.is (c.in_ok-event.ensures {u = tt}).counts refl refl c.suspend.ensures.known c.suspend.ensures.whole
+returns-in-Suspend-clause-replies c = row_replies c.args.router.now c.args.fields.now c.event.new.fields c.suspend.new.fields c.args.actor.0 c.args.call (call.Suspend c.in-Suspend.target) (λ s core. at_once c.args.actor.0 (call.Suspend c.in-Suspend.target) 0 answer.Done (suspended_to true c.in-Suspend.target core)) c.in-Suspend.is (c.in_ok-event.ensures {u = tt}).counts refl refl c.suspend.ensures.known c.suspend.ensures.whole
 
 pub returns-in-Resume-clause-replies : goal.returns-in-Resume-clause-replies
-returns-in-Resume-clause-replies c = row_replies c.args.router.now c.args.fields.now c.event.new.fields c.resume.new.fields c.args.actor.0 c.args.call (call.Resume c.in-Resume.target) (λ s. resumes c.args.actor.0 c.in-Resume.target) c.in-Resume.is (c.in_ok-event.ensures {u = tt}).counts refl refl c.resume.ensures.known c.resume.ensures.whole
+returns-in-Resume-clause-replies c = row_replies c.args.router.now c.args.fields.now c.event.new.fields c.resume.new.fields c.args.actor.0 c.args.call (call.Resume c.in-Resume.target) (λ s core. at_once c.args.actor.0 (call.Resume c.in-Resume.target) 0 answer.Done (suspended_to false c.in-Resume.target core)) c.in-Resume.is (c.in_ok-event.ensures {u = tt}).counts refl refl c.resume.ensures.known c.resume.ensures.whole
 
 pub returns-in-Wait-clause-replies : goal.returns-in-Wait-clause-replies
-returns-in-Wait-clause-replies c = row_replies c.args.router.now c.args.fields.now c.event.new.fields c.wait.new.fields c.args.actor.0 c.args.call call.Wait (λ s. waits c.args.actor.0) c.in-Wait.is (c.in_ok-event.ensures {u = tt}).counts refl refl c.wait.ensures.known c.wait.ensures.whole
+returns-in-Wait-clause-replies c = row_replies c.args.router.now c.args.fields.now c.event.new.fields c.wait.new.fields c.args.actor.0 c.args.call call.Wait (λ s core. waits_by (oldest (queue_at core.requests c.args.actor.0)) c.args.actor.0 core) c.in-Wait.is (c.in_ok-event.ensures {u = tt}).counts refl refl c.wait.ensures.known c.wait.ensures.whole
 
 pub returns-in-Barrier-clause-replies : goal.returns-in-Barrier-clause-replies
 returns-in-Barrier-clause-replies c = row_replies c.args.router.now c.args.fields.now c.event.new.fields c.arrive.new.fields c.args.actor.0 c.args.call call.Barrier (λ s core. caller_last (arrived c.args.actor core.objects) c.args.actor.0 call.Barrier core) c.in-Barrier.is (c.in_ok-event.ensures {u = tt}).counts refl refl c.arrive.ensures.known c.arrive.ensures.whole

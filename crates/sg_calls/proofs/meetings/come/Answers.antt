@@ -1,11 +1,12 @@
-use Rattle.std.proofs.Common.{◌≡◌, List, None, Option, Some, Ok, refl, sym, ap, subst, ◌∙◌}
+use Rattle.std.proofs.Common.{◌≡◌, ◌+◌, List, length, None, Option, Some, Ok, refl, sym, ap, subst, ◌∙◌}
 use Rattle.sg_base.specs.declared.ids.LinkId.{LinkId}
 use Rattle.sg_mailbox.specs.declared.sides.Post.{Post}
 use Rattle.sg_mailbox.specs.Posts.{partner_side}
 use Rattle.sg_route.specs.Route.{Route}
 use Rattle.sg_calls.specs.Setup.{Setup}
 use Rattle.sg_calls.specs.declared.simulation_state.Fields.{Fields}
-use Rattle.sg_calls.specs.Meetings.{comes, joins_on, point_of, posts, receiver_of, sender_of}
+use Rattle.sg_calls.specs.Meetings.{comes, joins_on, point_of, posted, receiver_of, sender_of, takes_part}
+use Rattle.sg_calls.specs.World.{Core}
 use Rattle.sg_calls.specs.Roads.{IsOver}
 use Rattle.sg_calls.specs.Steps.{counted}
 use Rattle.sg_calls.specs.kept.Sound.{core_of, setup_in}
@@ -49,7 +50,7 @@ nobody (Some post) e = absurd (cc e)
 pub returns-in-None-clause-replies : goal.returns-in-None-clause-replies
 returns-in-None-clause-replies c =
     let old = c.args.fields.now in
-    counted_replies old c.count-in-None.new.fields c.post.new.fields (comes c.args.router.now (setup_in old) c.args.comer.now (core_of old)) (λ (s : Setup). posts c.args.comer.now)
+    counted_replies old c.count-in-None.new.fields c.post.new.fields (comes c.args.router.now (setup_in old) c.args.comer.now (core_of old)) (λ (s : Setup) (core : Core). takes_part c.args.comer.now.waits c.args.comer.now (length core.under.tasks + 1) (posted c.args.comer.now core))
     (record { left = c.in_ok-check_budget.ensures {u = tt}; counted = c.count-in-None.ensures })
     (comes_alone old c.args.router.now c.args.comer.now (nobody _ (sym c.in-None.is ∙ c.look-found.ensures.found.met)) c.requires.comes.whole.meeting)
     (takes_part_on c.args.comer.now.waits c.args.comer.now _ _)
