@@ -1,5 +1,5 @@
 -- Communications with one endpoint, mailbox by mailbox.
-use Rattle.std.specs.Prelude.{◌≡◌, ◌≢◌, ℕ, ◌-◌, ◌<◌, Bool, true, false, not, ◌==◌, Option, None, Some, option_map, List, [], ◌∷◌, ◌++◌, All, filter, slice_index_or, if◌then◌else◌}
+use Rattle.std.specs.Prelude.{◌≡◌, ◌≢◌, ℕ, ◌-◌, ◌<◌, Bool, not, ◌==◌, Option, None, Some, option_map, List, [], ◌∷◌, ◌++◌, All, filter, slice_index_or, if◌then◌else◌}
 use Rattle.std.specs.List.{find, AllPairs}
 use Rattle.std.specs.Map.{lookup}
 use Rattle.sg_base.specs.declared.ids.BoxId.{BoxId}
@@ -35,8 +35,7 @@ waiters posts mailbox = posts_in posts.queues (queue_of posts mailbox)
 
 -- whether the other kind of endpoint waits: a receiver for one that sends, and a sender for one that receives
 abbrev pub is_other : Bool → Post → Bool
-is_other true post = not post.sends
-is_other false post = post.sends
+is_other sends post = if sends then not post.sends else post.sends
 
 -- whom an arriving endpoint matches: the first of the other kind, which has the least activity id
 abbrev pub partner : Bool → List Post → Option Post
