@@ -1,5 +1,5 @@
--- The tables of both texts in their order: of each its limit of rows, and its keys in order; of each key whether it is
--- required, and what its value must be.
+-- The tables of both texts in their order: of each its name and its limit of rows, and its keys in order; of each key
+-- whether it is required, and what its value must be.
 use Rattle.std.specs.Prelude.{ℕ, List, [], ◌∷◌, codes}
 use Rattle.sg_tables.specs.declared.tables.Key.{Key}
 use Rattle.sg_tables.specs.declared.tables.Need.{Need}
@@ -11,95 +11,85 @@ use Rattle.sg_tables.specs.declared.tables.Table.TheVariants.{Zone, Host, Router
 use Rattle.sg_tables.specs.declared.tables.TextRule.TheVariants.{NewPoint, NewLink, NewActor, NewMutex, NewSemaphore, ZoneName, PointName, EndName, HostName, RouteEnd, ZoneRouteEnd, SpokeChild, RoutingWord, PolicyWord, FunctionWord, PositiveValue, AnyValue, ProfiledHost, ProfiledLink, SwitchedHost, SwitchedLink}
 use Rattle.sg_tables.specs.declared.tables.TextsRule.TheVariants.{LinkList, DateList, ValueList, StateList, ArgumentList}
 use Rattle.sg_tables.specs.declared.units.Quantity.TheVariants.{Time, Latency, Speed, Bandwidth, Factor, Amount}
-use Rattle.sg_tables.specs.declared.tables.Word.{Word}
-use Rattle.sg_tables.specs.declared.tables.Word.TheVariants as word
 
--- a key of a table: its word, whether a row must have it, and the rule for its value
-abbrev pub key : Word → Need → Rule → Key
-key word need rule = record { word = word; need = need; rule = rule }
+-- a key of a table: its name, whether a row must have it, and the rule for its value
+abbrev pub key : List ℕ → Need (List ℕ) → Rule → Key (List ℕ)
+key name need rule = record { name = name; need = need; rule = rule }
 
 -- the keys of a table, in order
-abbrev pub keys_of : Table → List Key
-keys_of Zone = key word.Id Required (Text NewPoint)
-    ∷ key word.Parent Optional (Text ZoneName)
-    ∷ key word.Routing Required (Text RoutingWord) ∷ []
-keys_of Host = key word.Id Required (Text NewPoint)
-    ∷ key word.Zone Required (Text ZoneName)
-    ∷ key word.Speed Required (Text (PositiveValue Speed))
-    ∷ key word.Core Optional (Whole 1 1024)
-    ∷ key word.Power Optional Powers
-    ∷ key word.PowerOff Optional (Whole 0 1000000000) ∷ []
-keys_of Router = key word.Id Required (Text NewPoint)
-    ∷ key word.Zone Required (Text ZoneName) ∷ []
-keys_of Link = key word.Id Required (Text NewLink)
-    ∷ key word.Bandwidth Required (Text (PositiveValue Bandwidth))
-    ∷ key word.Latency Optional (Text (AnyValue Latency))
-    ∷ key word.SharingPolicy Optional (Text PolicyWord) ∷ []
-keys_of Route = key word.Src Required (Text PointName)
-    ∷ key word.Dst Required (Text RouteEnd)
-    ∷ key word.Links Required (Texts LinkList)
-    ∷ key word.Symmetrical Optional Truth ∷ []
-keys_of ZoneRoute = key word.Src Required (Text EndName)
-    ∷ key word.Dst Required (Text ZoneRouteEnd)
-    ∷ key word.GwSrc (IfZone word.Src) (Text PointName)
-    ∷ key word.GwDst (IfZone word.Dst) (Text PointName)
-    ∷ key word.Links Required (Texts LinkList)
-    ∷ key word.Symmetrical Optional Truth ∷ []
-keys_of Spoke = key word.Zone Required (Text ZoneName)
-    ∷ key word.Child Required (Text SpokeChild)
-    ∷ key word.Gateway (IfZone word.Child) (Text PointName)
-    ∷ key word.Up Required (Texts LinkList)
-    ∷ key word.Down Optional (Texts LinkList) ∷ []
-keys_of Network = key word.LatencyFactor Optional (Text (AnyValue Factor))
-    ∷ key word.BandwidthFactor Optional (Text (PositiveValue Factor))
-    ∷ key word.Window Optional (Text (AnyValue Amount)) ∷ []
-keys_of Profile = key word.Host (Unless word.Link) (Text ProfiledHost)
-    ∷ key word.Link Optional (Text ProfiledLink)
-    ∷ key word.Dates Required (Texts DateList)
-    ∷ key word.Values Required (Texts ValueList)
-    ∷ key word.Loop Optional (Text (PositiveValue Time)) ∷ []
-keys_of StateProfile = key word.Host (Unless word.Link) (Text SwitchedHost)
-    ∷ key word.Link Optional (Text SwitchedLink)
-    ∷ key word.Dates Required (Texts DateList)
-    ∷ key word.States Required (Texts StateList)
-    ∷ key word.Loop Optional (Text (PositiveValue Time)) ∷ []
-keys_of Actor = key word.Name Required (Text NewActor)
-    ∷ key word.Host Required (Text HostName)
-    ∷ key word.Function Required (Text FunctionWord)
-    ∷ key word.Argument Optional (Texts ArgumentList)
-    ∷ key word.Start Optional Truth ∷ []
-keys_of Mutex = key word.Id Required (Text NewMutex) ∷ []
-keys_of Semaphore = key word.Id Required (Text NewSemaphore)
-    ∷ key word.Capacity Required (Whole 0 1000000000) ∷ []
+abbrev pub keys_of : Table → List (Key (List ℕ))
+keys_of Zone = key (codes "id") Required (Text NewPoint)
+    ∷ key (codes "parent") Optional (Text ZoneName)
+    ∷ key (codes "routing") Required (Text RoutingWord) ∷ []
+keys_of Host = key (codes "id") Required (Text NewPoint)
+    ∷ key (codes "zone") Required (Text ZoneName)
+    ∷ key (codes "speed") Required (Text (PositiveValue Speed))
+    ∷ key (codes "core") Optional (Whole 1 1024)
+    ∷ key (codes "power") Optional Powers
+    ∷ key (codes "power_off") Optional (Whole 0 1000000000) ∷ []
+keys_of Router = key (codes "id") Required (Text NewPoint)
+    ∷ key (codes "zone") Required (Text ZoneName) ∷ []
+keys_of Link = key (codes "id") Required (Text NewLink)
+    ∷ key (codes "bandwidth") Required (Text (PositiveValue Bandwidth))
+    ∷ key (codes "latency") Optional (Text (AnyValue Latency))
+    ∷ key (codes "sharing_policy") Optional (Text PolicyWord) ∷ []
+keys_of Route = key (codes "src") Required (Text PointName)
+    ∷ key (codes "dst") Required (Text RouteEnd)
+    ∷ key (codes "links") Required (Texts LinkList)
+    ∷ key (codes "symmetrical") Optional Truth ∷ []
+keys_of ZoneRoute = key (codes "src") Required (Text EndName)
+    ∷ key (codes "dst") Required (Text ZoneRouteEnd)
+    ∷ key (codes "gw_src") (IfZone (codes "src")) (Text PointName)
+    ∷ key (codes "gw_dst") (IfZone (codes "dst")) (Text PointName)
+    ∷ key (codes "links") Required (Texts LinkList)
+    ∷ key (codes "symmetrical") Optional Truth ∷ []
+keys_of Spoke = key (codes "zone") Required (Text ZoneName)
+    ∷ key (codes "child") Required (Text SpokeChild)
+    ∷ key (codes "gateway") (IfZone (codes "child")) (Text PointName)
+    ∷ key (codes "up") Required (Texts LinkList)
+    ∷ key (codes "down") Optional (Texts LinkList) ∷ []
+keys_of Network = key (codes "latency_factor") Optional (Text (AnyValue Factor))
+    ∷ key (codes "bandwidth_factor") Optional (Text (PositiveValue Factor))
+    ∷ key (codes "window") Optional (Text (AnyValue Amount)) ∷ []
+keys_of Profile = key (codes "host") (Unless (codes "link")) (Text ProfiledHost)
+    ∷ key (codes "link") Optional (Text ProfiledLink)
+    ∷ key (codes "dates") Required (Texts DateList)
+    ∷ key (codes "values") Required (Texts ValueList)
+    ∷ key (codes "loop") Optional (Text (PositiveValue Time)) ∷ []
+keys_of StateProfile = key (codes "host") (Unless (codes "link")) (Text SwitchedHost)
+    ∷ key (codes "link") Optional (Text SwitchedLink)
+    ∷ key (codes "dates") Required (Texts DateList)
+    ∷ key (codes "states") Required (Texts StateList)
+    ∷ key (codes "loop") Optional (Text (PositiveValue Time)) ∷ []
+keys_of Actor = key (codes "name") Required (Text NewActor)
+    ∷ key (codes "host") Required (Text HostName)
+    ∷ key (codes "function") Required (Text FunctionWord)
+    ∷ key (codes "argument") Optional (Texts ArgumentList)
+    ∷ key (codes "start") Optional Truth ∷ []
+keys_of Mutex = key (codes "id") Required (Text NewMutex) ∷ []
+keys_of Semaphore = key (codes "id") Required (Text NewSemaphore)
+    ∷ key (codes "capacity") Required (Whole 0 1000000000) ∷ []
 
--- the table as a text writes it
-abbrev pub table_text : Table → List ℕ
-table_text Zone = codes "zone"
-table_text Host = codes "host"
-table_text Router = codes "router"
-table_text Link = codes "link"
-table_text Route = codes "route"
-table_text ZoneRoute = codes "zone_route"
-table_text Spoke = codes "spoke"
-table_text Network = codes "network"
-table_text Profile = codes "profile"
-table_text StateProfile = codes "state_profile"
-table_text Actor = codes "actor"
-table_text Mutex = codes "mutex"
-table_text Semaphore = codes "semaphore"
+-- the name of a table, and how many rows it may have
+pub record Heading : Type 0 where
+  pub name : List ℕ
+  pub limit : ℕ
 
--- how many rows it may have
-abbrev pub row_limit : Table → ℕ
-row_limit Zone = 1024
-row_limit Host = 16384
-row_limit Router = 16384
-row_limit Route = 262144
-row_limit ZoneRoute = 262144
-row_limit Spoke = 32768
-row_limit Network = 1
-row_limit Profile = 4096
-row_limit StateProfile = 4096
-row_limit _ = 65536
+-- the heading of each table
+abbrev pub heading : Table → Heading
+heading Zone = record { name = codes "zone"; limit = 1024 }
+heading Host = record { name = codes "host"; limit = 16384 }
+heading Router = record { name = codes "router"; limit = 16384 }
+heading Link = record { name = codes "link"; limit = 65536 }
+heading Route = record { name = codes "route"; limit = 262144 }
+heading ZoneRoute = record { name = codes "zone_route"; limit = 262144 }
+heading Spoke = record { name = codes "spoke"; limit = 32768 }
+heading Network = record { name = codes "network"; limit = 1 }
+heading Profile = record { name = codes "profile"; limit = 4096 }
+heading StateProfile = record { name = codes "state_profile"; limit = 4096 }
+heading Actor = record { name = codes "actor"; limit = 65536 }
+heading Mutex = record { name = codes "mutex"; limit = 65536 }
+heading Semaphore = record { name = codes "semaphore"; limit = 65536 }
 
 -- the tables of a platform, in order
 abbrev pub platform_tables : List Table
@@ -108,41 +98,3 @@ platform_tables = Zone ∷ Host ∷ Router ∷ Link ∷ Route ∷ ZoneRoute ∷ 
 -- the tables of a deployment, in order
 abbrev pub deployment_tables : List Table
 deployment_tables = Actor ∷ Mutex ∷ Semaphore ∷ []
-
--- the key as a text writes it
-abbrev pub word_text : Word → List ℕ
-word_text word.Id = codes "id"
-word_text word.Parent = codes "parent"
-word_text word.Routing = codes "routing"
-word_text word.Zone = codes "zone"
-word_text word.Speed = codes "speed"
-word_text word.Core = codes "core"
-word_text word.Bandwidth = codes "bandwidth"
-word_text word.Latency = codes "latency"
-word_text word.SharingPolicy = codes "sharing_policy"
-word_text word.Src = codes "src"
-word_text word.Dst = codes "dst"
-word_text word.Links = codes "links"
-word_text word.Symmetrical = codes "symmetrical"
-word_text word.GwSrc = codes "gw_src"
-word_text word.GwDst = codes "gw_dst"
-word_text word.Child = codes "child"
-word_text word.Gateway = codes "gateway"
-word_text word.Up = codes "up"
-word_text word.Down = codes "down"
-word_text word.Name = codes "name"
-word_text word.Host = codes "host"
-word_text word.Function = codes "function"
-word_text word.Argument = codes "argument"
-word_text word.Capacity = codes "capacity"
-word_text word.LatencyFactor = codes "latency_factor"
-word_text word.BandwidthFactor = codes "bandwidth_factor"
-word_text word.Window = codes "window"
-word_text word.Link = codes "link"
-word_text word.Dates = codes "dates"
-word_text word.Values = codes "values"
-word_text word.Loop = codes "loop"
-word_text word.States = codes "states"
-word_text word.Power = codes "power"
-word_text word.PowerOff = codes "power_off"
-word_text word.Start = codes "start"

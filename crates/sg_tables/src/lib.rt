@@ -7,5 +7,5 @@
 mod tables;
 mod units;
 
-pub use tables::{DEPLOYMENT, Key, Need, PLATFORM, Rule, Table, TextRule, TextsRule, Word};
+pub use tables::{DEPLOYMENT, Key, Need, PLATFORM, Rule, Table, TextRule, TextsRule};
 pub use units::{Quantity, whole_value};

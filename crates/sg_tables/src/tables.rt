@@ -1,8 +1,10 @@
 //! The tables of both texts, and their keys.
-ghost use Rattle.std.specs.Prelude.{◌≡◌};
-ghost use Rattle.sg_tables.specs.Tables.{keys_of, row_limit, table_text, word_text};
+ghost use Rattle.std.specs.Prelude.{◌≡◌, map};
+ghost use Rattle.sg_tables.specs.Tables.{heading, keys_of};
+ghost use Rattle.sg_tables.specs.kept.Shown.{key_of};
 
 use crate::units::Quantity::{self, Amount, Bandwidth, Factor, Latency, Speed, Time};
+use Need::{IfZone, Optional, Required, Unless};
 use Rule::{Powers, Text, Texts, Truth, Whole};
 use TextRule::{
     AnyValue, EndName, FunctionWord, HostName, NewActor, NewLink, NewMutex, NewPoint, NewSemaphore,
@@ -11,55 +13,15 @@ use TextRule::{
 };
 use TextsRule::{ArgumentList, DateList, LinkList, StateList, ValueList};
 
-/// A key as a text writes it.
+/// Whether a row must have a key. Keys have texts as names here, and the bytes of texts in the definitions.
 #[derive(Clone, Copy)]
-pub enum Word {
-    Id,
-    Parent,
-    Routing,
-    Zone,
-    Speed,
-    Core,
-    Bandwidth,
-    Latency,
-    SharingPolicy,
-    Src,
-    Dst,
-    Links,
-    Symmetrical,
-    GwSrc,
-    GwDst,
-    Child,
-    Gateway,
-    Up,
-    Down,
-    Name,
-    Host,
-    Function,
-    Argument,
-    Capacity,
-    LatencyFactor,
-    BandwidthFactor,
-    Window,
-    Link,
-    Dates,
-    Values,
-    Loop,
-    States,
-    Power,
-    PowerOff,
-    Start,
-}
-
-/// Whether a row must have a key.
-#[derive(Clone, Copy)]
-pub enum Need {
+pub enum Need<Name> {
     Required,
     Optional,
     /// Required if this other key of the row names a zone.
-    IfZone(Word),
+    IfZone(Name),
     /// Required if the row doesn't have this other key.
-    Unless(Word),
+    Unless(Name),
 }
 
 /// What the value of a key must be.
@@ -141,9 +103,10 @@ pub enum TextsRule {
 
 /// A key of a table.
 #[derive(Clone, Copy)]
-pub struct Key {
-    pub word: Word,
-    pub need: Need,
+pub struct Key<Name> {
+    /// As a text writes it.
+    pub name: Name,
+    pub need: Need<Name>,
     pub rule: Rule,
 }
 
@@ -182,151 +145,106 @@ pub const PLATFORM: [Table; 10] = [
 /// The tables of a deployment text, in order.
 pub const DEPLOYMENT: [Table; 3] = [Table::Actor, Table::Mutex, Table::Semaphore];
 
-impl Word {
-    /// Returns the key as a text writes it.
-    pub fn text(self) -> &'static str
-        ensures { result.now ≡ word_text self }
-    {
-        match self {
-            Word::Id => "id",
-            Word::Parent => "parent",
-            Word::Routing => "routing",
-            Word::Zone => "zone",
-            Word::Speed => "speed",
-            Word::Core => "core",
-            Word::Bandwidth => "bandwidth",
-            Word::Latency => "latency",
-            Word::SharingPolicy => "sharing_policy",
-            Word::Src => "src",
-            Word::Dst => "dst",
-            Word::Links => "links",
-            Word::Symmetrical => "symmetrical",
-            Word::GwSrc => "gw_src",
-            Word::GwDst => "gw_dst",
-            Word::Child => "child",
-            Word::Gateway => "gateway",
-            Word::Up => "up",
-            Word::Down => "down",
-            Word::Name => "name",
-            Word::Host => "host",
-            Word::Function => "function",
-            Word::Argument => "argument",
-            Word::Capacity => "capacity",
-            Word::LatencyFactor => "latency_factor",
-            Word::BandwidthFactor => "bandwidth_factor",
-            Word::Window => "window",
-            Word::Link => "link",
-            Word::Dates => "dates",
-            Word::Values => "values",
-            Word::Loop => "loop",
-            Word::States => "states",
-            Word::Power => "power",
-            Word::PowerOff => "power_off",
-            Word::Start => "start",
-        }
-    }
-}
-
 macro_rules! key {
-    ($word:ident, $need:ident $(($other:ident))?, $rule:expr) => {
-        Key { word: Word::$word, need: Need::$need $((Word::$other))?, rule: $rule }
+    ($name:literal, $need:expr, $rule:expr) => {
+        Key { name: $name, need: $need, rule: $rule }
     };
 }
 
-// The keys of each table, in order.
+// The keys of each table, in order. They are statics, since a constant that holds texts is not lent as `'static`.
 
-const ZONE_KEYS: [Key; 3] = [
-    key!(Id, Required, Text(NewPoint)),
-    key!(Parent, Optional, Text(ZoneName)),
-    key!(Routing, Required, Text(RoutingWord)),
+static ZONE_KEYS: [Key<&'static str>; 3] = [
+    key!("id", Required, Text(NewPoint)),
+    key!("parent", Optional, Text(ZoneName)),
+    key!("routing", Required, Text(RoutingWord)),
 ];
 
-const HOST_KEYS: [Key; 6] = [
-    key!(Id, Required, Text(NewPoint)),
-    key!(Zone, Required, Text(ZoneName)),
-    key!(Speed, Required, Text(PositiveValue(Speed))),
-    key!(Core, Optional, Whole(1, 1024)),
-    key!(Power, Optional, Powers),
-    key!(PowerOff, Optional, Whole(0, 1_000_000_000)),
+static HOST_KEYS: [Key<&'static str>; 6] = [
+    key!("id", Required, Text(NewPoint)),
+    key!("zone", Required, Text(ZoneName)),
+    key!("speed", Required, Text(PositiveValue(Speed))),
+    key!("core", Optional, Whole(1, 1024)),
+    key!("power", Optional, Powers),
+    key!("power_off", Optional, Whole(0, 1_000_000_000)),
 ];
 
-const ROUTER_KEYS: [Key; 2] = [
-    key!(Id, Required, Text(NewPoint)),
-    key!(Zone, Required, Text(ZoneName)),
+static ROUTER_KEYS: [Key<&'static str>; 2] = [
+    key!("id", Required, Text(NewPoint)),
+    key!("zone", Required, Text(ZoneName)),
 ];
 
-const LINK_KEYS: [Key; 4] = [
-    key!(Id, Required, Text(NewLink)),
-    key!(Bandwidth, Required, Text(PositiveValue(Bandwidth))),
-    key!(Latency, Optional, Text(AnyValue(Latency))),
-    key!(SharingPolicy, Optional, Text(PolicyWord)),
+static LINK_KEYS: [Key<&'static str>; 4] = [
+    key!("id", Required, Text(NewLink)),
+    key!("bandwidth", Required, Text(PositiveValue(Bandwidth))),
+    key!("latency", Optional, Text(AnyValue(Latency))),
+    key!("sharing_policy", Optional, Text(PolicyWord)),
 ];
 
-const ROUTE_KEYS: [Key; 4] = [
-    key!(Src, Required, Text(PointName)),
-    key!(Dst, Required, Text(RouteEnd)),
-    key!(Links, Required, Texts(LinkList)),
-    key!(Symmetrical, Optional, Truth),
+static ROUTE_KEYS: [Key<&'static str>; 4] = [
+    key!("src", Required, Text(PointName)),
+    key!("dst", Required, Text(RouteEnd)),
+    key!("links", Required, Texts(LinkList)),
+    key!("symmetrical", Optional, Truth),
 ];
 
-const ZONE_ROUTE_KEYS: [Key; 6] = [
-    key!(Src, Required, Text(EndName)),
-    key!(Dst, Required, Text(ZoneRouteEnd)),
-    key!(GwSrc, IfZone(Src), Text(PointName)),
-    key!(GwDst, IfZone(Dst), Text(PointName)),
-    key!(Links, Required, Texts(LinkList)),
-    key!(Symmetrical, Optional, Truth),
+static ZONE_ROUTE_KEYS: [Key<&'static str>; 6] = [
+    key!("src", Required, Text(EndName)),
+    key!("dst", Required, Text(ZoneRouteEnd)),
+    key!("gw_src", IfZone("src"), Text(PointName)),
+    key!("gw_dst", IfZone("dst"), Text(PointName)),
+    key!("links", Required, Texts(LinkList)),
+    key!("symmetrical", Optional, Truth),
 ];
 
-const SPOKE_KEYS: [Key; 5] = [
-    key!(Zone, Required, Text(ZoneName)),
-    key!(Child, Required, Text(SpokeChild)),
-    key!(Gateway, IfZone(Child), Text(PointName)),
-    key!(Up, Required, Texts(LinkList)),
-    key!(Down, Optional, Texts(LinkList)),
+static SPOKE_KEYS: [Key<&'static str>; 5] = [
+    key!("zone", Required, Text(ZoneName)),
+    key!("child", Required, Text(SpokeChild)),
+    key!("gateway", IfZone("child"), Text(PointName)),
+    key!("up", Required, Texts(LinkList)),
+    key!("down", Optional, Texts(LinkList)),
 ];
 
-const NETWORK_KEYS: [Key; 3] = [
-    key!(LatencyFactor, Optional, Text(AnyValue(Factor))),
-    key!(BandwidthFactor, Optional, Text(PositiveValue(Factor))),
-    key!(Window, Optional, Text(AnyValue(Amount))),
+static NETWORK_KEYS: [Key<&'static str>; 3] = [
+    key!("latency_factor", Optional, Text(AnyValue(Factor))),
+    key!("bandwidth_factor", Optional, Text(PositiveValue(Factor))),
+    key!("window", Optional, Text(AnyValue(Amount))),
 ];
 
-const PROFILE_KEYS: [Key; 5] = [
-    key!(Host, Unless(Link), Text(ProfiledHost)),
-    key!(Link, Optional, Text(ProfiledLink)),
-    key!(Dates, Required, Texts(DateList)),
-    key!(Values, Required, Texts(ValueList)),
-    key!(Loop, Optional, Text(PositiveValue(Time))),
+static PROFILE_KEYS: [Key<&'static str>; 5] = [
+    key!("host", Unless("link"), Text(ProfiledHost)),
+    key!("link", Optional, Text(ProfiledLink)),
+    key!("dates", Required, Texts(DateList)),
+    key!("values", Required, Texts(ValueList)),
+    key!("loop", Optional, Text(PositiveValue(Time))),
 ];
 
-const STATE_PROFILE_KEYS: [Key; 5] = [
-    key!(Host, Unless(Link), Text(SwitchedHost)),
-    key!(Link, Optional, Text(SwitchedLink)),
-    key!(Dates, Required, Texts(DateList)),
-    key!(States, Required, Texts(StateList)),
-    key!(Loop, Optional, Text(PositiveValue(Time))),
+static STATE_PROFILE_KEYS: [Key<&'static str>; 5] = [
+    key!("host", Unless("link"), Text(SwitchedHost)),
+    key!("link", Optional, Text(SwitchedLink)),
+    key!("dates", Required, Texts(DateList)),
+    key!("states", Required, Texts(StateList)),
+    key!("loop", Optional, Text(PositiveValue(Time))),
 ];
 
-const ACTOR_KEYS: [Key; 5] = [
-    key!(Name, Required, Text(NewActor)),
-    key!(Host, Required, Text(HostName)),
-    key!(Function, Required, Text(FunctionWord)),
-    key!(Argument, Optional, Texts(ArgumentList)),
-    key!(Start, Optional, Truth),
+static ACTOR_KEYS: [Key<&'static str>; 5] = [
+    key!("name", Required, Text(NewActor)),
+    key!("host", Required, Text(HostName)),
+    key!("function", Required, Text(FunctionWord)),
+    key!("argument", Optional, Texts(ArgumentList)),
+    key!("start", Optional, Truth),
 ];
 
-const MUTEX_KEYS: [Key; 1] = [key!(Id, Required, Text(NewMutex))];
+static MUTEX_KEYS: [Key<&'static str>; 1] = [key!("id", Required, Text(NewMutex))];
 
-const SEMAPHORE_KEYS: [Key; 2] = [
-    key!(Id, Required, Text(NewSemaphore)),
-    key!(Capacity, Required, Whole(0, 1_000_000_000)),
+static SEMAPHORE_KEYS: [Key<&'static str>; 2] = [
+    key!("id", Required, Text(NewSemaphore)),
+    key!("capacity", Required, Whole(0, 1_000_000_000)),
 ];
 
 impl Table {
     /// Returns the table as a text writes it.
     pub fn text(self) -> &'static str
-        ensures { result.now ≡ table_text self }
+        ensures { result.now ≡ (heading self).name }
     {
         match self {
             Table::Zone => "zone",
@@ -347,7 +265,7 @@ impl Table {
 
     /// Returns how many rows it may have.
     pub fn row_limit(self) -> usize
-        ensures { result ≡ row_limit self }
+        ensures { result ≡ (heading self).limit }
     {
         match self {
             Table::Network => 1,
@@ -361,8 +279,8 @@ impl Table {
     }
 
     /// Its keys, in order.
-    pub fn keys(self) -> &'static [Key]
-        ensures { result.now ≡ keys_of self }
+    pub fn keys(self) -> &'static [Key<&'static str>]
+        ensures { map key_of result.now ≡ keys_of self }
     {
         match self {
             Table::Zone => &ZONE_KEYS,
