@@ -5,19 +5,18 @@ use Rattle.std.proofs.lemmas.Bool.Decides.{nat_tests}
 use Rattle.std.specs.List.{All, AllByRecursion, list_all}
 use Rattle.std.specs.Option.{option_map_or}
 use Rattle.sg_rules.proofs.TableLemmas.{few_rows}
-use Rattle.sg_rules.proofs.FaultParts.{key_faults, row_faults_at}
+use Rattle.sg_rules.proofs.FaultParts.{key_faults, kinds_at, row_faults_at}
 use Rattle.sg_rules.specs.Faults.{row_faults, rows_before, table_faults, table_kinds}
 use Rattle.sg_tree.specs.Names.{Known}
 use Rattle.sg_rules.specs.Profiles.{items_at}
-use Rattle.sg_rules.specs.Rules.{end_kinds, host_kinds, id_kinds, is_zone, key_kinds, kinds_at, link_id_kinds, list_kinds, point_kinds, text_kinds, texts_kinds, value_kinds, zone_kinds}
-use Rattle.sg_tables.specs.Tables.{key, keys_of, row_limit, table_text, word_text}
+use Rattle.sg_rules.specs.Rules.{end_kinds, host_kinds, id_kinds, is_below, key_kinds, link_id_kinds, list_kinds, point_kinds, text_kinds, texts_kinds, value_kinds}
+use Rattle.sg_tables.specs.Tables.{heading, key, keys_of}
 use Rattle.sg_tables.specs.declared.tables.Key.{Key}
 use Rattle.sg_tables.specs.declared.tables.Need.TheVariants.{Required, Optional}
 use Rattle.sg_tables.specs.declared.tables.Rule.TheVariants.{Text, Texts}
 use Rattle.sg_tables.specs.declared.tables.TextRule.{TextRule}
 use Rattle.sg_tables.specs.declared.tables.TextsRule.{TextsRule}
 use Rattle.sg_tables.specs.declared.tables.Table.{Table}
-use Rattle.sg_tables.specs.declared.tables.Word.{Word}
 use Rattle.sg_tree.proofs.Kept.{all_kept, empty_at, empty_left, empty_right}
 use Rattle.sg_tree.specs.Along.{along}
 use Rattle.sg_tree.specs.Faults.{kind_if, of_type}
@@ -25,7 +24,7 @@ use Rattle.sg_tree.specs.NameSpaces.{Finds}
 use Rattle.sg_tree.specs.Spelling.{is_name, is_name_byte}
 use Rattle.sg_tree.specs.Tree.{items_or_none, list_of, rows_at, text_at}
 use Rattle.sg_tree.specs.declared.fault.Kind.{Kind}
-use Rattle.sg_tree.specs.declared.fault.Kind.TheVariants.{BadValue}
+use Rattle.sg_tree.specs.declared.fault.Kind.TheVariants.{BadValue, Unknown}
 use Rattle.toml.specs.Data.{Data, Items, Members, get, get_member, as_array, as_str}
 
 -- a rule that gives no kind is kept
@@ -38,17 +37,17 @@ not_false true e = refl
 not_false false e = sym e
 
 -- no more rows than the limit
-pub rows_few : (names : Known) (tree : Members) (t : ℕ) (table : Table) → table_faults names tree t table ≡ [] → length (rows_at (table_text table) tree) ≤ row_limit table
+pub rows_few : (names : Known) (tree : Members) (t : ℕ) (table : Table) → table_faults names tree t table ≡ [] → length (rows_at (heading table).name tree) ≤ (heading table).limit
 unfolding table_faults rows_at
 rows_few names tree t table empty =
-    let none = empty_at _ _ _ (table_kinds table (get_member (table_text table) tree)) (empty_left _ _ empty) in
-    few_rows table (get_member (table_text table) tree) (rw none)
+    let none = empty_at _ _ _ (table_kinds table (get_member (heading table).name tree)) (empty_left _ _ empty) in
+    few_rows table (get_member (heading table).name tree) (rw none)
 
 -- no key of a row has a fault
-abbrev pub KeysKept : Known → ℕ → Data → List Key → Type 0
+abbrev pub KeysKept : Known → ℕ → Data → List (Key (List ℕ)) → Type 0
 KeysKept names number row keys = AllByRecursion (λ k. key_kinds names number row k ≡ []) keys
 
-keys_kept : (names : Known) (number t r : ℕ) (row : Data) (i : ℕ) (keys : List Key) → along (key_faults names number t r row) i keys ≡ [] → KeysKept names number row keys
+keys_kept : (names : Known) (number t r : ℕ) (row : Data) (i : ℕ) (keys : List (Key (List ℕ))) → along (key_faults names number t r row) i keys ≡ [] → KeysKept names number row keys
 keys_kept names number t r row i [] empty = tt
 keys_kept names number t r row i (k ∷ ks) empty =
     let here = key_faults names number t r row i k in
@@ -57,12 +56,12 @@ keys_kept names number t r row i (k ∷ ks) empty =
 
 -- what follows for a row whose keys have no fault holds of each row
 pub rows_kept : (names : Known) (tree : Members) (t : ℕ) (table : Table) (P : Data → Type 0) → ((number : ℕ) (row : Data) → KeysKept names number row (keys_of table) → P row)
-    → table_faults names tree t table ≡ [] → All P (rows_at (table_text table) tree)
+    → table_faults names tree t table ≡ [] → All P (rows_at (heading table).name tree)
 unfolding table_faults row_faults
 rows_kept names tree t table P kept empty =
     all_kept P (row_faults_at names (keys_of table) (rows_before names table) t)
     (λ j row none. kept (rows_before names table + j) row (keys_kept names (rows_before names table + j) t (j + 1) row 0 (keys_of table) (empty_right _ _ none)))
-    0 (rows_at (table_text table) tree) (empty_right _ _ empty)
+    0 (rows_at (heading table).name tree) (empty_right _ _ empty)
 
 -- a text at a key that keeps its rule
 abbrev pub HasText : Known → ℕ → Data → TextRule → Option (List ℕ) → Type 0
@@ -72,29 +71,29 @@ typed_text : (names : Known) (number : ℕ) (row : Data) (rule : TextRule) (foun
 typed_text names number row rule None empty = cc
 typed_text names number row rule (Some text) empty = (text, refl, empty)
 
-pub required_at : (names : Known) (number : ℕ) (row : Data) (word : Word) (rule : TextRule) → (d : Option Data) → kinds_at names number row (key word Required (Text rule)) d ≡ []
+pub required_at : (names : Known) (number : ℕ) (row : Data) (k : List ℕ) (rule : TextRule) → (d : Option Data) → kinds_at names number row (key k Required (Text rule)) d ≡ []
     → HasText names number row rule (option_and_then as_str d)
 unfolding value_kinds
-required_at names number row word rule None empty = cc
-required_at names number row word rule (Some d) empty = typed_text names number row rule (as_str d) empty
+required_at names number row k rule None empty = cc
+required_at names number row k rule (Some d) empty = typed_text names number row rule (as_str d) empty
 
 -- a required text is there, and keeps its rule
-pub required_text : (names : Known) (number : ℕ) (row : Data) (word : Word) (rule : TextRule) → key_kinds names number row (key word Required (Text rule)) ≡ []
-    → HasText names number row rule (text_at (word_text word) row)
+pub required_text : (names : Known) (number : ℕ) (row : Data) (k : List ℕ) (rule : TextRule) → key_kinds names number row (key k Required (Text rule)) ≡ []
+    → HasText names number row rule (text_at k row)
 unfolding key_kinds
-required_text names number row word rule empty = required_at names number row word rule (get (word_text word) row) empty
+required_text names number row k rule empty = required_at names number row k rule (get k row) empty
 
-optional_at : (names : Known) (number : ℕ) (row : Data) (word : Word) (rule : TextRule) → (d : Option Data) → kinds_at names number row (key word Optional (Text rule)) d ≡ []
+optional_at : (names : Known) (number : ℕ) (row : Data) (k : List ℕ) (rule : TextRule) → (d : Option Data) → kinds_at names number row (key k Optional (Text rule)) d ≡ []
     → (text : List ℕ) → option_and_then as_str d ≡ Some text → text_kinds names number row rule text ≡ []
 unfolding value_kinds
-optional_at names number row word rule None empty text there = cc
-optional_at names number row word rule (Some d) empty text there = rw there at empty
+optional_at names number row k rule None empty text there = cc
+optional_at names number row k rule (Some d) empty text there = rw there at empty
 
 -- an optional text, if it is there, keeps its rule
-pub optional_text : (names : Known) (number : ℕ) (row : Data) (word : Word) (rule : TextRule) → key_kinds names number row (key word Optional (Text rule)) ≡ []
-    → (text : List ℕ) → text_at (word_text word) row ≡ Some text → text_kinds names number row rule text ≡ []
+pub optional_text : (names : Known) (number : ℕ) (row : Data) (k : List ℕ) (rule : TextRule) → key_kinds names number row (key k Optional (Text rule)) ≡ []
+    → (text : List ℕ) → text_at k row ≡ Some text → text_kinds names number row rule text ≡ []
 unfolding key_kinds
-optional_text names number row word rule empty text there = optional_at names number row word rule (get (word_text word) row) empty text there
+optional_text names number row k rule empty text there = optional_at names number row k rule (get k row) empty text there
 
 -- the items of a list that breaks no rule have its type, and keep its rule
 pub typed_list : (fits : Data → Bool) (kinds : List Data → List Kind) (items : List Data) → list_kinds fits kinds items ≡ [] → kinds items ≡ []
@@ -108,17 +107,17 @@ typed_items : (names : Known) (row : Data) (rule : TextsRule) (found : Option It
 typed_items names row rule None empty = cc
 typed_items names row rule (Some items) empty = typed_list (λ d. is_some (as_str d)) (texts_kinds names row rule) (list_of items) empty
 
-items_there : (names : Known) (number : ℕ) (row : Data) (word : Word) (rule : TextsRule) → (d : Option Data) → kinds_at names number row (key word Required (Texts rule)) d ≡ []
+items_there : (names : Known) (number : ℕ) (row : Data) (k : List ℕ) (rule : TextsRule) → (d : Option Data) → kinds_at names number row (key k Required (Texts rule)) d ≡ []
     → texts_kinds names row rule (items_or_none (option_and_then as_array d)) ≡ []
 unfolding value_kinds
-items_there names number row word rule None empty = cc
-items_there names number row word rule (Some d) empty = typed_items names row rule (as_array d) empty
+items_there names number row k rule None empty = cc
+items_there names number row k rule (Some d) empty = typed_items names row rule (as_array d) empty
 
 -- the items of a required array keep its rule
-pub required_items : (names : Known) (number : ℕ) (row : Data) (word : Word) (rule : TextsRule) → key_kinds names number row (key word Required (Texts rule)) ≡ []
-    → texts_kinds names row rule (items_at (word_text word) row) ≡ []
+pub required_items : (names : Known) (number : ℕ) (row : Data) (k : List ℕ) (rule : TextsRule) → key_kinds names number row (key k Required (Texts rule)) ≡ []
+    → texts_kinds names row rule (items_at k row) ≡ []
 unfolding key_kinds
-required_items names number row word rule empty = items_there names number row word rule (get (word_text word) row) empty
+required_items names number row k rule empty = items_there names number row k rule (get k row) empty
 
 -- a new name has at most 64 bytes
 pub name_short : (numbers : Finds) (number : ℕ) (name : List ℕ) → id_kinds numbers number name ≡ [] → length name ≤ 64
@@ -128,12 +127,11 @@ name_short numbers number name empty = short (length name) (list_all is_name_byt
     short : (n : ℕ) (b : Bool) → (not (n == 0) && nat_le n 64) && b ≡ true → n ≤ 64
     short n b named = grind (arith, nat_tests)
 
-zone_found : (names : Known) (found : Option ℕ) → is_zone names found ≡ true → (n : ℕ) × (found ≡ Some n) × (n < names.zones)
+zone_found : (names : Known) (found : Option ℕ) → is_below found names.zones ≡ true → (n : ℕ) × (found ≡ Some n) × (n < names.zones)
 zone_found names None within = cc
 zone_found names (Some n) within = (n, refl, (let high : n < names.zones = grind (arith, nat_tests) in high))
 
-pub zone_there : (names : Known) (name : List ℕ) → zone_kinds names name ≡ [] → (n : ℕ) × (names.points name ≡ Some n) × (n < names.zones)
-unfolding zone_kinds
+pub zone_there : (names : Known) (name : List ℕ) → kind_if (not (is_below (names.points name) names.zones)) Unknown ≡ [] → (n : ℕ) × (names.points name ≡ Some n) × (n < names.zones)
 zone_there names name empty = zone_found names (names.points name) (not_false _ (unbroken _ _ empty))
 
 -- a number within bounds

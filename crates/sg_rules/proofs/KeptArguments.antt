@@ -15,12 +15,12 @@ use Rattle.sg_rules.proofs.Repeats.{distinct}
 use Rattle.sg_tree.specs.Workers.{has_function, worker_names}
 use Rattle.sg_rules.specs.Arguments.{are_workers, argument_kinds, has_repeat, are_for_master, text_of}
 use Rattle.sg_tree.specs.Names.{Known, known_by}
-use Rattle.sg_rules.specs.Rules.{key_kinds, kinds_at, list_kinds, texts_kinds, value_kinds}
+use Rattle.sg_rules.proofs.FaultParts.{kinds_at}
+use Rattle.sg_rules.specs.Rules.{key_kinds, list_kinds, texts_kinds, value_kinds}
 use Rattle.sg_tables.specs.Tables.{key}
 use Rattle.sg_tables.specs.declared.tables.Need.TheVariants.{Optional}
 use Rattle.sg_tables.specs.declared.tables.Rule.TheVariants.{Texts}
 use Rattle.sg_tables.specs.declared.tables.TextsRule.TheVariants.{ArgumentList}
-use Rattle.sg_tables.specs.declared.tables.Word.TheVariants.{Argument}
 use Rattle.sg_tree.proofs.NameSpaceLemmas.{lookup_append}
 use Rattle.sg_tree.specs.Faults.{of_type}
 use Rattle.sg_tree.specs.NameSpaces.{Finds, found_in, numbered, or_else, with_number}
@@ -32,14 +32,14 @@ typed_arguments : (names : Known) (row : Data) (found : Option Items) → of_typ
 typed_arguments names row None empty = cc
 typed_arguments names row (Some items) empty = typed_list (λ d. is_some (as_str d)) (texts_kinds names row ArgumentList) (list_of items) empty
 
-arguments_at : (names : Known) (number : ℕ) (row : Data) (d : Option Data) → kinds_at names number row (key Argument Optional (Texts ArgumentList)) d ≡ []
+arguments_at : (names : Known) (number : ℕ) (row : Data) (d : Option Data) → kinds_at names number row (key (codes "argument") Optional (Texts ArgumentList)) d ≡ []
     → argument_kinds names.workers row (items_or_none (option_and_then as_array d)) ≡ []
 unfolding value_kinds
 arguments_at names number row None empty = empty
 arguments_at names number row (Some d) empty = typed_arguments names row (as_array d) empty
 
 -- the arguments of a row fit, even if they are left out
-pub arguments_fit : (names : Known) (number : ℕ) (row : Data) → key_kinds names number row (key Argument Optional (Texts ArgumentList)) ≡ []
+pub arguments_fit : (names : Known) (number : ℕ) (row : Data) → key_kinds names number row (key (codes "argument") Optional (Texts ArgumentList)) ≡ []
     → argument_kinds names.workers row (items_or_none (option_and_then as_array (get (codes "argument") row))) ≡ []
 unfolding key_kinds
 arguments_fit names number row empty = arguments_at names number row (get (codes "argument") row) empty

@@ -4,9 +4,9 @@ use Rattle.std.specs.List.{list_any}
 use Rattle.std.proofs.lemmas.Bool.{le-leb}
 use Rattle.sg_tree.specs.Names.{Known}
 use Rattle.sg_tree.specs.Pairs.{pairs_between, pairs_of, truth_at}
-use Rattle.sg_rules.proofs.FaultParts.{key_faults}
+use Rattle.sg_rules.proofs.FaultParts.{key_faults, kinds_at}
 use Rattle.sg_rules.specs.Plain.{IsPointAt, KeepsRules, Links, Serves}
-use Rattle.sg_rules.specs.Rules.{is_pair_taken, is_taken, key_kinds, kinds_at, point_kinds, value_kinds}
+use Rattle.sg_rules.specs.Rules.{is_pair_taken, is_below, key_kinds, point_kinds, value_kinds}
 use Rattle.sg_tables.specs.Tables.{key, keys_of}
 use Rattle.sg_tables.specs.declared.tables.Key.{Key}
 use Rattle.sg_tables.specs.declared.tables.Need.TheVariants.{Required, Optional}
@@ -14,7 +14,6 @@ use Rattle.sg_tables.specs.declared.tables.Rule.TheVariants.{Text, Truth, Texts}
 use Rattle.sg_tables.specs.declared.tables.Table.TheVariants.{Route}
 use Rattle.sg_tables.specs.declared.tables.TextRule.TheVariants.{PointName, RouteEnd}
 use Rattle.sg_tables.specs.declared.tables.TextsRule.TheVariants.{LinkList}
-use Rattle.sg_tables.specs.declared.tables.Word.TheVariants as word
 use Rattle.sg_tree.proofs.Along.{first_append_none, first_at_none}
 use Rattle.sg_tree.specs.Along.{first}
 use Rattle.sg_tree.specs.Faults.{kind_if, of_type}
@@ -23,17 +22,17 @@ use Rattle.sg_tree.specs.declared.fault.Kind.TheVariants.{Duplicate}
 use Rattle.toml.specs.Data.{Data, as_bool, as_str, get}
 
 -- ---- the four keys
-abbrev src_key : Key
-src_key = key word.Src Required (Text PointName)
+abbrev src_key : Key (List ℕ)
+src_key = key (codes "src") Required (Text PointName)
 
-abbrev dst_key : Key
-dst_key = key word.Dst Required (Text RouteEnd)
+abbrev dst_key : Key (List ℕ)
+dst_key = key (codes "dst") Required (Text RouteEnd)
 
-abbrev links_key : Key
-links_key = key word.Links Required (Texts LinkList)
+abbrev links_key : Key (List ℕ)
+links_key = key (codes "links") Required (Texts LinkList)
 
-abbrev symmetrical_key : Key
-symmetrical_key = key word.Symmetrical Optional Truth
+abbrev symmetrical_key : Key (List ℕ)
+symmetrical_key = key (codes "symmetrical") Optional Truth
 
 -- ---- both ends
 named : (names : Known) (n : ℕ) (text : List ℕ) → names.points text ≡ Some n → names.zones ≤ n → first (point_kinds names text) ≡ None
@@ -70,7 +69,7 @@ dst_none names number row n free at = dst_at names number row n (get (codes "dst
 
 -- the pair of the two ends, and that of the reverse route
 untaken : (names : Known) (number : ℕ) (row : Data) (a b : ℕ) (both : Bool) → option_and_then names.points (text_at (codes "src") row) ≡ Some a → option_and_then names.points (text_at (codes "dst") row) ≡ Some b → truth_at (codes "symmetrical") row ≡ both
-    → list_any (λ p. is_taken (names.pairs p) number) (pairs_between (Some a) (Some b) both) ≡ false → is_pair_taken names.pairs names.points number row ≡ false
+    → list_any (λ p. is_below (names.pairs p) number) (pairs_between (Some a) (Some b) both) ≡ false → is_pair_taken names.pairs names.points number row ≡ false
 unfolding is_pair_taken pairs_of
 untaken names number row a b both src dst said none = rw (src, dst, said) none
 
@@ -94,7 +93,7 @@ first_of_four a b c d p q r s =
     first_append_none a (b ++ (c ++ (d ++ []))) p ∙ (first_append_none b (c ++ (d ++ [])) q ∙ (first_append_none c (d ++ []) r ∙ first_append_none d [] s))
 
 pub plain_route : (names : Known) (number : ℕ) (row : Data) (a b : ℕ) (both : Bool) → IsPointAt names (codes "src") row a → IsPointAt names (codes "dst") row b → Serves row both
-    → list_any (λ p. is_taken (names.pairs p) number) (pairs_between (Some a) (Some b) both) ≡ false → Links names row → KeepsRules names (keys_of Route) number row
+    → list_any (λ p. is_below (names.pairs p) number) (pairs_between (Some a) (Some b) both) ≡ false → Links names row → KeepsRules names (keys_of Route) number row
 plain_route names number row a b both src dst serves none links =
     let free = untaken names number row a b both src.found dst.found serves.said none in
     record {

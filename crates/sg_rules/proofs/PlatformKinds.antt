@@ -2,14 +2,14 @@
 use Rattle.std.proofs.Common.{ℕ, ◌+◌, ◌≤◌, Bool, true, false, cond, List, [], ◌∷◌, ◌++◌, Option, Some, None, is_none, is_some, arith}
 use Rattle.std.specs.List.{list_all}
 use Rattle.sg_rules.proofs.Rising.{Each, each_append}
-use Rattle.sg_rules.proofs.FaultParts.{key_faults, row_faults_at, row_kinds, top_kinds}
+use Rattle.sg_rules.proofs.FaultParts.{key_faults, kinds_at, row_faults_at, row_kinds, top_kinds}
 use Rattle.sg_rules.specs.Faults.{faults_of, row_faults, rows_before, table_faults, table_kinds}
 use Rattle.sg_tree.specs.Names.{Known}
 use Rattle.sg_rules.specs.PlatformKinds.{IsPlatformFault, PlatformKinds}
 use Rattle.sg_rules.specs.Power.{powers_in}
 use Rattle.sg_rules.specs.Profiles.{dates_kinds, each_date_kinds}
-use Rattle.sg_rules.specs.Rules.{default_kinds, end_kinds, host_kinds, id_kinds, key_kinds, kinds_at, link_id_kinds, link_list_kinds, point_kinds, profiled_link_kinds, text_kinds, texts_kinds, value_kinds, word_kinds, zone_kinds}
-use Rattle.sg_tables.specs.Tables.{keys_of, platform_tables, table_text}
+use Rattle.sg_rules.specs.Rules.{default_kinds, end_kinds, host_kinds, id_kinds, key_kinds, link_id_kinds, link_list_kinds, point_kinds, profiled_link_kinds, text_kinds, texts_kinds, value_kinds, word_kinds}
+use Rattle.sg_tables.specs.Tables.{heading, keys_of, platform_tables}
 use Rattle.sg_tables.specs.declared.tables.Key.{Key}
 use Rattle.sg_tables.specs.declared.tables.Rule.{Rule}
 use Rattle.sg_tables.specs.declared.tables.Rule.TheVariants as rule
@@ -53,7 +53,7 @@ IsPlatformRule (rule.Texts texts.ArgumentList) = ⊥
 IsPlatformRule _ = Unit {0}
 
 text_small : (names : Known) (number : ℕ) (row : Data) (r : TextRule) (t : List ℕ) → IsPlatformRule (rule.Text r) → AreSmall (text_kinds names number row r t)
-unfolding end_kinds host_kinds id_kinds link_id_kinds point_kinds profiled_link_kinds word_kinds zone_kinds
+unfolding end_kinds host_kinds id_kinds link_id_kinds point_kinds profiled_link_kinds word_kinds
 text_small names number row text.NewPoint t h = two _ _ BadName Duplicate (omega arith) (omega arith)
 text_small names number row text.NewLink t h = two _ _ BadName Duplicate (omega arith) (omega arith)
 text_small names number row text.NewActor t h = two _ _ BadName Duplicate (omega arith) (omega arith)
@@ -100,7 +100,7 @@ default_small : (names : Known) (row : Data) (r : Rule) → IsPlatformRule r →
 default_small names row (rule.Texts texts.ArgumentList) h = absurd h
 default_small names row _ h = tt
 
-key_small : (names : Known) (number : ℕ) (row : Data) (k : Key) (o : Option Data) → IsPlatformRule k.rule → AreSmall (kinds_at names number row k o)
+key_small : (names : Known) (number : ℕ) (row : Data) (k : Key (List ℕ)) (o : Option Data) → IsPlatformRule k.rule → AreSmall (kinds_at names number row k o)
 key_small names number row k None h = missing_or _ (default_kinds names row k.rule) (default_small names row k.rule h)
   where
     missing_or : (b : Bool) (kinds : List Kind) → AreSmall kinds → AreSmall (cond b (MissingKey ∷ []) kinds)
@@ -118,10 +118,10 @@ along_small : {A : Type 0} (Q : A → Type 0) (f : ℕ → A → List Fault) →
 along_small Q f here i [] h = tt
 along_small Q f here i (x ∷ xs) h = each_append IsPlatformFault (f i x) (along f (i + 1) xs) (here i x h.0) (along_small Q f here (i + 1) xs h.1)
 
-abbrev IsPlatformKey : Key → Type 0
+abbrev IsPlatformKey : Key (List ℕ) → Type 0
 IsPlatformKey k = IsPlatformRule k.rule
 
-row_small : (names : Known) (keys : List Key) (number t r : ℕ) (row : Data) → Each IsPlatformKey keys → Each IsPlatformFault (row_faults names keys number t r row)
+row_small : (names : Known) (keys : List (Key (List ℕ))) (number t r : ℕ) (row : Data) → Each IsPlatformKey keys → Each IsPlatformFault (row_faults names keys number t r row)
 unfolding row_faults key_kinds
 row_small names keys number t r row h =
     let f = key_faults names number t r row in
@@ -145,8 +145,8 @@ table_small : (names : Known) (tree : Members) (t : ℕ) (table : Table) → IsP
 unfolding table_faults
 table_small names tree t table h =
     let f = row_faults_at names (keys_of table) (rows_before names table) t in
-    let rows = rows_at (table_text table) tree in
-    each_append IsPlatformFault (at_place t 0 0 (table_kinds table (get_member (table_text table) tree))) (along f 0 rows)
+    let rows = rows_at (heading table).name tree in
+    each_append IsPlatformFault (at_place t 0 0 (table_kinds table (get_member (heading table).name tree))) (along f 0 rows)
     (place_small t 0 0 _ (head_small table _))
     (along_small (λ row. Unit {0}) f (λ i row p. row_small names (keys_of table) (rows_before names table + i) t (i + 1) row h) 0 rows (each_unit rows))
 

@@ -2,14 +2,14 @@
 use Rattle.std.proofs.Common.{◌≡◌, ℕ, ◌+◌, ◌<◌, ◌≤◌, Bool, true, false, cond, List, [], ◌∷◌, ◌++◌, Option, Some, None, is_none, is_some, refl, sym, ◌∙◌, inl, inr, arith}
 use Rattle.std.specs.List.{AllByRecursion, list_all}
 use Rattle.sg_rules.specs.Arguments.{argument_kinds}
-use Rattle.sg_rules.proofs.FaultParts.{key_faults, row_faults_at, row_kinds, top_kinds}
+use Rattle.sg_rules.proofs.FaultParts.{key_faults, kinds_at, row_faults_at, row_kinds, top_kinds}
 use Rattle.sg_rules.specs.Faults.{faults_of, row_faults, rows_before, table_faults, table_kinds}
 use Rattle.sg_tree.specs.Names.{Known}
 use Rattle.sg_rules.specs.Rising.{FaultsRise, IsBefore, IsRising}
 use Rattle.sg_rules.specs.Power.{powers_in}
 use Rattle.sg_rules.specs.Profiles.{dates_kinds, each_date_kinds}
-use Rattle.sg_rules.specs.Rules.{default_kinds, end_kinds, host_kinds, id_kinds, key_kinds, kinds_at, link_id_kinds, link_list_kinds, point_kinds, profiled_link_kinds, text_kinds, texts_kinds, value_kinds, word_kinds, zone_kinds}
-use Rattle.sg_tables.specs.Tables.{deployment_tables, keys_of, platform_tables, table_text}
+use Rattle.sg_rules.specs.Rules.{default_kinds, end_kinds, host_kinds, id_kinds, key_kinds, link_id_kinds, link_list_kinds, point_kinds, profiled_link_kinds, text_kinds, texts_kinds, value_kinds, word_kinds}
+use Rattle.sg_tables.specs.Tables.{deployment_tables, heading, keys_of, platform_tables}
 use Rattle.sg_tables.specs.declared.tables.Key.{Key}
 use Rattle.sg_tables.specs.declared.tables.Rule.{Rule}
 use Rattle.sg_tables.specs.declared.tables.Rule.TheVariants as rule
@@ -71,7 +71,7 @@ typed kinds None h = (tt, tt)
 typed kinds (Some x) h = h x
 
 text_rise : (names : Known) (number : ℕ) (row : Data) (r : TextRule) (t : List ℕ) → KindsRise (text_kinds names number row r t)
-unfolding end_kinds host_kinds id_kinds link_id_kinds point_kinds profiled_link_kinds word_kinds zone_kinds
+unfolding end_kinds host_kinds id_kinds link_id_kinds point_kinds profiled_link_kinds word_kinds
 text_rise names number row text.NewPoint t = two _ _ BadName Duplicate (omega arith)
 text_rise names number row text.NewLink t = two _ _ BadName Duplicate (omega arith)
 text_rise names number row text.NewActor t = two _ _ BadName Duplicate (omega arith)
@@ -119,7 +119,7 @@ unfolding argument_kinds
 default_rise names row (rule.Texts texts.ArgumentList) = one _ Arguments
 default_rise names row _ = tt
 
-key_rise : (names : Known) (number : ℕ) (row : Data) (k : Key) (o : Option Data) → KindsRise (kinds_at names number row k o)
+key_rise : (names : Known) (number : ℕ) (row : Data) (k : Key (List ℕ)) (o : Option Data) → KindsRise (kinds_at names number row k o)
 key_rise names number row k None = missing_or _ (default_kinds names row k.rule) (default_rise names row k.rule)
   where
     missing_or : (b : Bool) (kinds : List Kind) → KindsRise kinds → KindsRise (cond b (MissingKey ∷ []) kinds)
@@ -162,7 +162,7 @@ rising_along level Same f rise here cross i (x ∷ xs) =
 abbrev IsInRow : ℕ → ℕ → Fault → Type 0
 IsInRow t r f = (f.place.table ≡ t) × (f.place.row ≡ r)
 
-row_rise : (names : Known) (keys : List Key) (number t r : ℕ) (row : Data) → IsRising (row_faults names keys number t r row) × Each (IsInRow t r) (row_faults names keys number t r row)
+row_rise : (names : Known) (keys : List (Key (List ℕ))) (number t r : ℕ) (row : Data) → IsRising (row_faults names keys number t r row) × Each (IsInRow t r) (row_faults names keys number t r row)
 unfolding row_faults key_kinds
 row_rise names keys number t r row =
     let f = key_faults names number t r row in
@@ -189,8 +189,8 @@ table_rise : (names : Known) (tree : Members) (t : ℕ) (table : Table) → IsRi
 unfolding table_faults
 table_rise names tree t table =
     let f = row_faults_at names (keys_of table) (rows_before names table) t in
-    let rows = rows_at (table_text table) tree in
-    let head = at_place t 0 0 (table_kinds table (get_member (table_text table) tree)) in
+    let rows = rows_at (heading table).name tree in
+    let head = at_place t 0 0 (table_kinds table (get_member (heading table).name tree)) in
     let rest = rising_along (λ g. g.place.row) (IsInTable t) f
     (λ i row. (row_rise names (keys_of table) (rows_before names table + i) t (i + 1) row).0)
     (λ i row. each_mono (IsInRow t (i + 1)) (λ g. (g.place.row ≡ i + 1) × IsInTable t g) (λ g p. (p.1, p.0)) _ (row_rise names (keys_of table) (rows_before names table + i) t (i + 1) row).1)

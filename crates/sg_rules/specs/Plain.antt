@@ -10,7 +10,7 @@ use Rattle.sg_tree.specs.Tree.{list_of, text_at}
 use Rattle.toml.specs.Data.{Data, as_array, as_bool, as_str, get}
 
 -- no key of the row breaks a rule
-pub record KeepsRules (names : Known) (keys : List Key) (number : ℕ) (row : Data) : Type 0 where
+pub record KeepsRules (names : Known) (keys : List (Key (List ℕ))) (number : ℕ) (row : Data) : Type 0 where
   pub none : (t r : ℕ) → first (along (λ i key. at_place t r (i + 1) (key_kinds names number row key)) 0 keys) ≡ None
 
 -- the key has the name of the point of this number

@@ -25,14 +25,10 @@ items_at key row = items_or_none (option_and_then as_array (get key row))
 abbrev pub amount_in : Quantity → Data → Option ℕ
 amount_in quantity item = quantity_value quantity (text_of item)
 
--- the state that a text gives: whether it is on
-abbrev pub state_of_text : List ℕ → Option Bool
-state_of_text text =
-    if bytes_eq text (codes "on") then Some true else if bytes_eq text (codes "off") then Some false else None
-
--- the state that an item gives
+-- the state that an item gives: whether it is on
 abbrev pub state_in : Data → Option Bool
-state_in item = state_of_text (text_of item)
+state_in item = if bytes_eq (text_of item) (codes "on") then Some true
+    else if bytes_eq (text_of item) (codes "off") then Some false else None
 
 -- one date or more, and each is later than the one before
 abbrev pub are_rising : List (Option ℕ) → Bool

@@ -9,6 +9,7 @@ ghost use Rattle.sg_tree.specs.declared.fault.Kind.TheVariants as kind;
 ghost use Rattle.sg_tree.specs.kept.NamesView.{names_view};
 ghost use Rattle.sg_tree.specs.Pairs.{pairs_of};
 ghost use Rattle.sg_tables.specs.Units.{whole_value};
+ghost use Rattle.sg_tables.specs.kept.Shown.{key_of, need_of};
 ghost use Rattle.sg_tables.specs.declared.tables.TextRule.TheVariants as rule;
 ghost use Rattle.sg_tree.specs.NameSpaces.{pair_eq};
 ghost use Rattle.sg_tree.specs.Spelling.{is_name, is_name_byte, split_names};
@@ -16,7 +17,7 @@ ghost use Rattle.sg_tree.specs.Tree.{text_at};
 ghost use Rattle.toml.specs.Data.{as_integer, as_str};
 ghost use Rattle.sg_rules.specs.Arguments.{text_of};
 ghost use Rattle.sg_rules.specs.Power.{powers_in};
-ghost use Rattle.sg_rules.specs.Rules.{default_kinds, end_kinds, host_kinds, id_kinds, is_pair_taken, is_required, is_taken, is_zone, key_kinds, link_id_kinds, link_list_kinds, list_kinds, point_kinds, profiled_link_kinds, text_kinds, texts_kinds, value_kinds, word_kinds, zone_kinds};
+ghost use Rattle.sg_rules.specs.Rules.{default_kinds, end_kinds, host_kinds, id_kinds, is_pair_taken, is_required, is_below, key_kinds, link_id_kinds, link_list_kinds, list_kinds, point_kinds, profiled_link_kinds, text_kinds, texts_kinds, value_kinds, word_kinds};
 ghost use Rattle.toml.specs.View.{view};
 
 use crate::arguments::{argument_fault, text_of};
@@ -53,7 +54,7 @@ fn is_name(text: &[u8]) -> bool
 
 /// Returns whether an earlier row than this has the name.
 fn is_given(space: &IndexMap<String, u32>, number: usize, name: &str) -> bool
-    ensures { result ≡ is_taken (get_by_text space.now name.now) number }
+    ensures { result ≡ is_below (get_by_text space.now name.now) number }
 {
     match space.get(name) {
         Some(first) => (*first as usize) < number,
@@ -77,7 +78,7 @@ fn id_fault(space: &IndexMap<String, u32>, number: usize, name: &str) -> Option<
 /// Returns whether an earlier row than this has the name with an end.
 fn is_end_given(space: &IndexMap<String, u32>, number: usize, name: &str, end: &str) -> bool
     requires { length name.now + length end.now ≤ 64 }
-    ensures { result ≡ is_taken (get_by_text space.now (name.now ++ end.now)) number }
+    ensures { result ≡ is_below (get_by_text space.now (name.now ++ end.now)) number }
 {
     let mut text = ArrayString::<64>::new();
     text.push_str(name);
@@ -89,7 +90,7 @@ fn is_end_given(space: &IndexMap<String, u32>, number: usize, name: &str, end: &
 fn is_split_given(space: &IndexMap<String, u32>, number: usize, id: &str) -> bool
     requires { length id.now ≤ 59 }
     ensures { result
-        ≡ list_any (λ name. is_taken (get_by_text space.now name) number) (split_names id.now) }
+        ≡ list_any (λ name. is_below (get_by_text space.now name) number) (split_names id.now) }
 {
     let up = is_end_given(space, number, id, "_UP");
     let down = is_end_given(space, number, id, "_DOWN");
@@ -124,9 +125,11 @@ fn link_id_fault(
     }
 }
 
-#[tactic(auto, unfolding(crate::specs::Rules::zone_kinds))]
 fn zone_fault(names: &Names, name: &str) -> Option<Kind>
-    ensures { result ≡ first (zone_kinds (names_view names.now) name.now) }
+    ensures { result
+        ≡ first (kind_if
+        (not (is_below ((names_view names.now).points name.now) names.now.zones))
+        kind.Unknown) }
 {
     match names.points.get(name) {
         Some(first) if *first < names.zones => None,
@@ -182,7 +185,7 @@ fn first_row(pairs: &IndexMap<(u32, u32), u32>, number: usize, pair: (u32, u32))
 
 /// Returns whether an earlier row than this gave the pair.
 pub fn is_given_pair(pairs: &IndexMap<(u32, u32), u32>, number: usize, pair: (u32, u32)) -> bool
-    ensures { result ≡ is_taken (get_by (pair_eq pair) pairs.now) number }
+    ensures { result ≡ is_below (get_by (pair_eq pair) pairs.now) number }
 {
     match first_row(pairs, number, pair) {
         Some(first) => (first as usize) < number,
@@ -240,7 +243,7 @@ fn zone_route_end_fault(names: &Names, number: usize, row: &Value, name: &str) -
 
 fn child_fault(names: &Names, number: usize, name: &str) -> Option<Kind>
     ensures { result
-        ≡ first (kind_if (is_taken (get_by_text names.now.children name.now) number) kind.Duplicate
+        ≡ first (kind_if (is_below (get_by_text names.now.children name.now) number) kind.Duplicate
         ++ end_kinds (names_view names.now) name.now) }
 {
     if is_given(&names.children, number, name) {
@@ -268,7 +271,7 @@ fn profiled_host_fault(
     name: &str,
 ) -> Option<Kind>
     ensures { result
-        ≡ first (kind_if (is_taken (get_by_text earlier.now name.now) number) kind.Duplicate
+        ≡ first (kind_if (is_below (get_by_text earlier.now name.now) number) kind.Duplicate
         ++ host_kinds (names_view names.now) name.now) }
 {
     if is_given(earlier, number, name) {
@@ -564,8 +567,8 @@ fn value_fault(
 /// Returns whether a key of the row is there and names a zone.
 fn names_zone(names: &Names, row: &Value, key: &str) -> bool
     ensures { result
-        ≡ is_zone (names_view names.now)
-        (option_and_then (names_view names.now).points (text_at key.now (view row.now))) }
+        ≡ is_below (option_and_then (names_view names.now).points (text_at key.now (view row.now)))
+        names.now.zones }
 {
     match point_at(&names.points, row, key) {
         Some(number) => number < names.zones,
@@ -573,14 +576,14 @@ fn names_zone(names: &Names, row: &Value, key: &str) -> bool
     }
 }
 
-fn is_required(names: &Names, row: &Value, need: Need) -> bool
-    ensures { result ≡ is_required (names_view names.now) (view row.now) need }
+fn is_required(names: &Names, row: &Value, need: Need<&'static str>) -> bool
+    ensures { result ≡ is_required (names_view names.now) (view row.now) (need_of need.entry) }
 {
     match need {
         Need::Required => true,
         Need::Optional => false,
-        Need::IfZone(word) => names_zone(names, row, word.text()),
-        Need::Unless(word) => row.get(word.text()).is_none(),
+        Need::IfZone(name) => names_zone(names, row, name),
+        Need::Unless(name) => row.get(name).is_none(),
     }
 }
 
@@ -608,12 +611,13 @@ pub fn key_fault(
     names: &Names,
     number: usize,
     row: &Value,
-    key: Key,
+    key: Key<&'static str>,
 ) -> Result<Option<Kind>, Memory>
     ensures { IfOk result
-        (λ fault. fault ≡ first (key_kinds (names_view names.now) number (view row.now) key)) }
+        (λ fault. fault
+        ≡ first (key_kinds (names_view names.now) number (view row.now) (key_of key.entry))) }
 {
-    match row.get(key.word.text()) {
+    match row.get(key.name) {
         None => if is_required(names, row, key.need) {
             Ok(Some(Kind::MissingKey))
         } else {

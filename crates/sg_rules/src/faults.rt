@@ -10,8 +10,9 @@ ghost use Rattle.sg_tree.specs.Along.{first, along};
 ghost use Rattle.sg_tree.specs.Faults.{at_place, kind_if, of_type};
 ghost use Rattle.sg_tree.specs.Tree.{has_only};
 ghost use Rattle.sg_tree.specs.declared.fault.Kind.TheVariants as kind;
-ghost use Rattle.sg_rules.specs.Rules.{key_kinds, key_text};
-ghost use Rattle.sg_tables.specs.Tables.{keys_of, row_limit, table_text};
+ghost use Rattle.sg_rules.specs.Rules.{key_kinds};
+ghost use Rattle.sg_tables.specs.Tables.{heading, keys_of};
+ghost use Rattle.sg_tables.specs.kept.Shown.{key_of};
 ghost use Rattle.sg_rules.specs.Faults.{row_faults, table_kinds, table_faults, rows_before, faults_of};
 
 use crate::checks::key_fault;
@@ -28,7 +29,7 @@ fn keys_fault(
     names: &Names,
     number: usize,
     place: Place,
-    keys: &[Key],
+    keys: &[Key<&'static str>],
     row: &Value,
 ) -> Result<Option<Fault>, Memory>
     requires { length keys.now < 100 }
@@ -37,7 +38,7 @@ fn keys_fault(
         ≡ first (along
         (λ i key. at_place place.table place.row (i + 1)
         (key_kinds (names_view names.now) number (view row.now) key)) 0
-        keys.now)) }
+        (map key_of keys.now))) }
 {
     for (i, key) in keys.iter().enumerate() {
         if let Some(kind) = key_fault(alloc, names, number, row, *key)? {
@@ -51,36 +52,41 @@ fn keys_fault(
     Ok(None)
 }
 
-fn is_key(keys: &[Key], name: &str) -> bool
-    ensures { result ≡ list_any (λ k. bytes_eq name.now k) (map key_text keys.now) }
+fn is_key(keys: &[Key<&'static str>], name: &str) -> bool
+    ensures { result
+        ≡ list_any (λ k. bytes_eq name.now k) (map (λ k. k.name) (map key_of keys.now)) }
 {
     for key in keys {
-        if name == key.word.text() {
+        if name == key.name {
             return true;
         }
     }
     false
 }
 
-fn are_keys(keys: &[Key], members: &toml::Table) -> bool
+fn are_keys(keys: &[Key<&'static str>], members: &toml::Table) -> bool
     ensures { result
-        ≡ list_all (λ k. list_any (λ t. bytes_eq (string_bytes k) t) (map key_text keys.now))
+        ≡ list_all
+        (λ k. list_any (λ t. bytes_eq (string_bytes k) t)
+        (map (λ k. k.name) (map key_of keys.now)))
         (map_keys members.now) }
 {
     members.keys().all(|name| is_key(keys, name.as_str()))
 }
 
-fn has_only(keys: &[Key], members: &toml::Table) -> bool
-    ensures { result ≡ has_only (map key_text keys.now) (table_view members.now) }
+fn has_only(keys: &[Key<&'static str>], members: &toml::Table) -> bool
+    ensures { result
+        ≡ has_only (map (λ k. k.name) (map key_of keys.now)) (table_view members.now) }
 {
     are_keys(keys, members)
 }
 
 /// Returns the first rule that a row breaks as a whole.
-fn whole_fault(keys: &[Key], row: &Value) -> Option<Kind>
+fn whole_fault(keys: &[Key<&'static str>], row: &Value) -> Option<Kind>
     ensures { result
         ≡ first (of_type
-        (λ members. kind_if (not (has_only (map key_text keys.now) members)) kind.Unknown)
+        (λ members. kind_if
+        (not (has_only (map (λ k. k.name) (map key_of keys.now)) members)) kind.Unknown)
         (as_table (view row.now))) }
 {
     match row.as_table() {
@@ -177,7 +183,7 @@ fn rows_fault(
 #[tactic(auto, using(sg_tree::proofs::TreeLemmas::length_of_items))]
 fn head_fault(tree: &toml::Table, table: Table) -> Option<Kind>
     ensures { result
-        ≡ first (table_kinds table (get_member (table_text table) (table_view tree.now))) }
+        ≡ first (table_kinds table (get_member (heading table).name (table_view tree.now))) }
 {
     match value_at(tree, table.text()) {
         None => None,
@@ -235,7 +241,8 @@ fn table_fault(
 }
 
 fn is_table(tables: &[Table], name: &str) -> bool
-    ensures { result ≡ list_any (λ k. bytes_eq name.now k) (map table_text tables.now) }
+    ensures { result
+        ≡ list_any (λ k. bytes_eq name.now k) (map (λ t. (heading t).name) tables.now) }
 {
     for table in tables {
         if name == table.text() {
@@ -247,14 +254,17 @@ fn is_table(tables: &[Table], name: &str) -> bool
 
 fn are_tables(tables: &[Table], members: &toml::Table) -> bool
     ensures { result
-        ≡ list_all (λ k. list_any (λ t. bytes_eq (string_bytes k) t) (map table_text tables.now))
+        ≡ list_all
+        (λ k. list_any (λ t. bytes_eq (string_bytes k) t)
+        (map (λ t. (heading t).name) tables.now))
         (map_keys members.now) }
 {
     members.keys().all(|name| is_table(tables, name.as_str()))
 }
 
 fn has_only_tables(tables: &[Table], members: &toml::Table) -> bool
-    ensures { result ≡ has_only (map table_text tables.now) (table_view members.now) }
+    ensures { result
+        ≡ has_only (map (λ t. (heading t).name) tables.now) (table_view members.now) }
 {
     are_tables(tables, members)
 }

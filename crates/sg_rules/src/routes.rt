@@ -5,7 +5,7 @@ ghost use Rattle.std.specs.List.{list_any};
 ghost use Rattle.sg_tree.specs.Pairs.{pairs_between};
 ghost use Rattle.sg_tree.specs.kept.NamesView.{names_view};
 ghost use Rattle.sg_rules.specs.Plain.{IsPointAt, KeepsRules, Links, Serves};
-ghost use Rattle.sg_rules.specs.Rules.{is_taken, key_kinds, link_list_kinds, list_kinds};
+ghost use Rattle.sg_rules.specs.Rules.{is_below, key_kinds, link_list_kinds, list_kinds};
 ghost use Rattle.sg_tables.specs.Tables.{keys_of};
 ghost use Rattle.sg_tables.specs.declared.tables.Table.TheVariants as table;
 ghost use Rattle.sg_tree.specs.Along.{first};
@@ -42,7 +42,7 @@ fn symmetry_of(row: &Value) -> Option<bool>
 /// Returns whether an earlier row than this gave one of the pairs of a route between two points.
 fn is_given_way(names: &Names, number: usize, src: u32, dst: u32, both: bool) -> bool
     ensures { result
-        ≡ list_any (λ p. is_taken (get_by (pair_eq p) names.now.pairs) number)
+        ≡ list_any (λ p. is_below (get_by (pair_eq p) names.now.pairs) number)
         (pairs_between (Some src) (Some dst) both) }
 {
     let there = is_given_pair(&names.pairs, number, (src, dst));
