@@ -19,12 +19,11 @@ use Rattle.sg_rules.specs.Arguments.{are_for_master, are_workers, text_of}
 use Rattle.sg_tree.specs.Names.{Known}
 use Rattle.sg_rules.specs.Rules.{key_kinds}
 use Rattle.sg_tables.specs.Tables.{key, keys_of}
+use Rattle.sg_tables.specs.declared.tables.Need.TheVariants.{Optional}
 use Rattle.sg_tables.specs.Units.{quantity_value}
 use Rattle.sg_tables.specs.declared.units.Quantity.TheVariants.{Amount}
-use Rattle.sg_tables.specs.declared.tables.Need.TheVariants.{Optional}
 use Rattle.sg_tables.specs.declared.tables.Rule.TheVariants.{Texts}
 use Rattle.sg_tables.specs.declared.tables.TextsRule.TheVariants.{ArgumentList}
-use Rattle.sg_tables.specs.declared.tables.Word.TheVariants.{Argument}
 use Rattle.sg_tables.specs.declared.tables.Table.TheVariants.{Actor}
 use Rattle.sg_tree.specs.NameSpaces.{Finds, found_in, numbered}
 use Rattle.toml.specs.Data.{Data}
@@ -73,7 +72,7 @@ master_kept names rows extent finds same few (tasks ∷ (flops ∷ (bytes ∷ it
     )
 
 pub function_kept : (names : Known) (rows : List Data) (extent : Extent) → FindsWorkers names rows → extent.actors ≡ length rows → length rows ≤ 65536 → (number : ℕ) (row : Data)
-    → key_kinds names number row (key Argument Optional (Texts ArgumentList)) ≡ [] → IsFunction extent (function_of names row)
+    → key_kinds names number row (key (codes "argument") Optional (Texts ArgumentList)) ≡ [] → IsFunction extent (function_of names row)
 unfolding function_of
 function_kept names rows extent finds same few number row kept =
     elim (cases_Bool (has_function (codes "master") row)) [

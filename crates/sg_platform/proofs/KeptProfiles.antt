@@ -10,7 +10,7 @@ use Rattle.std.specs.Prelude.{slice_index}
 use Rattle.std.specs.List.Sorted.{IsStrictlyIncreasing}
 use Rattle.sg_platform.proofs.KeptRows.{IsCounted, point_under}
 use Rattle.sg_platform.proofs.LinkLists.{and_left, and_right}
-use Rattle.sg_platform.specs.Build.{amounts_at, link_id, point_id, profile_row, state_profile_row, states_at}
+use Rattle.sg_platform.specs.Build.{amounts_at, link_id, point_id, profile_row, state_profile_row}
 use Rattle.sg_platform.specs.Functions.{amount_or_zero}
 use Rattle.sg_rows.specs.Platform.{Counts, HasDates, IsProfileRow, IsProfiled, IsStateProfileRow}
 use Rattle.sg_rows.specs.declared.rows.Profiled.{Profiled}
@@ -19,16 +19,16 @@ use Rattle.sg_tables.proofs.Greatest.{greatest, quantity_within}
 use Rattle.sg_rules.proofs.Kept.{KeysKept, host_there, not_false, optional_text, positive_there, required_at, required_items, some_there, unbroken}
 use Rattle.sg_tree.specs.Names.{Known}
 use Rattle.sg_rules.specs.Profiles.{amount_in, are_rising, dates_kinds, each_date_kinds, items_at, quantity_of, state_in}
-use Rattle.sg_rules.specs.Rules.{host_kinds, is_taken, key_kinds, kinds_at, profiled_link_kinds, text_kinds}
+use Rattle.sg_rules.proofs.FaultParts.{kinds_at}
+use Rattle.sg_rules.specs.Rules.{host_kinds, is_below, key_kinds, profiled_link_kinds, text_kinds}
 use Rattle.sg_tables.specs.Tables.{key, keys_of}
+use Rattle.sg_tables.specs.declared.tables.Need.TheVariants.{Required, Optional, Unless}
 use Rattle.sg_tables.specs.Units.{quantity_value}
-use Rattle.sg_tables.specs.declared.tables.Need.TheVariants.{Optional, Required, Unless}
 use Rattle.sg_tables.specs.declared.tables.Rule.TheVariants as rule
 use Rattle.sg_tables.specs.declared.tables.TextRule.{TextRule}
 use Rattle.sg_tables.specs.declared.tables.TextRule.TheVariants as text_rule
 use Rattle.sg_tables.specs.declared.tables.TextsRule.TheVariants as texts_rule
 use Rattle.sg_tables.specs.declared.tables.Table.TheVariants.{Profile, StateProfile}
-use Rattle.sg_tables.specs.declared.tables.Word.TheVariants as word
 use Rattle.sg_tables.specs.declared.units.Quantity.{Quantity}
 use Rattle.sg_tables.specs.declared.units.Quantity.TheVariants.{Time, Speed, Bandwidth}
 use Rattle.sg_tree.proofs.Kept.{empty_left, empty_right}
@@ -59,23 +59,23 @@ host_below names counts counted row name empty =
 
 -- These rules are those of what a profile is of, if its table has these hosts and links.
 record AreOfSubjects (names : Known) (number : ℕ) (row : Data) (earlier_hosts earlier_links : Finds) (host link : TextRule) : Type 0 where
-  hosts : (name : List ℕ) → text_kinds names number row host name ≡ kind_if (is_taken (earlier_hosts name) number) Duplicate ++ host_kinds names name
+  hosts : (name : List ℕ) → text_kinds names number row host name ≡ kind_if (is_below (earlier_hosts name) number) Duplicate ++ host_kinds names name
   links : (name : List ℕ) → text_kinds names number row link name ≡ profiled_link_kinds names earlier_links number row name
 
 profiled_kept : (names : Known) (counts : Counts) → IsCounted names counts → (number : ℕ) (row : Data) (earlier earlier_links : Finds) (hosts links : TextRule) → AreOfSubjects names number row earlier earlier_links hosts links
     → (host link : Option Data) → get (codes "link") row ≡ link
-    → kinds_at names number row (key word.Host (Unless word.Link) (rule.Text hosts)) host ≡ [] → kinds_at names number row (key word.Link Optional (rule.Text links)) link ≡ []
+    → kinds_at names number row (key (codes "host") (Unless (codes "link")) (rule.Text hosts)) host ≡ [] → kinds_at names number row (key (codes "link") Optional (rule.Text links)) link ≡ []
     → IsProfiled counts (subject_by names row (option_and_then as_str host))
 profiled_kept names counts counted number row earlier earlier_links hosts links rules (Some d) link link_is host_kept link_kept =
-    let host = required_at names number row word.Host hosts (Some d) host_kept in
+    let host = required_at names number row (codes "host") hosts (Some d) host_kept in
     rw host.1 (host_below names counts counted row host.0 (empty_right _ _ (sym (rules.hosts host.0) ∙ host.2)))
 profiled_kept names counts counted number row earlier earlier_links hosts links rules None None link_is host_kept link_kept = let missing = rw link_is at host_kept in cc
 profiled_kept names counts counted number row earlier earlier_links hosts links rules None (Some d) link_is host_kept link_kept =
-    let link = required_at names number row word.Link links (Some d) link_kept in
+    let link = required_at names number row (codes "link") links (Some d) link_kept in
     rw (link_is, link.1) (link_below names counts earlier_links counted number row link.0 (sym (rules.links link.0) ∙ link.2))
 
 of_kept : (names : Known) (counts : Counts) → IsCounted names counts → (number : ℕ) (row : Data) (earlier earlier_links : Finds) (hosts links : TextRule) → AreOfSubjects names number row earlier earlier_links hosts links
-    → key_kinds names number row (key word.Host (Unless word.Link) (rule.Text hosts)) ≡ [] → key_kinds names number row (key word.Link Optional (rule.Text links)) ≡ []
+    → key_kinds names number row (key (codes "host") (Unless (codes "link")) (rule.Text hosts)) ≡ [] → key_kinds names number row (key (codes "link") Optional (rule.Text links)) ≡ []
     → IsProfiled counts (subject_by names row (text_at (codes "host") row))
 unfolding key_kinds
 of_kept names counts counted number row earlier earlier_links hosts links rules host link = profiled_kept names counts counted number row earlier earlier_links hosts links rules (get (codes "host") row) (get (codes "link") row) refl host link
@@ -148,11 +148,11 @@ gap_kept (Some text) kept = let there = kept text refl in rw there.1 (there.2, q
 
 -- What tables of profiles share: a row with so many items, one for each date.
 turns_kept : (names : Known) (counts : Counts) (number : ℕ) (row : Data) (of : Profiled) (count : ℕ) → IsProfiled counts of → count ≡ length (items_at (codes "dates") row)
-    → key_kinds names number row (key word.Dates Required (rule.Texts texts_rule.DateList)) ≡ [] → key_kinds names number row (key word.Loop Optional (rule.Text (text_rule.PositiveValue Time))) ≡ []
+    → key_kinds names number row (key (codes "dates") Required (rule.Texts texts_rule.DateList)) ≡ [] → key_kinds names number row (key (codes "loop") Optional (rule.Text (text_rule.PositiveValue Time))) ≡ []
     → HasDates counts of (amounts_at Time (codes "dates") row) count (option_and_then (quantity_value Time) (text_at (codes "loop") row))
 turns_kept names counts number row of count exists each dates_fine loop_fine =
     let items = items_at (codes "dates") row in
-    let dates = dates_kept items (required_items names number row word.Dates texts_rule.DateList dates_fine) in
+    let dates = dates_kept items (required_items names number row (codes "dates") texts_rule.DateList dates_fine) in
     record {
       exists = exists;
       some = dates.some;
@@ -160,7 +160,7 @@ turns_kept names counts number row of count exists each dates_fine loop_fine =
       each = omega (arith, each, length-map items (amount_or_zero Time));
       rising = dates.rising;
       soon = amounts_within Time items;
-      wide = gap_kept (text_at (codes "loop") row) (λ text there. positive_there (quantity_value Time text) (optional_text names number row word.Loop (text_rule.PositiveValue Time) loop_fine text there));
+      wide = gap_kept (text_at (codes "loop") row) (λ text there. positive_there (quantity_value Time text) (optional_text names number row (codes "loop") (text_rule.PositiveValue Time) loop_fine text there));
     }
 
 pub profile_kept : (names : Known) (counts : Counts) → IsCounted names counts → (number : ℕ) (row : Data) → KeysKept names number row (keys_of Profile) → IsProfileRow counts (profile_row names row)
@@ -170,7 +170,7 @@ profile_kept names counts counted number row kept =
     let of = subject_by names row (text_at (codes "host") row) in
     let rules : AreOfSubjects names number row names.profiled_hosts names.profiled_links text_rule.ProfiledHost text_rule.ProfiledLink = record { hosts = λ name. refl; links = λ name. refl } in
     let exists = of_kept names counts counted number row names.profiled_hosts names.profiled_links text_rule.ProfiledHost text_rule.ProfiledLink rules kept.0 kept.1.0 in
-    let each = each_kept row values _ (required_items names number row word.Values texts_rule.ValueList kept.1.1.1.0) in
+    let each = each_kept row values _ (required_items names number row (codes "values") texts_rule.ValueList kept.1.1.1.0) in
     record {
       dates = turns_kept names counts number row of (length (amounts_at (quantity_of row) (codes "values") row)) exists (length-map values (amount_or_zero (quantity_of row)) ∙ each) kept.1.1.0 kept.1.1.1.1.0;
       values = rates_within row values;
@@ -184,5 +184,5 @@ state_profile_kept names counts counted number row kept =
     let of = subject_by names row (text_at (codes "host") row) in
     let rules : AreOfSubjects names number row names.switched_hosts names.switched_links text_rule.SwitchedHost text_rule.SwitchedLink = record { hosts = λ name. refl; links = λ name. refl } in
     let exists = of_kept names counts counted number row names.switched_hosts names.switched_links text_rule.SwitchedHost text_rule.SwitchedLink rules kept.0 kept.1.0 in
-    let each = each_kept row states _ (required_items names number row word.States texts_rule.StateList kept.1.1.1.0) in
-    turns_kept names counts number row of (length (states_at (codes "states") row)) exists (length-map states (λ item. unwrap_or (state_in item) false) ∙ each) kept.1.1.0 kept.1.1.1.1.0
+    let each = each_kept row states _ (required_items names number row (codes "states") texts_rule.StateList kept.1.1.1.0) in
+    turns_kept names counts number row of (length (map (λ item. unwrap_or (state_in item) false) states)) exists (length-map states (λ item. unwrap_or (state_in item) false) ∙ each) kept.1.1.0 kept.1.1.1.1.0

@@ -11,12 +11,12 @@ use Rattle.sg_rows.specs.Platform.{Counts, IsLinkList}
 use Rattle.sg_rules.proofs.Kept.{typed_list, unbroken}
 use Rattle.sg_rules.specs.Arguments.{text_of}
 use Rattle.sg_tree.specs.Names.{Known}
-use Rattle.sg_rules.specs.Rules.{key_kinds, kinds_at, link_list_kinds, list_kinds, texts_kinds, value_kinds}
-use Rattle.sg_tables.specs.Tables.{key, word_text}
+use Rattle.sg_rules.proofs.FaultParts.{kinds_at}
+use Rattle.sg_rules.specs.Rules.{key_kinds, link_list_kinds, list_kinds, texts_kinds, value_kinds}
+use Rattle.sg_tables.specs.Tables.{key}
 use Rattle.sg_tables.specs.declared.tables.Need.TheVariants.{Required}
 use Rattle.sg_tables.specs.declared.tables.Rule.TheVariants.{Texts}
 use Rattle.sg_tables.specs.declared.tables.TextsRule.TheVariants.{LinkList}
-use Rattle.sg_tables.specs.declared.tables.Word.{Word}
 use Rattle.sg_tree.proofs.Kept.{empty_left, empty_right}
 use Rattle.sg_tree.specs.Faults.{of_type}
 use Rattle.sg_tree.specs.Tree.{items_or_none, list_of}
@@ -83,13 +83,13 @@ pub value_link_list : (names : Known) (counts : Counts) → LinksBelow names cou
 unfolding value_kinds
 value_link_list names counts below number row d empty = typed_link_list names counts below row (as_array d) empty
 
-required_at : (names : Known) (counts : Counts) → LinksBelow names counts → (number : ℕ) (row : Data) (word : Word) (d : Option Data) → kinds_at names number row (key word Required (Texts LinkList)) d ≡ []
+required_at : (names : Known) (counts : Counts) → LinksBelow names counts → (number : ℕ) (row : Data) (k : List ℕ) (d : Option Data) → kinds_at names number row (key k Required (Texts LinkList)) d ≡ []
     → IsLinkList counts (map (link_of names) (items_or_none (option_and_then as_array d)))
-required_at names counts below number row word None empty = cc
-required_at names counts below number row word (Some d) empty = value_link_list names counts below number row d empty
+required_at names counts below number row k None empty = cc
+required_at names counts below number row k (Some d) empty = value_link_list names counts below number row d empty
 
 -- a required list
-pub required_links : (names : Known) (counts : Counts) → LinksBelow names counts → (number : ℕ) (row : Data) (word : Word) → key_kinds names number row (key word Required (Texts LinkList)) ≡ []
-    → IsLinkList counts (links_at names (word_text word) row)
+pub required_links : (names : Known) (counts : Counts) → LinksBelow names counts → (number : ℕ) (row : Data) (k : List ℕ) → key_kinds names number row (key k Required (Texts LinkList)) ≡ []
+    → IsLinkList counts (links_at names k row)
 unfolding key_kinds
-required_links names counts below number row word empty = required_at names counts below number row word (get (word_text word) row) empty
+required_links names counts below number row k empty = required_at names counts below number row k (get k row) empty

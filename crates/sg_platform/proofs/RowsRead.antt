@@ -1,9 +1,12 @@
 -- What was read of each table of a platform is what the tree gives.
 use Rattle.std.proofs.Common.{◌≡◌, ◌∙◌, ap, codes, map}
-use Rattle.sg_platform.specs.Build.{host_row, network_of, profile_row, route_row, router_row, spoke_row, state_profile_row, zone_route_row, zone_row}
+use Rattle.sg_platform.specs.Build.{host_row, network_row, profile_row, route_row, router_row, spoke_row, state_profile_row, zone_route_row, zone_row}
 use Rattle.sg_platform.specs.PlatformOf.{links_of, platform_rows}
 use Rattle.sg_rows.specs.Ends.{link_ends}
+use Rattle.sg_rows.specs.Network.{plain_network}
 use Rattle.sg_rows.specs.Platform.{Platform}
+use Rattle.sg_tree.specs.Along.{first}
+use Rattle.std.specs.Option.{option_map_or}
 use Rattle.sg_tree.specs.Names.{Known}
 use Rattle.sg_tree.specs.Tree.{rows_at}
 use Rattle.toml.specs.Data.{Members}
@@ -17,7 +20,7 @@ pub record IsRead (names : Known) (tree : Members) (p : Platform) : Type 0 where
   pub routes : p.routes ≡ map (route_row names) (rows_at (codes "route") tree)
   pub zone_routes : p.zone_routes ≡ map (zone_route_row names) (rows_at (codes "zone_route") tree)
   pub spokes : p.spokes ≡ map (spoke_row names (link_ends p.links)) (rows_at (codes "spoke") tree)
-  pub network : p.network ≡ network_of (rows_at (codes "network") tree)
+  pub network : p.network ≡ option_map_or network_row (first (rows_at (codes "network") tree)) plain_network
   pub profiles : p.profiles ≡ map (profile_row names) (rows_at (codes "profile") tree)
   pub state_profiles : p.state_profiles ≡ map (state_profile_row names) (rows_at (codes "state_profile") tree)
 

@@ -40,7 +40,6 @@ use Rattle.sg_rules.specs.declared.power.Powers.{Powers}
 use Rattle.sg_tables.specs.Units.{quantity_value, whole_value}
 use Rattle.sg_tables.specs.declared.units.Quantity.{Quantity}
 use Rattle.sg_tables.specs.declared.units.Quantity.TheVariants.{Time, Latency, Speed, Bandwidth, Factor, Amount}
-use Rattle.sg_tree.specs.Along.{first}
 use Rattle.sg_tree.specs.Tree.{text_at, text_or_empty}
 use Rattle.toml.specs.Data.{Data, get, as_integer}
 
@@ -78,9 +77,8 @@ link_id names name = record { 0 = unwrap_or (names.links name) 0 }
 
 -- what a name in a zone stands for: a child zone, or a host or router
 abbrev pub child_of : Known → List ℕ → Child
-child_of names name =
-    let number = unwrap_or (names.points name) 0 in
-    if nat_lt number names.zones then ZoneChild (record { 0 = number }) else PointChild (record { 0 = number - names.zones })
+child_of names name = if nat_lt (zone_id names name).0 names.zones
+    then ZoneChild (zone_id names name) else PointChild (point_id names name)
 
 -- the point that a key names; if it is absent, the end is its own gateway
 abbrev pub gateway : Known → Data → List ℕ → List ℕ → PointId
@@ -94,10 +92,6 @@ policy_of text = if bytes_eq text (codes "SPLITDUPLEX") then SplitDuplex else if
 abbrev pub amounts_at : Quantity → List ℕ → Data → List ℕ
 amounts_at quantity key row = map (amount_or_zero quantity) (items_at key row)
 
--- the states that the items of the array at a key give
-abbrev pub states_at : List ℕ → Data → List Bool
-states_at key row = map (λ item. unwrap_or (state_in item) false) (items_at key row)
-
 -- a host if the row names one, else a link
 abbrev pub subject_of : Known → Data → Profiled
 subject_of names row = option_map_or (λ host. OfHost (point_id names host)) (text_at (codes "host") row) (OfLink (link_id names (text_or_empty (codes "link") row)))
@@ -105,10 +99,6 @@ subject_of names row = option_map_or (λ host. OfHost (point_id names host)) (te
 -- the links that a list at a key names
 abbrev pub links_at : Known → List ℕ → Data → List LinkId
 links_at names key row = map (λ item. link_id names (text_of item)) (items_at key row)
-
--- the links down to a child: by default the reverse of those up
-abbrev pub down_links : Known → List LinkEnd → Data → List LinkId → List LinkId
-down_links names ends row up = option_map_or (λ d. links_at names (codes "down") row) (get (codes "down") row) (way_back ends up)
 
 -- the zone that a row declares: its name, its parent and its routing
 unfoldable pub zone_row : Known → Data → ZoneRow
@@ -161,14 +151,16 @@ zone_route_row names row = record {
   symmetrical = truth_at (codes "symmetrical") row;
 }
 
--- the spoke that a row declares: a child of a star zone, its gateway, and the links up and down
+-- the spoke that a row declares: a child of a star zone, its gateway, the links up, and those down, by default the
+-- reverse of those up
 unfoldable pub spoke_row : Known → List LinkEnd → Data → SpokeRow
 spoke_row names ends row = record {
   zone = zone_id names (text_or_empty (codes "zone") row);
   child = child_of names (text_or_empty (codes "child") row);
   gateway = gateway names row (codes "gateway") (codes "child");
   up = links_at names (codes "up") row;
-  down = down_links names ends row (links_at names (codes "up") row);
+  down = option_map_or (λ d. links_at names (codes "down") row) (get (codes "down") row)
+      (way_back ends (links_at names (codes "up") row));
 }
 
 -- the profile that a row declares: speeds or bandwidths at dates, and the period if it repeats
@@ -185,7 +177,7 @@ unfoldable pub state_profile_row : Known → Data → StateProfileRow
 state_profile_row names row = record {
   of = subject_of names row;
   dates = amounts_at Time (codes "dates") row;
-  states = states_at (codes "states") row;
+  states = map (λ item. unwrap_or (state_in item) false) (items_at (codes "states") row);
   gap = option_and_then (quantity_value Time) (text_at (codes "loop") row);
 }
 
@@ -213,7 +205,3 @@ network_row row = record {
   bandwidth_factor = value_at Factor plain_network.bandwidth_factor (codes "bandwidth_factor") row;
   window = value_at Amount plain_network.window (codes "window") row;
 }
-
--- the network of the one row that there may be
-abbrev pub network_of : List Data → Network
-network_of rows = option_map_or network_row (first rows) plain_network

@@ -5,11 +5,9 @@ use Rattle.sg_platform.specs.Build.{actor_row, mutex_row, semaphore_row}
 use Rattle.sg_rows.specs.Deployment.{Deployed}
 use Rattle.sg_rows.specs.Index.{host_number}
 use Rattle.sg_rows.specs.Platform.{Platform}
-use Rattle.sg_platform.specs.PlatformOf.{rows_unless, text_by}
-use Rattle.sg_rules.specs.Faults.{faults_of}
+use Rattle.sg_platform.specs.PlatformOf.{text_by, tree_by}
 use Rattle.sg_tree.specs.Names.{Known, known_by}
 use Rattle.sg_tables.specs.Tables.{deployment_tables}
-use Rattle.sg_tree.specs.Along.{first}
 use Rattle.sg_tree.specs.Tree.{rows_at}
 use Rattle.sg_tree.specs.declared.fault.Fault.{Fault}
 use Rattle.toml.specs.Data.{Members}
@@ -26,11 +24,6 @@ deployment_rows names tree = record {
   semaphores = map semaphore_row (rows_at (codes "semaphore") tree);
 }
 
--- the first fault of the tree, else its rows
-unfoldable pub tree_deployment : Platform → Members → Result Deployed (Option Fault)
-tree_deployment platform tree =
-    rows_unless (first (faults_of (names_on platform tree) deployment_tables tree)) (deployment_rows (names_on platform tree) tree)
-
 -- the deployment that a text describes on a platform, or its first fault
 unfoldable pub deployment_of : List ℕ → Platform → Result Deployed (Option Fault)
-deployment_of bytes platform = text_by (tree_deployment platform) bytes
+deployment_of bytes platform = text_by (tree_by (names_on platform) deployment_tables deployment_rows) bytes

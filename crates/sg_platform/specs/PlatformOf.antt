@@ -1,13 +1,15 @@
 -- The platform that a text describes; or its fault of least place, and there of least kind, and none if it isn't TOML.
 use Rattle.std.specs.Prelude.{ℕ, List, map, length, codes, if◌then◌else◌, nat_lt, Option, Some, None, Result, Ok, Err}
 use Rattle.std.specs.Option.{option_map_or}
-use Rattle.sg_platform.specs.Build.{host_row, link_row, network_of, profile_row, route_row, router_row, spoke_row, state_profile_row, zone_route_row, zone_row}
+use Rattle.sg_platform.specs.Build.{host_row, link_row, network_row, profile_row, route_row, router_row, spoke_row, state_profile_row, zone_route_row, zone_row}
 use Rattle.sg_rows.specs.Ends.{link_ends}
+use Rattle.sg_rows.specs.Network.{plain_network}
 use Rattle.sg_rows.specs.Platform.{Platform}
 use Rattle.sg_rows.specs.declared.rows.LinkRow.{LinkRow}
 use Rattle.sg_rules.specs.Faults.{faults_of}
 use Rattle.sg_tree.specs.Names.{Known, platform_known}
 use Rattle.sg_tables.specs.Tables.{platform_tables}
+use Rattle.sg_tables.specs.declared.tables.Table.{Table}
 use Rattle.sg_tree.specs.Along.{first}
 use Rattle.sg_tree.specs.Tree.{tree_of, rows_at}
 use Rattle.sg_tree.specs.declared.fault.Fault.{Fault}
@@ -18,7 +20,7 @@ use Rattle.toml.specs.Data.{Members}
 abbrev pub links_of : Members → List LinkRow
 links_of tree = map link_row (rows_at (codes "link") tree)
 
--- the rows of a tree that has no fault
+-- the rows of a tree that has no fault; it may have one row of the network
 unfoldable pub platform_rows : Known → Members → Platform
 platform_rows names tree = record {
   zones = map (zone_row names) (rows_at (codes "zone") tree);
@@ -28,18 +30,16 @@ platform_rows names tree = record {
   routes = map (route_row names) (rows_at (codes "route") tree);
   zone_routes = map (zone_route_row names) (rows_at (codes "zone_route") tree);
   spokes = map (spoke_row names (link_ends (links_of tree))) (rows_at (codes "spoke") tree);
-  network = network_of (rows_at (codes "network") tree);
+  network = option_map_or network_row (first (rows_at (codes "network") tree)) plain_network;
   profiles = map (profile_row names) (rows_at (codes "profile") tree);
   state_profiles = map (state_profile_row names) (rows_at (codes "state_profile") tree);
 }
 
--- the first fault of a tree, else its rows
-abbrev pub rows_unless : {R : Type 0} → Option Fault → R → Result R (Option Fault)
-rows_unless fault rows = option_map_or (λ f. Err (Some f)) fault (Ok rows)
-
--- the platform that a tree describes, or its first fault
-unfoldable pub tree_platform : Members → Result Platform (Option Fault)
-tree_platform tree = rows_unless (first (faults_of (platform_known tree) platform_tables tree)) (platform_rows (platform_known tree) tree)
+-- the first fault of a tree that may have these tables, by the names that are known in it, else its rows
+unfoldable pub tree_by : {R : Type 0} → (Members → Known) → List Table → (Known → Members → R) → Members
+    → Result R (Option Fault)
+tree_by known tables rows tree =
+    option_map_or (λ f. Err (Some f)) (first (faults_of (known tree) tables tree)) (Ok (rows (known tree) tree))
 
 -- the greatest text that is read, in bytes
 abbrev pub greatest_text : ℕ
@@ -55,4 +55,4 @@ text_by given bytes = if nat_lt greatest_text (length bytes) then Err (Some too_
 
 -- the platform that a text describes, or its first fault; no fault is named if it is not TOML
 unfoldable pub platform_of : List ℕ → Result Platform (Option Fault)
-platform_of bytes = text_by tree_platform bytes
+platform_of bytes = text_by (tree_by platform_known platform_tables platform_rows) bytes

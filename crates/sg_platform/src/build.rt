@@ -1,15 +1,20 @@
 //! Makes rows of a tree that has no fault.
-ghost use Rattle.std.specs.Prelude.{◌≡◌, ◌∷◌, [], List, IfOk, codes, map, option_and_then, unwrap_or};
+ghost use Rattle.std.specs.Prelude.{◌≡◌, ◌∷◌, [], List, IfOk, codes, false, map, option_and_then, unwrap_or};
+ghost use Rattle.std.specs.Option.{option_map_or};
 ghost use Rattle.std.specs.HashMap.{get_by_text};
-ghost use Rattle.sg_platform.specs.Build.{actor_row, amounts_at, child_of, down_links, gateway, host_row, link_id, link_row, links_at, mutex_row, network_of, network_row, point_id, policy_of, host_power, profile_row, route_row, router_row, routing_of, semaphore_row, spoke_row, state_profile_row, states_at, subject_of, value_at, whole_at, zone_id, zone_route_row, zone_row};
+ghost use Rattle.sg_platform.specs.Build.{actor_row, amounts_at, child_of, gateway, host_row, link_id, link_row, links_at, mutex_row, network_row, point_id, policy_of, host_power, profile_row, route_row, router_row, routing_of, semaphore_row, spoke_row, state_profile_row, subject_of, value_at, whole_at, zone_id, zone_route_row, zone_row};
+ghost use Rattle.sg_rows.specs.Ends.{way_back};
+ghost use Rattle.sg_rows.specs.Network.{plain_network};
 ghost use Rattle.sg_rows.specs.declared.ends.LinkEnd.{LinkEnd};
+ghost use Rattle.sg_rules.specs.Profiles.{items_at, state_in};
 ghost use Rattle.sg_tree.specs.Names.{Known};
 ghost use Rattle.sg_tables.specs.Units.{quantity_value};
 ghost use Rattle.sg_tables.specs.declared.units.Quantity.TheVariants as quantity;
 ghost use Rattle.sg_tree.specs.kept.NamesView.{names_view};
+ghost use Rattle.sg_tree.specs.Along.{first};
 ghost use Rattle.sg_tree.specs.Tree.{rows_at, text_at};
 ghost use Rattle.sg_tree.specs.kept.Rows.{KeepsBut};
-ghost use Rattle.toml.specs.Data.{Data};
+ghost use Rattle.toml.specs.Data.{Data, get};
 ghost use Rattle.toml.specs.View.{table_view, view};
 
 use crate::functions::function_of;
@@ -181,7 +186,8 @@ fn amounts_at(alloc: Global, quantity: Quantity, row: &Value, key: &str) -> Resu
 
 /// Returns the states that the items of the array at a key give.
 fn states_at(alloc: Global, row: &Value, key: &str) -> Result<States, Memory>
-    ensures { IfOk result (λ states. states ≡ states_at key.now (view row.now)) }
+    ensures { IfOk result (λ states. states
+        ≡ map (λ item. unwrap_or (state_in item) false) (items_at key.now (view row.now))) }
 {
     let items = items_at(row, key);
     let mut made = Vec::new(alloc);
@@ -222,7 +228,8 @@ fn down_links(
 ) -> Result<Links, Memory>
     ensures { IfOk result
         (λ links. links
-        ≡ down_links (names_view names.now) ends.now (view row.now) up.now) }
+        ≡ option_map_or (λ d. links_at (names_view names.now) (codes "down") (view row.now))
+        (get (codes "down") (view row.now)) (way_back ends.now up.now)) }
 {
     match row.get("down") {
         Some(_) => links_at(alloc, names, row, "down"),
@@ -243,7 +250,7 @@ fn network_row(row: &Value) -> Network
 
 /// Returns the network of the one row that there may be.
 pub fn network_of(rows: &[Value]) -> Network
-    ensures { result ≡ network_of (map view rows.now) }
+    ensures { result ≡ option_map_or network_row (first (map view rows.now)) plain_network }
 {
     match rows {
         [row, ..] => network_row(row),

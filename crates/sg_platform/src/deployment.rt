@@ -3,8 +3,10 @@ ghost use Rattle.std.specs.Prelude.{◌≡◌, ◌≢◌, Err, IfOk, Some};
 ghost use Rattle.std.specs.Result.{result_map_both};
 ghost use Rattle.sg_rows.specs.Deployment.{IsDeployedOn, IsDeployment};
 ghost use Rattle.sg_platform.specs.BrokenRules.{deployment_rule};
-ghost use Rattle.sg_platform.specs.DeploymentOf.{deployment_of, names_on, deployment_rows, tree_deployment};
+ghost use Rattle.sg_platform.specs.DeploymentOf.{deployment_of, names_on, deployment_rows};
+ghost use Rattle.sg_platform.specs.PlatformOf.{tree_by};
 ghost use Rattle.sg_platform.specs.declared.deployment.DeploymentFault.TheVariants.{Memory};
+ghost use Rattle.sg_tables.specs.Tables.{deployment_tables};
 ghost use Rattle.sg_tree.specs.kept.NamesView.{names_view};
 ghost use Rattle.toml.specs.View.{table_view};
 
@@ -120,7 +122,7 @@ fn names_on(
 }
 
 /// Returns the deployment of a tree whose names on the platform these are. Its tables are taken out of it.
-#[tactic(auto, unfolding(crate::specs::DeploymentOf::tree_deployment))]
+#[tactic(auto, unfolding(crate::specs::PlatformOf::tree_by))]
 fn deployment_in(
     alloc: Global,
     names: &Names,
@@ -129,7 +131,7 @@ fn deployment_in(
 ) -> Result<Deployment, DeploymentFault>
     requires { names_view names.now ≡ names_on platform.now (table_view tree.old) }
     ensures value { result ≢ Err Memory → result_map_both (λ d. d) deployment_rule result
-        ≡ tree_deployment platform.now (table_view tree.old) }
+        ≡ tree_by (names_on platform.now) deployment_tables deployment_rows (table_view tree.old) }
     ensures deployed { IfOk result (IsDeployedOn platform.now) }
 {
     match first_fault(alloc, names, &DEPLOYMENT, tree)? {
@@ -144,7 +146,7 @@ fn tree_deployment(
     platform: &PlatformText,
 ) -> Result<Deployment, DeploymentFault>
     ensures value { result ≢ Err Memory → result_map_both (λ d. d) deployment_rule result
-        ≡ tree_deployment platform.now (table_view tree.old) }
+        ≡ tree_by (names_on platform.now) deployment_tables deployment_rows (table_view tree.old) }
     ensures deployed { IfOk result (IsDeployedOn platform.now) }
 {
     let names = names_on(alloc, tree, platform)?;

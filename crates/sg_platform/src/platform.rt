@@ -5,10 +5,11 @@ ghost use Rattle.sg_rows.specs.Platform.{IsPlatform, rows_view};
 ghost use Rattle.sg_rows.specs.Ends.{link_ends};
 ghost use Rattle.sg_platform.specs.Build.{host_row, profile_row, route_row, router_row, spoke_row, state_profile_row, zone_route_row, zone_row};
 ghost use Rattle.sg_platform.specs.BrokenRules.{platform_rule};
-ghost use Rattle.sg_platform.specs.PlatformOf.{links_of, platform_of, platform_rows, tree_platform};
+ghost use Rattle.sg_platform.specs.PlatformOf.{links_of, platform_of, platform_rows, tree_by};
 ghost use Rattle.sg_platform.specs.declared.platform.PlatformFault.TheVariants.{Memory};
 ghost use Rattle.sg_tree.specs.Names.{platform_known};
 ghost use Rattle.sg_rules.specs.PlatformKinds.{IsPlatformFault};
+ghost use Rattle.sg_tables.specs.Tables.{platform_tables};
 ghost use Rattle.sg_tree.specs.kept.NamesView.{names_view};
 ghost use Rattle.sg_tree.specs.Tree.{rows_at};
 ghost use Rattle.sg_tree.specs.kept.Rows.{KeepsBut};
@@ -269,7 +270,7 @@ fn rows_of(
 }
 
 /// Returns the platform of a tree whose names these are. Its tables are taken out of it.
-#[tactic(auto, unfolding(crate::specs::PlatformOf::tree_platform))]
+#[tactic(auto, unfolding(crate::specs::PlatformOf::tree_by))]
 fn platform_in(
     alloc: Global,
     names: &Names,
@@ -277,7 +278,8 @@ fn platform_in(
 ) -> Result<PlatformText, PlatformFault>
     requires { names_view names.now ≡ platform_known (table_view tree.old) }
     ensures { result ≢ Err Memory
-        → result_map_both (λ p. p) platform_rule result ≡ tree_platform (table_view tree.old) }
+        → result_map_both (λ p. p) platform_rule result
+        ≡ tree_by platform_known platform_tables platform_rows (table_view tree.old) }
 {
     match first_fault(alloc, names, &PLATFORM, tree)? {
         Some(fault) => Err(fault_of(fault)),
@@ -287,7 +289,8 @@ fn platform_in(
 
 fn tree_platform(alloc: Global, tree: &mut toml::Table) -> Result<PlatformText, PlatformFault>
     ensures { result ≢ Err Memory
-        → result_map_both (λ p. p) platform_rule result ≡ tree_platform (table_view tree.old) }
+        → result_map_both (λ p. p) platform_rule result
+        ≡ tree_by platform_known platform_tables platform_rows (table_view tree.old) }
 {
     let names = platform_names(alloc, tree)?;
     platform_in(alloc, &names, tree)
@@ -299,7 +302,8 @@ pub const GREATEST_TEXT: usize = 16_777_216;
 /// Returns the tree of a text that is not too long.
 #[tactic(auto, unfolding(crate::specs::PlatformOf::platform_of))]
 fn text_tree(alloc: Global, bytes: &[u8]) -> Result<toml::Table, PlatformFault>
-    ensures tree { IfOk result (λ tree. platform_of bytes.now ≡ tree_platform (table_view tree)) }
+    ensures tree { IfOk result (λ tree. platform_of bytes.now
+        ≡ tree_by platform_known platform_tables platform_rows (table_view tree)) }
     ensures fault { IfErr result
         (λ why. why ≢ Memory → Err (platform_rule why) ≡ platform_of bytes.now) }
 {
