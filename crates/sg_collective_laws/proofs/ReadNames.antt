@@ -10,8 +10,8 @@ use Rattle.std.proofs.lemmas.Option.{same_Some, slice_get-get_or}
 use Rattle.std.proofs.lemmas.Slice.Eq.{bytes_eq-Decides}
 use Rattle.sg_base.specs.declared.ids.ActorId.{ActorId}
 use Rattle.sg_platform.specs.Build.{actor_row}
-use Rattle.sg_platform.specs.DeploymentOf.{deployment_of, names_on, deployment_rows, tree_deployment}
-use Rattle.sg_platform.specs.PlatformOf.{greatest_text, rows_unless, too_long}
+use Rattle.sg_platform.specs.DeploymentOf.{deployment_of, names_on, deployment_rows}
+use Rattle.sg_platform.specs.PlatformOf.{greatest_text, too_long, tree_by}
 use Rattle.sg_rows.specs.Deployment.{Deployed, id_if_replay, member_ids, members_among, members_of, replay_actor_named}
 use Rattle.sg_rows.specs.Index.{names_if_replay, number_by}
 use Rattle.sg_rows.specs.kept.Finds.{numbered_names, replay_names}
@@ -23,12 +23,11 @@ use Rattle.sg_rules.proofs.Kept.{KeysKept, not_false, required_text, unbroken}
 use Rattle.sg_rules.proofs.FaultParts.{key_faults, row_faults_at}
 use Rattle.sg_rules.specs.Faults.{faults_of, row_faults, rows_before, table_faults}
 use Rattle.sg_tree.specs.Names.{Known, known_by}
-use Rattle.sg_rules.specs.Rules.{id_kinds, is_taken, key_kinds}
+use Rattle.sg_rules.specs.Rules.{id_kinds, is_below, key_kinds}
 use Rattle.sg_tables.specs.Tables.{deployment_tables, keys_of}
 use Rattle.sg_tables.specs.declared.tables.Key.{Key}
 use Rattle.sg_tables.specs.declared.tables.TextRule.TheVariants as text_rule
 use Rattle.sg_tables.specs.declared.tables.Table.TheVariants.{Actor}
-use Rattle.sg_tables.specs.declared.tables.Word.TheVariants as word
 use Rattle.sg_tree.proofs.Kept.{empty_at, empty_left, empty_right, none_empty}
 use Rattle.sg_tree.specs.Along.{along, first}
 use Rattle.sg_tree.specs.NameSpaces.{numbered, texts_at, with_number}
@@ -110,7 +109,7 @@ stands_by key text from (other ∷ rows) (suc place) row at there =
     stands_behind key text from place other rows (text_at key other) refl (stands_by key text (from + 1) rows place row at there)
 
 -- ---- a row without faults
-keys_free : (names : Known) (number t r : ℕ) (row : Row) (i : ℕ) (keys : List Key) → along (key_faults names number t r row) i keys ≡ [] → KeysKept names number row keys
+keys_free : (names : Known) (number t r : ℕ) (row : Row) (i : ℕ) (keys : List (Key (List ℕ))) → along (key_faults names number t r row) i keys ≡ [] → KeysKept names number row keys
 keys_free names number t r row i [] empty = tt
 keys_free names number t r row i (k ∷ ks) empty =
     let here = key_faults names number t r row i k in
@@ -122,17 +121,17 @@ record HasOwnName (names : Known) (number : ℕ) (row : Row) : Type 0 where
   text : List ℕ
   there : text_at (codes "name") row ≡ Some text
   spelled : is_name text ≡ true
-  free : is_taken (names.actors text) number ≡ false
+  free : is_below (names.actors text) number ≡ false
 
 row_named : (names : Known) (number : ℕ) (row : Row) → KeysKept names number row (keys_of Actor) → HasOwnName names number row
 unfolding id_kinds
 row_named names number row kept =
-    let name = required_text names number row word.Name text_rule.NewActor kept.0 in
+    let name = required_text names number row (codes "name") text_rule.NewActor kept.0 in
     record {
       text = name.0;
       there = name.1;
       spelled = not_false (is_name name.0) (unbroken (not (is_name name.0)) BadName (empty_left _ _ name.2));
-      free = unbroken (is_taken (names.actors name.0) number) Duplicate (empty_right _ _ name.2);
+      free = unbroken (is_below (names.actors name.0) number) Duplicate (empty_right _ _ name.2);
     }
 
 module _ (names : Known) (tree : Tree) (none : first (faults_of names deployment_tables tree) ≡ None) where
@@ -186,7 +185,7 @@ module _ (names : Known) (tree : Tree) (none : first (faults_of names deployment
       let there : text_at (codes "name") from'.data_row ≡ Some from.own.text = from'.own.there ∙ ap Some (sym from'.name ∙ same ∙ from.name) in
       let stands = stands_by (codes "name") from.own.text 0 (rows_at (codes "actor") tree) earlier from'.data_row from'.at there in
       let number : names.actors from.own.text ≡ Some stands.number = numbered from.own.text ∙ stands.is in
-      let taken : nat_lt stands.number place ≡ false = ap (λ (o : Option ℕ). is_taken o place) (sym number) ∙ from.own.free in
+      let taken : nat_lt stands.number place ≡ false = ap (λ (o : Option ℕ). is_below o place) (sym number) ∙ from.own.free in
       let bad : true ≡ false = sym (lt-ltb stands.number place (omega (arith, stands.early))) ∙ taken in
       cc bad
 
@@ -271,12 +270,12 @@ Has (Ok deployed) = HasNames deployed
 Has (Err why) = Unit {0}
 
 unless_named : (platform : Platform) (tree : Tree) (fault : Option Fault) → first (faults_of (names_on platform tree) deployment_tables tree) ≡ fault →
-    Has (rows_unless fault (deployment_rows (names_on platform tree) tree))
+    Has (option_map_or (λ f. Err (Some f)) fault (Ok (deployment_rows (names_on platform tree) tree)))
 unless_named platform tree None e = tree_named (names_on platform tree) tree (numbered_on platform tree) e
 unless_named platform tree (Some fault) e = tt
 
-read_named : (platform : Platform) (tree : Option Tree) → Has (option_map_or (tree_deployment platform) tree (Err None))
-unfolding tree_deployment
+read_named : (platform : Platform) (tree : Option Tree) → Has (option_map_or (tree_by (names_on platform) deployment_tables deployment_rows) tree (Err None))
+unfolding tree_by
 read_named platform None = tt
 read_named platform (Some tree) = unless_named platform tree (first (faults_of (names_on platform tree) deployment_tables tree)) refl
 
@@ -287,7 +286,7 @@ unless_long false r s one two = two
 text_named : (bytes : List ℕ) (platform : Platform) → Has (deployment_of bytes platform)
 unfolding deployment_of
 text_named bytes platform =
-    unless_long (nat_lt greatest_text (length bytes)) (Err (Some too_long)) (option_map_or (tree_deployment platform) (tree_of bytes) (Err None)) tt (read_named platform (tree_of bytes))
+    unless_long (nat_lt greatest_text (length bytes)) (Err (Some too_long)) (option_map_or (tree_by (names_on platform) deployment_tables deployment_rows) (tree_of bytes) (Err None)) tt (read_named platform (tree_of bytes))
 
 pub texts_have_names : TextsHaveNames
 texts_have_names bytes platform deployed e = subst Has e (text_named bytes platform)
