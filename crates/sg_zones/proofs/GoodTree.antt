@@ -1,7 +1,7 @@
 -- What the absence of zone faults says of the tree.
 use Rattle.std.proofs.Common.{◌≡◌, ◌+◌, ◌<◌, ◌⊎◌, inl, inr, ℕ, zero, suc, Bool, true, false, cond, List, [], ◌∷◌, ◌++◌, length, get_or, Option, None, Some, arith, refl, sym, ◌∙◌, ap, subst}
-use Rattle.std.specs.Prelude.{is_none, is_some, ◌==◌, ◌||◌, slice_get, option_and_then}
-use Rattle.std.specs.List.{list_any}
+use Rattle.std.specs.Prelude.{is_none, is_some, ◌==◌, ◌||◌, map, slice_get, option_and_then}
+use Rattle.std.specs.List.{list_any, range_with_len}
 use Rattle.std.specs.Option.{option_or, option_map_or}
 use Rattle.std.proofs.lemmas.Bool.Decides.{nat_tests}
 use Rattle.std.proofs.lemmas.List.FromFn.{get_or-map-range_with_len, length-map-range_with_len}
@@ -9,7 +9,7 @@ use Rattle.sg_rows.specs.declared.rows.ZoneRow.{ZoneRow}
 use Rattle.sg_base.specs.declared.ids.ZoneId.{ZoneId}
 use Rattle.sg_zones.specs.declared.fault.ZoneFault.{ZoneFault}
 use Rattle.sg_zones.specs.declared.fault.ZoneFault.TheVariants.{ParentCycle, TooDeep}
-use Rattle.sg_zones.specs.Paths.{ancestor, ancestors_of, parent_zone, path, paths_of}
+use Rattle.sg_zones.specs.Paths.{ancestor, ancestors_of, parent_zone, path}
 use Rattle.sg_zones.specs.Faults.{first_along, fault_if, roots, root_fault, ancestor_fault, tree_fault}
 use Rattle.sg_zones.proofs.TreeLemmas.{AboveIs, IsDepth, depth_found, path_length, path_last, split, inner_of}
 
@@ -161,5 +161,5 @@ first_root zones x is = go (parent_zone zones x) is
     go (Some q) h = absurd h
 
 -- the path of a zone that exists
-pub path_at : (zones : List ZoneRow) (zone : ZoneId) → zone.0 < length zones → get_or (paths_of zones) zone.0 [] ≡ path 16 zones zone
+pub path_at : (zones : List ZoneRow) (zone : ZoneId) → zone.0 < length zones → get_or (map (λ i. path 16 zones (record { 0 = i })) (range_with_len 0 (length zones))) zone.0 [] ≡ path 16 zones zone
 path_at zones zone inside = get_or-map-range_with_len (λ i. path 16 zones (record { 0 = i })) 0 (length zones) zone.0 zone.0 [] inside (omega arith)

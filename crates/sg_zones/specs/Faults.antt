@@ -69,20 +69,13 @@ spoke_gateway_fault t row s = gateway_fault t s.child s.gateway (place 7 (row + 
 
 -- ---- routing
 
--- whether a routing is Full: local routes are those that rows declare
-abbrev pub is_full : Routing → Bool
-is_full Full = true
-is_full other = false
-
--- whether a routing is Star: local routes go up one spoke and down another
-abbrev pub is_star : Routing → Bool
-is_star Star = true
-is_star other = false
-
--- whether a routing is Dijkstra: local routes are shortest paths over the declared ones
-abbrev pub is_dijkstra : Routing → Bool
-is_dijkstra Dijkstra = true
-is_dijkstra other = false
+-- whether a routing is this one. Local routes are those that rows declare (Full), they go up one spoke and down another
+-- (Star), or they are shortest paths over the declared ones (Dijkstra)
+abbrev pub is_routing : Routing → Routing → Bool
+is_routing Full Full = true
+is_routing Star Star = true
+is_routing Dijkstra Dijkstra = true
+is_routing this other = false
 
 -- the zone whose child this is; the root is no child
 abbrev pub zone_above : Tree → Child → Option ZoneId
@@ -91,7 +84,7 @@ zone_above t (Zone zone) = slice_index_or t.parents zone.0 None
 
 -- both stand in one zone, and it is Full
 abbrev pub in_one_full : Tree → Option ZoneId → Option ZoneId → Bool
-in_one_full t (Some a) (Some b) = a.0 == b.0 && is_full (routing_in t a)
+in_one_full t (Some a) (Some b) = a.0 == b.0 && is_routing Full (routing_in t a)
 in_one_full t a b = false
 
 -- whether a child of a zone is a host or router, and not a zone
@@ -101,11 +94,11 @@ is_point (Zone zone) = false
 
 -- no zone stands in a Dijkstra zone
 abbrev pub child_zone_fault : Tree → ℕ → ZoneRow → Option ZoneFault
-child_zone_fault t row z = fault_if (option_map_or (λ above. is_dijkstra (routing_in t above)) z.parent false) (WrongRouting (place 1 (row + 1) 1))
+child_zone_fault t row z = fault_if (option_map_or (λ above. is_routing Dijkstra (routing_in t above)) z.parent false) (WrongRouting (place 1 (row + 1) 1))
 
 -- both are one zone, and it has routes between points: it is Full or Dijkstra
 abbrev pub in_one_routed : Tree → ZoneId → ZoneId → Bool
-in_one_routed t a b = a.0 == b.0 && not (is_star (routing_in t a))
+in_one_routed t a b = a.0 == b.0 && not (is_routing Star (routing_in t a))
 
 -- the ends of a route stand in one Full or Dijkstra zone
 abbrev pub route_fault : Tree → ℕ → RouteRow → Option ZoneFault
@@ -120,7 +113,7 @@ zone_route_fault t row r =
 -- the zone of a spoke is Star, and the child is its child
 abbrev pub spoke_fault : Tree → ℕ → SpokeRow → Option ZoneFault
 spoke_fault t row s =
-    fault_if (not (is_star (routing_in t s.zone)) || not (option_map_or (λ above. above.0 == s.zone.0) (zone_above t s.child) false))
+    fault_if (not (is_routing Star (routing_in t s.zone)) || not (option_map_or (λ above. above.0 == s.zone.0) (zone_above t s.child) false))
     (WrongRouting (place 7 (row + 1) 1))
 
 -- ---- the least kind, and within it the least place

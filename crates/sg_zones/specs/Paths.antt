@@ -22,7 +22,3 @@ path (suc levels) zones zone = option_map_or (path levels zones) (parent_zone zo
 -- of each zone the one so many steps up
 abbrev pub ancestors_of : ℕ → List ZoneRow → List (Option ZoneId)
 ancestors_of steps zones = map (λ i. ancestor steps zones (record { 0 = i })) (range_with_len 0 (length zones))
-
--- of each zone the path down to it from the root, of at most 16 zones
-abbrev pub paths_of : List ZoneRow → List (List ZoneId)
-paths_of zones = map (λ i. path 16 zones (record { 0 = i })) (range_with_len 0 (length zones))

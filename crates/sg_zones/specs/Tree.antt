@@ -1,12 +1,12 @@
 -- The zone tree.
 use Rattle.std.specs.Prelude.{◌==◌, ℕ, Bool, Option, List, [], ◌++◌, length, map, slice_index_or}
-use Rattle.std.specs.List.{list_any}
+use Rattle.std.specs.List.{list_any, range_with_len}
 use Rattle.sg_base.specs.declared.ids.PointId.{PointId}
 use Rattle.sg_base.specs.declared.ids.ZoneId.{ZoneId}
 use Rattle.sg_rows.specs.Platform.{Platform}
 use Rattle.sg_rows.specs.declared.rows.Routing.{Routing}
 use Rattle.sg_rows.specs.declared.rows.Routing.TheVariants.{Full}
-use Rattle.sg_zones.specs.Paths.{paths_of}
+use Rattle.sg_zones.specs.Paths.{path}
 
 -- of each zone its parent, its routing and the path down to it, and of each point its zone
 pub record Tree : Type 0 where
@@ -15,12 +15,13 @@ pub record Tree : Type 0 where
   pub paths : List (List ZoneId)
   pub homes : List ZoneId
 
--- the parents, routings and paths of the zones of a platform, and the zone of each host and router
+-- the parents and routings of the zones of a platform, the path to each of at most 16 zones, and the zone of each host
+-- and router
 abbrev pub zone_tree : Platform → Tree
 zone_tree p = record {
   parents = map (λ row. row.parent) p.zones;
   routings = map (λ row. row.routing) p.zones;
-  paths = paths_of p.zones;
+  paths = map (λ i. path 16 p.zones (record { 0 = i })) (range_with_len 0 (length p.zones));
   homes = map (λ row. row.zone) p.hosts ++ map (λ row. row.zone) p.routers;
 }
 

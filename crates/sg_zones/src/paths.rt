@@ -1,6 +1,7 @@
 //! Of each zone the zone so many steps up, and the zones from the root down to it.
 ghost use Rattle.std.specs.Prelude.{◌≡◌, ◌≤◌, ◌++◌, ◌^◌, length, IfOk, OnOk, None, map, option_and_then, slice_index_or};
-ghost use Rattle.sg_zones.specs.Paths.{ancestors_of, parent_zone, path, paths_of};
+ghost use Rattle.std.specs.List.{range_with_len};
+ghost use Rattle.sg_zones.specs.Paths.{ancestors_of, parent_zone, path};
 
 use sg_base::{Memory, ZoneId};
 use sg_rows::ZoneRow;
@@ -135,7 +136,8 @@ fn push_path(
 #[tactic(auto, using(crate::proofs::PathLemmas::path_short))]
 pub(crate) fn paths_of(alloc: Global, zones: &[ZoneRow]) -> Result<Vec<Path>, Memory>
     requires { length zones.now ≤ 1024 }
-    ensures { IfOk result (λ paths. paths.items ≡ paths_of zones.now) }
+    ensures { IfOk result (λ paths. paths.items
+        ≡ map (λ i. path 16 zones.now (record { 0 = i })) (range_with_len 0 (length zones.now))) }
 {
     let mut paths = Vec::new(alloc);
     for i in 0..zones.len() {

@@ -1,7 +1,8 @@
 //! The zone tree.
 ghost use Rattle.std.specs.Prelude.{◌≡◌, ◌≢◌, ◌≤◌, ◌++◌, ◌==◌, false, length, map, not, slice_index_or, None, Err, IfOk};
 ghost use Rattle.std.specs.Option.{option_map_or};
-ghost use Rattle.sg_zones.specs.Faults.{child_holds, in_one_full, in_one_routed, is_dijkstra, is_full, is_star, row_fault, zone_above, zones_of};
+ghost use Rattle.sg_zones.specs.Faults.{child_holds, in_one_full, in_one_routed, is_routing, row_fault, zone_above, zones_of};
+ghost use Rattle.sg_rows.specs.declared.rows.Routing.TheVariants.{Dijkstra, Full, Star};
 ghost use Rattle.sg_zones.specs.Tree.{depth, holds, home, path_in, routing_in, zone_tree};
 ghost use Rattle.sg_zones.specs.declared.fault.ZoneFault.TheVariants.{Memory};
 
@@ -220,7 +221,7 @@ impl Zones {
 
     /// Returns whether the zone is Full.
     pub(crate) fn is_full(&self, zone: ZoneId) -> bool
-        ensures { result ≡ is_full (routing_in self.now zone) }
+        ensures { result ≡ is_routing Full (routing_in self.now zone) }
     {
         match self.routing(zone) {
             Routing::Full => true,
@@ -230,7 +231,7 @@ impl Zones {
 
     /// Returns whether the zone is Star.
     pub(crate) fn is_star(&self, zone: ZoneId) -> bool
-        ensures { result ≡ is_star (routing_in self.now zone) }
+        ensures { result ≡ is_routing Star (routing_in self.now zone) }
     {
         match self.routing(zone) {
             Routing::Star => true,
@@ -241,7 +242,7 @@ impl Zones {
     /// Returns whether there is such a zone, and it is Dijkstra.
     pub(crate) fn is_in_dijkstra(&self, zone: Option<ZoneId>) -> bool
         ensures { result
-            ≡ option_map_or (λ above. is_dijkstra (routing_in self.now above)) zone false }
+            ≡ option_map_or (λ above. is_routing Dijkstra (routing_in self.now above)) zone false }
     {
         match zone {
             Some(zone) => self.is_dijkstra(zone),
@@ -251,7 +252,7 @@ impl Zones {
 
     /// Returns whether the zone is Dijkstra.
     fn is_dijkstra(&self, zone: ZoneId) -> bool
-        ensures { result ≡ is_dijkstra (routing_in self.now zone) }
+        ensures { result ≡ is_routing Dijkstra (routing_in self.now zone) }
     {
         match self.routing(zone) {
             Routing::Dijkstra => true,
@@ -261,7 +262,7 @@ impl Zones {
 
     /// Returns whether the zone has routes between points.
     fn has_routes(&self, zone: ZoneId) -> bool
-        ensures { result ≡ not (is_star (routing_in self.now zone)) }
+        ensures { result ≡ not (is_routing Star (routing_in self.now zone)) }
     {
         match self.routing(zone) {
             Routing::Full | Routing::Dijkstra => true,
