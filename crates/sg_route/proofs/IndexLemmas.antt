@@ -13,7 +13,7 @@ use Rattle.sg_base.specs.declared.ids.Child.TheVariants.{Point, Zone}
 use Rattle.sg_rows.specs.declared.rows.SpokeRow.{SpokeRow}
 use Rattle.sg_route.specs.declared.locals.Local.{Local}
 use Rattle.sg_route.specs.declared.locals.Pair.{Pair}
-use Rattle.sg_route.specs.Equal.{child_eq, child_pair_eq}
+use Rattle.sg_route.specs.Equal.{child_eq}
 use Rattle.sg_route.specs.declared.spokes.RowsByChild.{RowsByChild}
 use Rattle.sg_route.specs.kept.Index.{ChildKey, child_key, child_key_eq, pair_key, pair_key_eq, row_of, PairsFrom, ChildrenFrom}
 
@@ -28,7 +28,7 @@ child_key_is (Point a) (Zone b) = refl
 child_key_is (Zone a) (Point b) = refl
 child_key_is (Zone a) (Zone b) = same_number a.0 b.0
 
-pair_key_is : (a b : Pair) → pair_key_eq (pair_key a) (pair_key b) ≡ child_pair_eq b a
+pair_key_is : (a b : Pair) → pair_key_eq (pair_key a) (pair_key b) ≡ (child_eq b.from a.from && child_eq b.to a.to)
 pair_key_is a b =
     let e = child_key_is a.from b.from in
     let f = child_key_is a.to b.to in
@@ -40,7 +40,7 @@ entered : {S : Type 0} (at new : HashMap (ChildKey × ChildKey) ℕ S) (i next :
     → PairsFrom next at rest → Updates pair_key_eq at new (pair_key x.pair) (Some i) → PairsFrom i new (x ∷ rest)
 entered at new i next x rest is index updates k =
     updates.0 (pair_key k) ∙ ap (λ b. cond b (Some i) (get pair_key_eq at (pair_key k))) (pair_key_is x.pair k)
-    ∙ ap (λ o. cond (child_pair_eq k x.pair) (Some i) o) (index k ∙ ap (λ n. position_from (λ (y : Local). child_pair_eq k y.pair) n rest) is)
+    ∙ ap (λ o. cond (child_eq k.from x.pair.from && child_eq k.to x.pair.to) (Some i) o) (index k ∙ ap (λ n. position_from (λ (y : Local). child_eq k.from y.pair.from && child_eq k.to y.pair.to) n rest) is)
 
 split_at : {X : Type 0} (rows : List X) (left : ℕ) (x : X) → 0 < left → left ≤ length rows → x ≡ get_or rows (left - 1) x → drop (left - 1) rows ≡ x ∷ drop left rows
 split_at rows left x some within is =

@@ -1,6 +1,7 @@
 -- A route has a link, and all its links exist.
+use Rattle.std.specs.List.{flat_map}
 use Rattle.std.proofs.Common.{◌≡◌, ◌≢◌, ◌<◌, ◌≤◌, ℕ, zero, suc, Bool, true, false, cond, List, [], ◌∷◌, ◌++◌, length, length-append, get_or, Option, None, Some, Ok, Err, arith, refl, subst}
-use Rattle.std.specs.Prelude.{◌==◌, nat_lt, sum_by}
+use Rattle.std.specs.Prelude.{◌==◌, nat_lt, sum_by, ◌&&◌}
 use Rattle.sg_base.specs.declared.ids.Child.{Child}
 use Rattle.sg_base.specs.declared.ids.Child.TheVariants.{Point, Zone}
 use Rattle.sg_base.specs.declared.ids.LinkId.{LinkId}
@@ -13,9 +14,9 @@ use Rattle.sg_rows.specs.declared.rows.Routing.{Routing}
 use Rattle.sg_rows.specs.declared.rows.Routing.TheVariants.{Full, Star, Dijkstra}
 use Rattle.sg_rows.specs.declared.rows.SpokeRow.{SpokeRow}
 use Rattle.sg_rows.specs.declared.rows.ZoneRouteRow.{ZoneRouteRow}
-use Rattle.sg_route.specs.Equal.{child_eq, child_pair_eq}
+use Rattle.sg_route.specs.Equal.{child_eq}
 use Rattle.sg_route.specs.DistinctLinks.{distinct_links, is_among}
-use Rattle.sg_route.specs.Local.{row_locals, declared_route, route_local, routes_declared, spoke_at, zone_route_local, zone_routes_declared}
+use Rattle.sg_route.specs.Local.{row_locals, declared_route, route_local, spoke_at, zone_route_local}
 use Rattle.sg_paths.proofs.LeastLemmas.{least_found}
 use Rattle.sg_paths.specs.Least.{least_path}
 use Rattle.sg_paths.specs.Path.{IsPath, links_of}
@@ -32,7 +33,7 @@ use Rattle.sg_route.specs.Good.{RoutesAreGood}
 use Rattle.sg_route.proofs.Each.{each_all, each_contained, each_flat, each_found, each_from}
 use Rattle.sg_route.proofs.Latency.{route_quick}
 use Rattle.sg_zones.proofs.Each.{Each, each_append}
-use Rattle.sg_zones.specs.Faults.{is_dijkstra}
+use Rattle.sg_zones.specs.Faults.{is_routing}
 use Rattle.sg_zones.specs.Tree.{home, routing_in, zone_tree}
 use Rattle.std.specs.Option.{option_map}
 use Rattle.std.proofs.lemmas.Bool.Decides.{nat_tests}
@@ -59,7 +60,8 @@ locals_links p kept =
     let G : Local → Type 0 = λ l. Good p l.links in
     let R : RouteRow → Type 0 = λ r. IsLinkList (counts_of p) r.links in
     let Z : ZoneRouteRow → Type 0 = λ r. IsLinkList (counts_of p) r.links in
-    each_append G (routes_declared (link_ends p.links) p.routes) (zone_routes_declared (link_ends p.links) p.zone_routes)
+    each_append G (flat_map (λ row. row_locals (link_ends p.links) row.symmetrical (route_local row)) p.routes)
+    (flat_map (λ row. row_locals (link_ends p.links) row.symmetrical (zone_route_local row)) p.zone_routes)
     (each_flat G R (λ row. row_locals (link_ends p.links) row.symmetrical (route_local row)) p.routes (λ r k. declared_links p r.symmetrical (route_local r) k)
     (each_from R p.routes (λ k d few. (kept.routes k d few).links)))
     (each_flat G Z (λ row. row_locals (link_ends p.links) row.symmetrical (zone_route_local row)) p.zone_routes (λ r k. declared_links p r.symmetrical (zone_route_local r) k)
@@ -78,7 +80,7 @@ full_links : (p : Platform) → IsPlatform p → (pair : Pair) (o : Option Local
 full_links p kept pair None w found is = absurd (cc)
 full_links p kept pair (Some l) w found is =
     let e : l.links ≡ w.links = cc in
-    let r = each_found (λ l. Good p l.links) (λ x. child_pair_eq pair x.pair) (roads_of p).locals l found (locals_links p kept) in
+    let r = each_found (λ l. Good p l.links) (λ x. child_eq pair.from x.pair.from && child_eq pair.to x.pair.to) (roads_of p).locals l found (locals_links p kept) in
     let P : List LinkId → Type 0 = Good p in
     subst P e r.0
 
@@ -105,7 +107,7 @@ steps_links p kept =
     one : (from to : Child) (links : List LinkId) → Good p links → Each (λ (r : PathRoute). Good p r.links) (path_routes_between (zone_tree p) from to links)
     one (Zone a) to links good = tt
     one (Point a) (Zone b) links good = tt
-    one (Point a) (Point b) links good = go (is_dijkstra (routing_in (zone_tree p) (home (zone_tree p) a)))
+    one (Point a) (Point b) links good = go (is_routing Dijkstra (routing_in (zone_tree p) (home (zone_tree p) a)))
       where
         go : (t : Bool) → Each (λ (r : PathRoute). Good p r.links) (cond t (record { from = a.0; to = b.0; links = links } ∷ []) [])
         go true = (good, tt)
@@ -210,7 +212,7 @@ loop_good p kept Full a = go (declared_route (roads_of p).locals (record { from 
     go None e = let n = link_ends_count p.links in record { some = omega arith; each = (omega arith, tt) }
     go (Some l) e =
         let pair : Pair = record { from = Point a; to = Point a } in
-        (each_found (λ l. Good p l.links) (λ x. child_pair_eq pair x.pair) (roads_of p).locals l e (locals_links p kept)).0
+        (each_found (λ l. Good p l.links) (λ x. child_eq pair.from x.pair.from && child_eq pair.to x.pair.to) (roads_of p).locals l e (locals_links p kept)).0
 
 whole_good : (p : Platform) → IsPlatform p → (a b : PointId) → WayGood p (whole_way (roads_of p) a b)
 unfolding whole_way

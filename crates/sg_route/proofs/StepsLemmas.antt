@@ -1,4 +1,6 @@
 -- Steps join points that there are.
+use Rattle.sg_rows.specs.declared.rows.Routing.TheVariants.{Dijkstra}
+use Rattle.std.specs.List.{flat_map}
 use Rattle.std.proofs.Common.{◌≡◌, ◌+◌, ◌<◌, Bool, true, false, cond, List, [], ◌∷◌, length, length-append, arith}
 use Rattle.std.specs.Prelude.{All, map}
 use Rattle.std.proofs.lemmas.List.{length-map}
@@ -13,14 +15,14 @@ use Rattle.sg_rows.specs.declared.rows.HostRow.{HostRow}
 use Rattle.sg_rows.specs.declared.rows.RouteRow.{RouteRow}
 use Rattle.sg_rows.specs.declared.rows.RouterRow.{RouterRow}
 use Rattle.sg_rows.specs.declared.rows.ZoneRouteRow.{ZoneRouteRow}
-use Rattle.sg_route.specs.Local.{row_locals, route_local, routes_declared, zone_route_local, zone_routes_declared}
+use Rattle.sg_route.specs.Local.{row_locals, route_local, zone_route_local}
 use Rattle.sg_route.specs.Roads.{roads_of}
 use Rattle.sg_route.specs.PathRoutes.{path_routes_between, path_routes}
 use Rattle.sg_route.specs.declared.locals.Local.{Local}
 use Rattle.sg_route.specs.declared.locals.Pair.{Pair}
 use Rattle.sg_route.proofs.Each.{each_all, each_flat, each_from}
 use Rattle.sg_zones.proofs.Each.{Each, each_append}
-use Rattle.sg_zones.specs.Faults.{is_dijkstra}
+use Rattle.sg_zones.specs.Faults.{is_routing}
 use Rattle.sg_zones.specs.Tree.{home, routing_in, zone_tree}
 
 -- both children are there
@@ -37,7 +39,8 @@ locals_join p kept =
     let J : Local → Type 0 = λ l. Joins p l.pair in
     let R : RouteRow → Type 0 = λ r. Joins p (route_local r).pair in
     let Z : ZoneRouteRow → Type 0 = λ r. Joins p (zone_route_local r).pair in
-    each_append J (routes_declared (link_ends p.links) p.routes) (zone_routes_declared (link_ends p.links) p.zone_routes)
+    each_append J (flat_map (λ row. row_locals (link_ends p.links) row.symmetrical (route_local row)) p.routes)
+    (flat_map (λ row. row_locals (link_ends p.links) row.symmetrical (zone_route_local row)) p.zone_routes)
     (each_flat J R (λ row. row_locals (link_ends p.links) row.symmetrical (route_local row)) p.routes (λ r k. declared_joins p r.symmetrical (route_local r) k)
     (each_from R p.routes (λ k d few. let r = kept.routes k d few in record { from = r.src; to = r.dst })))
     (each_flat J Z (λ row. row_locals (link_ends p.links) row.symmetrical (zone_route_local row)) p.zone_routes (λ r k. declared_joins p r.symmetrical (zone_route_local r) k)
@@ -53,7 +56,7 @@ steps_join p kept =
     one : (from to : Child) (links : List LinkId) → IsChild (counts_of p) from → IsChild (counts_of p) to → Each (IsWithin p) (path_routes_between (zone_tree p) from to links)
     one (Zone a) to links f t = tt
     one (Point a) (Zone b) links f t = tt
-    one (Point a) (Point b) links f t = go (is_dijkstra (routing_in (zone_tree p) (home (zone_tree p) a)))
+    one (Point a) (Point b) links f t = go (is_routing Dijkstra (routing_in (zone_tree p) (home (zone_tree p) a)))
       where
         go : (t : Bool) → Each (IsWithin p) (cond t (record { from = a.0; to = b.0; links = links } ∷ []) [])
         go true = ((f, t), tt)

@@ -1,5 +1,6 @@
 -- The lowest zone that holds two points.
-use Rattle.std.specs.Prelude.{◌==◌, if◌then◌else◌, List, [], ◌∷◌}
+use Rattle.std.specs.Prelude.{◌==◌, if◌then◌else◌, List, ◌∷◌, slice_get}
+use Rattle.std.specs.Option.{option_map_or}
 use Rattle.sg_base.specs.declared.ids.ZoneId.{ZoneId}
 use Rattle.sg_base.specs.declared.ids.PointId.{PointId}
 use Rattle.sg_base.specs.declared.ids.Child.{Child}
@@ -8,8 +9,7 @@ use Rattle.sg_route.specs.declared.leg.Leg.{Leg}
 
 -- the first zone of what is left of a path, or the point itself
 abbrev pub child_towards : PointId → List ZoneId → Child
-child_towards point [] = Point point
-child_towards point (zone ∷ rest) = Zone zone
+child_towards point rest = option_map_or Zone (slice_get rest 0) (Point point)
 
 -- Both paths are followed down from the root as long as they agree: the last zone on both is the lowest that holds both
 -- points, and the next steps are its children that hold them.

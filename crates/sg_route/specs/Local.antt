@@ -1,6 +1,5 @@
 -- Local routes: those that rows declare, and their reverse routes.
-use Rattle.std.specs.Prelude.{Bool, if◌then◌else◌, Option, List, [], ◌∷◌, ◌++◌, find}
-use Rattle.std.specs.List.{flat_map}
+use Rattle.std.specs.Prelude.{◌&&◌, Bool, if◌then◌else◌, Option, List, [], ◌∷◌, find}
 use Rattle.sg_base.specs.declared.ids.Child.{Child}
 use Rattle.sg_base.specs.declared.ids.Child.TheVariants.{Point}
 use Rattle.sg_rows.specs.Ends.{way_back}
@@ -10,7 +9,7 @@ use Rattle.sg_rows.specs.declared.rows.SpokeRow.{SpokeRow}
 use Rattle.sg_rows.specs.declared.rows.ZoneRouteRow.{ZoneRouteRow}
 use Rattle.sg_route.specs.declared.locals.Local.{Local}
 use Rattle.sg_route.specs.declared.locals.Pair.{Pair}
-use Rattle.sg_route.specs.Equal.{child_eq, child_pair_eq}
+use Rattle.sg_route.specs.Equal.{child_eq}
 
 -- the local route between two points that a row declares, which are its own gateways
 abbrev pub route_local : RouteRow → Local
@@ -28,21 +27,9 @@ local_back ends l = record { pair = record { from = l.pair.to; to = l.pair.from 
 abbrev pub row_locals : List LinkEnd → Bool → Local → List Local
 row_locals ends symmetrical l = if symmetrical then l ∷ (local_back ends l ∷ []) else l ∷ []
 
--- the local routes between points that rows declare, each with its reverse after it if it is symmetrical
-abbrev pub routes_declared : List LinkEnd → List RouteRow → List Local
-routes_declared ends rows = flat_map (λ row. row_locals ends row.symmetrical (route_local row)) rows
-
--- the local routes that zone_routes declare, each with its reverse after it if it is symmetrical
-abbrev pub zone_routes_declared : List LinkEnd → List ZoneRouteRow → List Local
-zone_routes_declared ends rows = flat_map (λ row. row_locals ends row.symmetrical (zone_route_local row)) rows
-
--- all local routes that rows declare, in the order of the rows
-abbrev pub locals_of : List LinkEnd → List RouteRow → List ZoneRouteRow → List Local
-locals_of ends routes zone_routes = routes_declared ends routes ++ zone_routes_declared ends zone_routes
-
 -- the first local route of a pair
 abbrev pub declared_route : List Local → Pair → Option Local
-declared_route locals pair = find (λ l. child_pair_eq pair l.pair) locals
+declared_route locals pair = find (λ l. child_eq pair.from l.pair.from && child_eq pair.to l.pair.to) locals
 
 -- the first spoke of a child
 abbrev pub spoke_at : List SpokeRow → Child → Option SpokeRow

@@ -1,6 +1,7 @@
 //! A router from the rows of a platform.
 ghost use Rattle.std.specs.Prelude.{◌≡◌, ◌++◌, IfOk, OnOk};
-ghost use Rattle.sg_route.specs.Local.{local_back, row_locals, routes_declared, zone_routes_declared, locals_of};
+ghost use Rattle.std.specs.List.{flat_map};
+ghost use Rattle.sg_route.specs.Local.{local_back, route_local, row_locals, zone_route_local};
 ghost use Rattle.sg_route.specs.Roads.{roads_of};
 ghost use Rattle.sg_route.specs.PathRoutes.{net_of, path_routes_between, path_routes};
 ghost use Rattle.sg_zones.specs.Tree.{zone_tree};
@@ -68,7 +69,8 @@ fn add_routes(
     locals: &mut Vec<Local>,
 ) -> Result<(), Memory>
     ensures { OnOk result
-        (locals.new.items ≡ locals.old.items ++ routes_declared ends.now rows.now) }
+        (locals.new.items ≡ locals.old.items
+        ++ flat_map (λ row. row_locals ends.now row.symmetrical (route_local row)) rows.now) }
 {
     for row in rows {
         let local = Local {
@@ -93,7 +95,8 @@ fn add_zone_routes(
     locals: &mut Vec<Local>,
 ) -> Result<(), Memory>
     ensures { OnOk result
-        (locals.new.items ≡ locals.old.items ++ zone_routes_declared ends.now rows.now) }
+        (locals.new.items ≡ locals.old.items
+        ++ flat_map (λ row. row_locals ends.now row.symmetrical (zone_route_local row)) rows.now) }
 {
     for row in rows {
         let local = Local {
@@ -117,7 +120,10 @@ fn locals_of(
     routes: &[RouteRow],
     zone_routes: &[ZoneRouteRow],
 ) -> Result<Vec<Local>, Memory>
-    ensures { IfOk result (λ locals. locals.items ≡ locals_of ends.now routes.now zone_routes.now) }
+    ensures { IfOk result (λ locals. locals.items
+        ≡ flat_map (λ row. row_locals ends.now row.symmetrical (route_local row)) routes.now
+        ++ flat_map (λ row. row_locals ends.now row.symmetrical (zone_route_local row))
+        zone_routes.now) }
 {
     let mut locals = Vec::new(alloc);
     add_routes(alloc, ends, routes, &mut locals)?;

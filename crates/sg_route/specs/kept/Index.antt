@@ -9,7 +9,7 @@ use Rattle.sg_rows.specs.declared.rows.SpokeRow.{SpokeRow}
 use Rattle.sg_route.specs.declared.locals.Local.{Local}
 use Rattle.sg_route.specs.declared.locals.Pair.{Pair}
 use Rattle.sg_route.specs.declared.spokes.RowsByChild.{RowsByChild}
-use Rattle.sg_route.specs.Equal.{child_eq, child_pair_eq}
+use Rattle.sg_route.specs.Equal.{child_eq}
 
 -- of a child whether it is a zone, and its number
 abbrev pub ChildKey : Type 0
@@ -30,7 +30,7 @@ pair_key_eq a b = child_key_eq a.0 b.0 && child_key_eq a.1 b.1
 
 -- of each pair the first row, if the rows are numbered from this number on
 abbrev pub PairsFrom : {S : Type 0} → ℕ → HashMap (ChildKey × ChildKey) ℕ S → List Local → Type 0
-PairsFrom first at rows = (pair : Pair) → get pair_key_eq at (pair_key pair) ≡ position_from (λ l. child_pair_eq pair l.pair) first rows
+PairsFrom first at rows = (pair : Pair) → get pair_key_eq at (pair_key pair) ≡ position_from (λ l. child_eq pair.from l.pair.from && child_eq pair.to l.pair.to) first rows
 
 abbrev pub IsIndexOfPairs : {S : Type 0} → HashMap (ChildKey × ChildKey) ℕ S → List Local → Type 0
 IsIndexOfPairs at rows = PairsFrom 0 at rows
