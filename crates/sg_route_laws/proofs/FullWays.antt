@@ -1,12 +1,12 @@
 -- The routes that a Full zone declares.
 use Rattle.std.proofs.Common.{◌≡◌, true, Some, refl, sym, ◌∙◌, ap, subst, arith}
-use Rattle.std.specs.Prelude.{◌==◌}
+use Rattle.std.specs.Prelude.{◌==◌, ◌&&◌}
 use Rattle.std.proofs.lemmas.Bool.Decides.{nat_tests}
 use Rattle.sg_base.specs.declared.ids.Child.{Child}
 use Rattle.sg_base.specs.declared.ids.Child.TheVariants.{Point}
 use Rattle.sg_base.specs.declared.ids.PointId.{PointId}
 use Rattle.sg_rows.specs.Platform.{Platform}
-use Rattle.sg_route.specs.Equal.{child_pair_eq}
+use Rattle.sg_route.specs.Equal.{child_eq}
 use Rattle.sg_route.specs.Local.{declared_route}
 use Rattle.sg_route.specs.Roads.{Roads, roads_of}
 use Rattle.sg_route.specs.Route.{Passage, leg, passage, passage_on, way}
@@ -30,7 +30,7 @@ record StandsIn (p : Platform) (from to : Child) (l : Local) : Type 0 where
 stands_in : (p : Platform) → IsGood p → (from to : Child) (l : Local) → declared_route (roads_of p).locals (record { from = from; to = to }) ≡ Some l → StandsIn p from to l
 stands_in p good from to l found =
     let pair : Pair = record { from = from; to = to } in
-    let r = each_found (GoodLocal p) (λ x. child_pair_eq pair x.pair) (roads_of p).locals l found good.locals in
+    let r = each_found (GoodLocal p) (λ x. child_eq pair.from x.pair.from && child_eq pair.to x.pair.to) (roads_of p).locals l found good.locals in
     let same : l.pair ≡ pair = sym (pair_eq_true pair l.pair r.1) in
     let S : Pair → Type 0 = λ x. Stands p x.from l.start in
     let E : Pair → Type 0 = λ x. Stands p x.to l.end in

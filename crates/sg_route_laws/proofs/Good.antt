@@ -1,4 +1,5 @@
 -- A platform without zone faults has nested routes.
+use Rattle.std.specs.List.{flat_map}
 use Rattle.std.proofs.Common.{◌≡◌, ◌≢◌, ◌+◌, ◌<◌, ◌≤◌, ℕ, suc, Bool, true, false, cond, List, [], ◌∷◌, length, length-append, take, get_or, Option, None, Some, arith, refl, sym, ◌∙◌, ap, subst}
 use Rattle.std.specs.Prelude.{◌==◌, ◌&&◌, map, not}
 use Rattle.std.specs.Option.{option_map, option_or}
@@ -15,7 +16,7 @@ use Rattle.sg_rows.specs.declared.rows.Routing.{Routing}
 use Rattle.sg_rows.specs.declared.rows.Routing.TheVariants.{Full, Star, Dijkstra}
 use Rattle.sg_rows.specs.declared.rows.SpokeRow.{SpokeRow}
 use Rattle.sg_rows.specs.declared.rows.ZoneRow.{ZoneRow}
-use Rattle.sg_route.specs.Equal.{child_eq, child_pair_eq}
+use Rattle.sg_route.specs.Equal.{child_eq}
 use Rattle.sg_route.specs.Local as local
 use Rattle.sg_route.specs.Local.{row_locals, declared_route, route_local, zone_route_local}
 use Rattle.sg_route.specs.Roads.{Roads, roads_of}
@@ -61,7 +62,7 @@ both_true true true h = (refl, refl)
 both_true true false h = absurd (cc)
 both_true false b h = absurd (cc)
 
-pub pair_eq_true : (a b : Pair) → child_pair_eq a b ≡ true → a ≡ b
+pub pair_eq_true : (a b : Pair) → (child_eq a.from b.from && child_eq a.to b.to) ≡ true → a ≡ b
 pair_eq_true a b same =
     let both = both_true (child_eq a.from b.from) (child_eq a.to b.to) same in
     let e : a.from ≡ b.from = child_eq_true a.from b.from both.0 in
@@ -119,7 +120,8 @@ locals_good p kept none =
       start = record { held = not_false _ (not_told _ _ two.0); exists = omega (arith, n, s.gw_src) };
       end = record { held = not_false _ (not_told _ _ two.1); exists = omega (arith, n, s.gw_dst) };
     }) in
-    each_append (GoodLocal p) (local.routes_declared (link_ends p.links) p.routes) (local.zone_routes_declared (link_ends p.links) p.zone_routes)
+    each_append (GoodLocal p) (flat_map (λ row. row_locals (link_ends p.links) row.symmetrical (route_local row)) p.routes)
+    (flat_map (λ row. row_locals (link_ends p.links) row.symmetrical (zone_route_local row)) p.zone_routes)
     (each_flat (GoodLocal p) (λ r. GoodLocal p (route_local r)) (λ row. row_locals (link_ends p.links) row.symmetrical (route_local row)) p.routes
     (λ r g. declared_good p (link_ends p.links) r.symmetrical (route_local r) g) points)
     (each_flat (GoodLocal p) (λ r. GoodLocal p (zone_route_local r)) (λ row. row_locals (link_ends p.links) row.symmetrical (zone_route_local row)) p.zone_routes
@@ -145,7 +147,7 @@ full_good : (p : Platform) (from to : Child) (way : Passage) (o : Option Local) 
 full_good p from to way None found each is = absurd (cc)
 full_good p from to way (Some l) found each is =
     let pair : Pair = record { from = from; to = to } in
-    let r = each_found (GoodLocal p) (λ x. child_pair_eq pair x.pair) (roads_of p).locals l found each in
+    let r = each_found (GoodLocal p) (λ x. child_eq pair.from x.pair.from && child_eq pair.to x.pair.to) (roads_of p).locals l found each in
     let same : pair ≡ l.pair = pair_eq_true pair l.pair r.1 in
     let f : l.pair.from ≡ from = ap (λ q. q.from) (sym same) in
     let t : l.pair.to ≡ to = ap (λ q. q.to) (sym same) in
