@@ -94,8 +94,8 @@ fn set(fields: &mut Fields, target: ActorId, on: bool)
 /// Suspends the named actor: it takes no turns, and computes nothing, until it is resumed.
 pub(crate) fn suspend(fields: &mut Fields, actor: ActorId, target: ActorId)
     requires { CanMake fields.old actor.0 (Call.Suspend target) }
-    ensures { Answers
-        (λ core. at_once actor.0 (Call.Suspend target) 0 Answer.Done (suspended_to true target core))
+    ensures { Answers (λ core.
+        at_once actor.0 (Call.Suspend target) 0 Answer.Done (suspended_to true target core))
         fields.old fields.new }
 {
     set(fields, target, true);
@@ -105,8 +105,8 @@ pub(crate) fn suspend(fields: &mut Fields, actor: ActorId, target: ActorId)
 /// Resumes the named actor: it takes turns again, and its suspended execution continues.
 pub(crate) fn resume(fields: &mut Fields, actor: ActorId, target: ActorId)
     requires { CanMake fields.old actor.0 (Call.Resume target) }
-    ensures { Answers
-        (λ core. at_once actor.0 (Call.Resume target) 0 Answer.Done (suspended_to false target core))
+    ensures { Answers (λ core.
+        at_once actor.0 (Call.Resume target) 0 Answer.Done (suspended_to false target core))
         fields.old fields.new }
 {
     set(fields, target, false);

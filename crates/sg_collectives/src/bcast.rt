@@ -10,8 +10,8 @@ use crate::tree::{Rank, child_count, parent};
 // Returns what a rank sends to its children, the farthest first.
 #[tactic(auto, using(crate::proofs::Places::to_child_at, crate::proofs::Places::to_child_past))]
 fn to_child(bytes: u64, rank: Rank, place: u64) -> Option<Step>
-    ensures { result
-        ≡ slice_get (map (λ child. Send child bytes) (reverse (children rank.number rank.members))) place }
+    ensures { result ≡ slice_get
+        (map (λ child. Send child bytes) (reverse (children rank.number rank.members))) place }
 {
     let count = u64::from(child_count(rank));
     if place >= count {

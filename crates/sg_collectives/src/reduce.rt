@@ -10,7 +10,8 @@ use crate::tree::{Rank, child_count, parent};
 // Returns what a rank sends to its parent.
 #[tactic(auto, using(crate::proofs::Places::to_parent_first, crate::proofs::Places::to_parent_behind, crate::proofs::Places::to_parent_none))]
 fn to_parent(bytes: u64, rank: u32, place: u64) -> Option<Step>
-    ensures { result ≡ slice_get (if nat_lt 0 rank then Send (parent_rank rank) bytes ∷ [] else []) place }
+    ensures { result
+        ≡ slice_get (if nat_lt 0 rank then Send (parent_rank rank) bytes ∷ [] else []) place }
 {
     if rank > 0 && place == 0 {
         Some(Step::Send(parent(rank), bytes))

@@ -50,7 +50,8 @@ fn exponent_of(number: &Number) -> u32
 
 fn power_of(number: &Number) -> u32
     requires { HasFewDigits number.now }
-    ensures { result ≡ if number.now.is_negative then 0 else digits_value 10 number.now.exponent.now }
+    ensures { result
+        ≡ if number.now.is_negative then 0 else digits_value 10 number.now.exponent.now }
 {
     if number.is_negative {
         0

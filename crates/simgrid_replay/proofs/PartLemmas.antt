@@ -2,8 +2,9 @@
 use Rattle.std.proofs.Common.{◌≡◌, ◌<◌, ◌≤◌, ◌∙◌, sym, ap, ap₂, subst, refl, ℕ, Bool, List, [], length, Option, Some, None, true, false, Result, Ok, arith}
 use Rattle.std.proofs.Common as C
 use Rattle.std.proofs.lemmas.Bool.Decides.{nat_tests}
-use Rattle.std.specs.Prelude.{IfSome}
-use Rattle.sg_edge.specs.Files.{PartView, IsNamed, TakesUpTo, before}
+use Rattle.std.specs.Prelude.{◌≢◌, IfSome}
+use Rattle.std.specs.Result.{result_map_both}
+use Rattle.sg_edge.specs.Files.{PartView, IsNamed, Only, TakesUpTo, before}
 use Rattle.sg_edge.specs.Sources.{Source}
 use Rattle.sg_edge.specs.declared.files.Part.{Part}
 use Rattle.sg_edge.specs.declared.files.Part.TheVariants as part
@@ -14,7 +15,7 @@ use Rattle.sg_rows.specs.Deployment.{Deployed}
 use Rattle.sg_platform.specs.DeploymentOf.{deployment_of}
 use Rattle.sg_rows.specs.Platform.{Platform}
 use Rattle.sg_platform.specs.PlatformOf.{platform_of, too_long}
-use Rattle.simgrid_replay.specs.Settings.{platform_given, deployment_given, or_platform_fault, or_deployment_fault, if_fitting, on_platform, fitting, Setting}
+use Rattle.simgrid_replay.specs.Settings.{platform_given, deployment_given, or_platform_fault, unless_refused, on_platform, fitting, Setting}
 use Rattle.simgrid_replay.specs.kept.Setups.{setting_in}
 use Rattle.simgrid_replay.specs.declared.refusal.Refusal.{Refusal}
 use Rattle.simgrid_replay.specs.declared.refusal.Refusal.TheVariants as refusal
@@ -23,7 +24,7 @@ use Rattle.simgrid_replay.specs.declared.refusal.Refusal.TheVariants as refusal
 pub platform_whole : (source : Source) (bytes : List ℕ) → (source.bytes ≡ bytes) × (source.broken ≡ false) × (length bytes ≤ 16777216) → or_platform_fault (platform_of bytes) ≡ platform_given source
 platform_whole source bytes loaded = rw (loaded.0, loaded.1) (grind (arith, nat_tests))
 
-pub deployment_whole : (source : Source) (bytes : List ℕ) (p : Platform) → (source.bytes ≡ bytes) × (source.broken ≡ false) × (length bytes ≤ 16777216) → or_deployment_fault (deployment_of bytes p) ≡ deployment_given p source
+pub deployment_whole : (source : Source) (bytes : List ℕ) (p : Platform) → (source.bytes ≡ bytes) × (source.broken ≡ false) × (length bytes ≤ 16777216) → result_map_both (λ deployed. deployed) refusal.Deployment (deployment_of bytes p) ≡ deployment_given p source
 deployment_whole source bytes p loaded = rw (loaded.0, loaded.1) (grind (arith, nat_tests))
 
 -- a text over the limit is refused as a whole
@@ -47,11 +48,11 @@ deployment_too_long source p long =
 
 -- what is deployed suits its run, so it is the setting
 pub settled_on : (p q : Platform) (script : Bool) (contexts : ℕ) (d : Source) (deployed fit : Deployed) (setup : Setup) → q ≡ p → Ok deployed ≡ deployment_given q d → Ok fit ≡ fitting script contexts deployed →
-    setup.platform ≡ p → setup.deployment ≡ fit → on_platform p (if_fitting script contexts (deployment_given p d)) ≡ Ok (setting_in setup)
+    setup.platform ≡ p → setup.deployment ≡ fit → on_platform p (unless_refused (fitting script contexts) (deployment_given p d)) ≡ Ok (setting_in setup)
 settled_on p q script contexts d deployed fit setup same is suits on with =
     let known : deployment_given p d ≡ Ok deployed = ap (λ (x : Platform). deployment_given x d) (sym same) ∙ sym is in
     let made : Platform → Deployed → Result Setting Refusal = λ a b. Ok (record { platform = a; deployment = b }) in
-    ap (λ (r : Result Deployed Refusal). on_platform p (if_fitting script contexts r)) known ∙ ap (on_platform p) (sym suits) ∙ ap₂ made (sym on) (sym with)
+    ap (λ (r : Result Deployed Refusal). on_platform p (unless_refused (fitting script contexts) r)) known ∙ ap (on_platform p) (sym suits) ∙ ap₂ made (sym on) (sym with)
 
 -- a part that has no name is named as one likes
 pub nameless : (name : List ℕ) (view : PartView) → view.name ≡ None → IsNamed name view
@@ -64,6 +65,19 @@ takes_none most old new same = subst (λ (v : PartView). TakesUpTo most old v) (
     before-nil : (left : Option (List ℕ)) → before [] left ≡ left
     before-nil None = refl
     before-nil (Some rest) = refl
+
+-- the platform and the deployment are the parts that aren't the script
+pub bounded_parts : (most : ℕ) (old new : Part → PartView) → TakesUpTo most (old part.Platform) (new part.Platform) → TakesUpTo most (old part.Deployment) (new part.Deployment)
+    → (which : Part) → which ≢ part.Script → TakesUpTo most (old which) (new which)
+bounded_parts most old new p d part.Platform other = p
+bounded_parts most old new p d part.Deployment other = d
+bounded_parts most old new p d part.Script other = absurd (other refl)
+
+-- nothing was done after the platform
+pub only_platform : (old new : Part → PartView) → new part.Deployment ≡ old part.Deployment → new part.Script ≡ old part.Script → Only part.Platform old new
+only_platform old new d s part.Platform other = absurd (other refl)
+only_platform old new d s part.Deployment other = d
+only_platform old new d s part.Script other = s
 
 pub nameless_by : (request : Request) (part : Part) (view : PartView) → view.name ≡ None → IsNamedBy request part view
 nameless_by request part view is = by_name (source_name request part)

@@ -20,19 +20,20 @@ use Rattle.sg_engine.specs.declared.show.Show.{Show}
 use Rattle.sg_engine.specs.Output.{Output, run_output}
 use Rattle.simgrid_replay.specs.declared.refusal.Refusal.{Refusal}
 use Rattle.simgrid_replay.specs.declared.refusal.Refusal.TheVariants as R
-use Rattle.simgrid_replay.specs.Outcome.{Outcome, IsWhole, Prints, cuts_output_short, is_refusal, of_run, run_on, or_refused, status_of, one_text, refusal_outcome}
-use Rattle.std.specs.Prelude.{IsErr, MatchBool}
+use Rattle.simgrid_replay.specs.Outcome.{Outcome, IsWhole, Prints, cuts_output_short, is_refusal, of_run, or_refused, status_of, one_text, refusal_outcome}
+use Rattle.std.specs.Prelude.{IfOk, IsErr, IsTrue, MatchBool, MatchResult}
 use Rattle.std.proofs.lemmas.List.{length-drop}
-use Rattle.simgrid_replay.specs.Contexts.{TakesContexts, TakesFirst, starts_in}
+use Rattle.simgrid_replay.specs.Contexts.{TakesContexts, TakesFirst}
 use Rattle.sg_edge.specs.declared.files.Part.{Part}
 use Rattle.sg_edge.specs.declared.files.Part.TheVariants.{Platform, Deployment, Script}
 use Rattle.sg_words.specs.CommandLine as line
 use Rattle.sg_words.specs.CommandLine.{Asked, Request}
-use Rattle.simgrid_replay.specs.PartSources.{TextsGive, ScriptGives}
+use Rattle.simgrid_replay.specs.PartSources.{TextsGive}
 use Rattle.simgrid_replay.specs.kept.Reading.{LeavesContexts, PlatformDecides}
 use Rattle.simgrid_replay.specs.PartOrder.{IsTextBroken, SparesRest, StopsOnDemand}
 use Rattle.simgrid_replay.specs.Settings.{Setting, platform_given}
 use Rattle.sg_engine.specs.declared.setup.Setup.{Setup}
+use Rattle.sg_rows.specs.Deployment.{started_number}
 use Rattle.sg_rows.specs.Platform.{Platform as Loaded}
 use Rattle.simgrid_replay.specs.Requests.{has_parts, has_script, show_of}
 
@@ -150,7 +151,7 @@ pub run_prints_on : (job : Asked) (contexts : ℕ) (on : Setting) (script : Bool
     script ≡ has_script job.request → budget ≡ job.budget → show ≡ show_of job.request job.quiet → code ≡ status_of how →
     Ends (run_output on.platform on.deployment script budget contexts show source).out (run_output on.platform on.deployment script budget contexts show source).err
     (run_output on.platform on.deployment script budget contexts show source).ended how old new →
-    Prints (run_on job contexts source on) code old new
+    Prints (or_refused job contexts source (Ok on)) code old new
 run_prints_on job contexts on script budget show source how code old new scripted counted shown is ends =
     subst (λ (o : Output). Prints (of_run o) code old new) (as_job job contexts on script budget show source scripted counted shown)
     (run_prints (run_output on.platform on.deployment script budget contexts show source) how code old new is ends)
@@ -172,7 +173,7 @@ cut_as E.Memory = refl
 pub run_leaves_on : (job : Asked) (contexts : ℕ) (on : Setting) (script : Bool) (budget : ℕ) (show : Show) (source : Source) (how : Ended) (code : Status) (crew left : ℕ) →
     script ≡ has_script job.request → budget ≡ job.budget → show ≡ show_of job.request job.quiet → code ≡ status_of how →
     RunTakes (run_output on.platform on.deployment script budget contexts show source).contexts how crew left →
-    LeavesContexts (run_on job contexts source on).contexts code crew left
+    LeavesContexts (or_refused job contexts source (Ok on)).contexts code crew left
 run_leaves_on job contexts on script budget show source how code crew left scripted counted shown is leaves =
     subst (λ (o : Output). LeavesContexts o.contexts code crew left) (as_job job contexts on script budget show source scripted counted shown)
     (subst (λ (cut : Bool). MatchBool cut (crew ≤ left + (run_output on.platform on.deployment script budget contexts show source).contexts) (crew ≡ left + (run_output on.platform on.deployment script budget contexts show source).contexts))
@@ -181,24 +182,24 @@ run_leaves_on job contexts on script budget show source how code crew left scrip
 -- the same of the work
 pub run_counts_on : (job : Asked) (contexts : ℕ) (on : Setting) (script : Bool) (budget : ℕ) (show : Show) (source : Source) (start count : ℕ) →
     script ≡ has_script job.request → budget ≡ job.budget → show ≡ show_of job.request job.quiet →
-    count ≤ start + (run_output on.platform on.deployment script budget contexts show source).work → count ≤ start + (run_on job contexts source on).work
+    count ≤ start + (run_output on.platform on.deployment script budget contexts show source).work → count ≤ start + (or_refused job contexts source (Ok on)).work
 run_counts_on job contexts on script budget show source start count scripted counted shown work =
     subst (λ (o : Output). count ≤ start + o.work) (as_job job contexts on script budget show source scripted counted shown) work
 
 -- and of what is taken of the script
 pub run_needs_on : (job : Asked) (contexts : ℕ) (on : Setting) (script : Bool) (budget : ℕ) (show : Show) (source : Source) (old mid new : PartView) →
     script ≡ has_script job.request → budget ≡ job.budget → show ≡ show_of job.request job.quiet → mid.left ≡ old.left →
-    TakesUpTo ((run_output on.platform on.deployment script budget contexts show source).need + 4095) mid new → TakesUpTo ((run_on job contexts source on).need + 4095) old new
+    TakesUpTo ((run_output on.platform on.deployment script budget contexts show source).need + 4095) mid new → TakesUpTo ((or_refused job contexts source (Ok on)).need + 4095) old new
 run_needs_on job contexts on script budget show source old mid new scripted counted shown left takes =
-    let all : TakesUpTo ((run_on job contexts source on).need + 4095) mid new = subst (λ (o : Output). TakesUpTo (o.need + 4095) mid new) (as_job job contexts on script budget show source scripted counted shown) takes in
+    let all : TakesUpTo ((or_refused job contexts source (Ok on)).need + 4095) mid new = subst (λ (o : Output). TakesUpTo (o.need + 4095) mid new) (as_job job contexts on script budget show source scripted counted shown) takes in
     record { bytes = all.bytes; left = sym left ∙ all.left; few = all.few }
 
 -- of a script that was begun and read by a run no read met the end or failed if what was taken is enough
 pub run_stops_on : (job : Asked) (contexts : ℕ) (on : Setting) (script : Bool) (budget : ℕ) (show : Show) (old mid new : PartView) →
     script ≡ has_script job.request → budget ≡ job.budget → show ≡ show_of job.request job.quiet → mid.left ≡ old.left → mid.stage ≢ Over →
-    EndsOnDemand (λ source. (run_output on.platform on.deployment script budget contexts show source).need) mid new → StopsOnDemand (λ source. (run_on job contexts source on).need) old new
+    EndsOnDemand (λ source. (run_output on.platform on.deployment script budget contexts show source).need) mid new → StopsOnDemand (λ source. (or_refused job contexts source (Ok on)).need) old new
 run_stops_on job contexts on script budget show old mid new scripted counted shown left unread ends =
-    let same : (taken : List ℕ) → AreEnough (λ source. (run_on job contexts source on).need) taken → AreEnough (λ source. (run_output on.platform on.deployment script budget contexts show source).need) taken =
+    let same : (taken : List ℕ) → AreEnough (λ source. (or_refused job contexts source (Ok on)).need) taken → AreEnough (λ source. (run_output on.platform on.deployment script budget contexts show source).need) taken =
     λ taken enough rest broken. omega (arith, enough rest broken, ap (λ (o : Output). o.need) (as_job job contexts on script budget show (record { bytes = taken ++ rest; broken = broken }) scripted counted shown)) in
     record {
       taken = ends.taken;
@@ -231,13 +232,17 @@ seats_run on how code old new is first = record {
   left = first.left;
 }
 
+pub none_most : (given : Result Setting Refusal) → MatchResult given (λ on. 0 ≤ length on.deployment.actors) (λ why. ◌≡◌ {A = ℕ} 0 0)
+none_most (Ok on) = omega arith
+none_most (C.Err why) = refl
+
 -- if there is no run no actor takes a context
 pub none_taken : {A : Type 0} (given : Result Setting Refusal) (why : Refusal) (how : Status) (crew : List A) →
     (◌≢◌ {A = Result Setting Refusal} (C.Err why) (C.Err R.Memory) → C.Err why ≡ given) → (why ≡ R.Memory → how ≡ S.Memory) → TakesFirst given how crew crew
 none_taken given why how crew known memory = record {
   taken = 0;
-  least = λ some. let same : starts_in given ≡ 0 = ap starts_in (sym (known (λ e. some (memory (cc))))) in omega (arith, same);
-  most = omega (arith);
+  least = λ some. subst (λ (r : Result Setting Refusal). IfOk r (λ on. started_number on.deployment ≤ 0)) (known (λ e. some (memory (cc)))) tt;
+  most = none_most given;
   within = omega (arith);
   left = refl;
 }
@@ -292,27 +297,27 @@ takes_contexts given want how old new first leaves = record {
 
 -- what a run comes to is what the definition says if nothing is refused
 pub setting_prints : (job : Asked) (contexts : ℕ) (s : Source) (given : Result Setting Refusal) (on : Setting) (code : Status) (old new : Stream → Option (List ℕ)) → given ≡ Ok on →
-    Prints (run_on job contexts s on) code old new → Prints (or_refused job contexts s given) code old new
+    Prints (or_refused job contexts s (Ok on)) code old new → Prints (or_refused job contexts s given) code old new
 setting_prints job contexts s given on code old new is prints = subst (λ (r : Result Setting Refusal). Prints (or_refused job contexts s r) code old new) (sym is) prints
 
 pub setting_counts : (job : Asked) (contexts : ℕ) (s : Source) (given : Result Setting Refusal) (on : Setting) (start count : ℕ) → given ≡ Ok on →
-    count ≤ start + (run_on job contexts s on).work → count ≤ start + (or_refused job contexts s given).work
+    count ≤ start + (or_refused job contexts s (Ok on)).work → count ≤ start + (or_refused job contexts s given).work
 setting_counts job contexts s given on start count is work = subst (λ (r : Result Setting Refusal). count ≤ start + (or_refused job contexts s r).work) (sym is) work
 
 pub setting_needs : (job : Asked) (contexts : ℕ) (s : Source) (given : Result Setting Refusal) (on : Setting) (old mid new : PartView) → given ≡ Ok on → mid ≡ old →
-    TakesUpTo ((run_on job contexts s on).need + 4095) mid new → TakesUpTo ((or_refused job contexts s given).need + 4095) old new
+    TakesUpTo ((or_refused job contexts s (Ok on)).need + 4095) mid new → TakesUpTo ((or_refused job contexts s given).need + 4095) old new
 setting_needs job contexts s given on old mid new is same takes =
     subst (λ (v : PartView). TakesUpTo ((or_refused job contexts s given).need + 4095) v new) same
     (subst (λ (r : Result Setting Refusal). TakesUpTo ((or_refused job contexts s r).need + 4095) mid new) (sym is) takes)
 
 pub setting_stops : (job : Asked) (contexts : ℕ) (given : Result Setting Refusal) (on : Setting) (old mid new : PartView) → given ≡ Ok on → mid ≡ old →
-    StopsOnDemand (λ s. (run_on job contexts s on).need) mid new → StopsOnDemand (λ s. (or_refused job contexts s given).need) old new
+    StopsOnDemand (λ s. (or_refused job contexts s (Ok on)).need) mid new → StopsOnDemand (λ s. (or_refused job contexts s given).need) old new
 setting_stops job contexts given on old mid new is same stops =
     subst (λ (v : PartView). StopsOnDemand (λ s. (or_refused job contexts s given).need) v new) same
     (subst (λ (r : Result Setting Refusal). StopsOnDemand (λ s. (or_refused job contexts s r).need) mid new) (sym is) stops)
 
 pub setting_leaves : (job : Asked) (contexts : ℕ) (s : Source) (given : Result Setting Refusal) (on : Setting) (how : Status) (crew left : ℕ) → given ≡ Ok on →
-    LeavesContexts (run_on job contexts s on).contexts how crew left → LeavesContexts (or_refused job contexts s given).contexts how crew left
+    LeavesContexts (or_refused job contexts s (Ok on)).contexts how crew left → LeavesContexts (or_refused job contexts s given).contexts how crew left
 setting_leaves job contexts s given on how crew left is leaves = subst (λ (r : Result Setting Refusal). LeavesContexts (or_refused job contexts s r).contexts how crew left) (sym is) leaves
 
 -- what a run has taken was taken for what was given
@@ -345,7 +350,8 @@ texts_before request old mid new p d same also texts = record {
 }
 
 -- what the script gives from its begin on
-pub script_after : (request : Request) (old mid new : Part → PartView) (s : Source) → mid Script ≡ old Script → ScriptGives request old new s → ScriptGives request mid new s
+pub script_after : (request : Request) (old mid new : Part → PartView) (s : Source) → mid Script ≡ old Script → (IsTrue (has_script request) → Gives (old Script) (new Script) s)
+    → IsTrue (has_script request) → Gives (mid Script) (new Script) s
 script_after request old mid new s same gives = λ has. subst (λ (v : PartView). Gives v (new Script) s) (sym same) (gives has)
 
 -- what is made from numbers has no script

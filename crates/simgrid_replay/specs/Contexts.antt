@@ -1,5 +1,5 @@
 -- Which contexts of its pool a call takes.
-use Rattle.std.specs.Prelude.{◌≡◌, ◌≢◌, ◌≤◌, ℕ, false, List, length, drop, Result, Ok, Err}
+use Rattle.std.specs.Prelude.{◌≡◌, ◌≢◌, ◌≤◌, ℕ, false, List, length, drop, Result, IfOk, MatchResult}
 use Rattle.sg_base.specs.declared.status.Status.{Status}
 use Rattle.sg_base.specs.declared.status.Status.TheVariants as status
 use Rattle.sg_rows.specs.Deployment.{started_number}
@@ -7,22 +7,12 @@ use Rattle.simgrid_replay.specs.Outcome.{Outcome, cuts_output_short}
 use Rattle.simgrid_replay.specs.Settings.{Setting}
 use Rattle.simgrid_replay.specs.declared.refusal.Refusal.{Refusal}
 
--- how many actors begin with a run, none if there is no run
-abbrev pub starts_in : Result Setting Refusal → ℕ
-starts_in (Ok given) = started_number given.deployment
-starts_in (Err why) = 0
-
--- how many actors there are
-abbrev pub actors_in : Result Setting Refusal → ℕ
-actors_in (Ok given) = length given.deployment.actors
-actors_in (Err why) = 0
-
 -- Of the context pool the first contexts were taken: one for each actor that begins with the run, unless memory ran
 -- out, and one at most for each actor; none if there is no run.
 pub record TakesFirst {A : Type 0} (given : Result Setting Refusal) (how : Status) (old new : List A) : Type 0 where
   pub taken : ℕ
-  pub least : how ≢ status.Memory → starts_in given ≤ taken
-  pub most : taken ≤ actors_in given
+  pub least : how ≢ status.Memory → IfOk given (λ on. started_number on.deployment ≤ taken)
+  pub most : MatchResult given (λ on. taken ≤ length on.deployment.actors) (λ why. taken ≡ 0)
   pub within : taken ≤ length old
   pub left : new ≡ drop taken old
 

@@ -1,5 +1,5 @@
 -- What a whole call writes, and its status, by what its three parts gave.
-use Rattle.std.specs.Prelude.{◌≡◌, ℕ, List, [], Option, option_map, Result, Ok, Err, Bool, true, false, MatchBool, codes}
+use Rattle.std.specs.Prelude.{◌≡◌, ℕ, List, [], Option, Result, Ok, Err, Bool, true, false, MatchBool, ◌++◌, codes, decimal}
 use Rattle.sg_base.specs.declared.status.Status.{Status}
 use Rattle.sg_base.specs.declared.status.Status.TheVariants as status
 use Rattle.sg_edge.specs.declared.sinks.Stream.{Stream}
@@ -11,9 +11,8 @@ use Rattle.sg_engine.specs.Gains.{GainsAll, GainsFronts}
 use Rattle.sg_engine.specs.Output.{Output, run_output}
 use Rattle.sg_words.specs.CommandLine.{Asked}
 use Rattle.sg_words.specs.Views.{ErrorKind, IsAmong, IsHelp, Kinds}
-use Rattle.sg_tree.specs.declared.fault.Place.{Place}
 use Rattle.sg_zones.specs.FaultWords.{zone_words, zone_place}
-use Rattle.simgrid_replay.specs.RefusalLines.{fault_words, refusal_line, replay_line, contexts_line}
+use Rattle.simgrid_replay.specs.RefusalLines.{refusal_line, text_line}
 use Rattle.simgrid_replay.specs.Settings.{Setting, setting}
 use Rattle.simgrid_replay.specs.Requests.{has_script, show_of}
 use Rattle.simgrid_replay.specs.declared.refusal.Refusal.{Refusal}
@@ -47,17 +46,15 @@ abbrev pub one_text : Stream → List ℕ → Status → Outcome
 one_text stream.Out text how = record { out = text; err = []; status = how; contexts = 0; work = 0; need = 0 }
 one_text stream.Err text how = record { out = []; err = text; status = how; contexts = 0; work = 0; need = 0 }
 
--- one line on Err, that a part is refused: why, and where
-abbrev pub fault_outcome : List ℕ → List ℕ → Option Place → Status → Outcome
-fault_outcome part words place how = one_text stream.Err (refusal_line part words place) how
-
 -- the outcome of a refused job: its message on Err, empty if out of memory, and its status
 abbrev pub refusal_outcome : Refusal → Outcome
-refusal_outcome (refusal.Platform fault) = fault_outcome (codes "platform") (fault_words fault) (option_map (λ rule. rule.place) fault) status.Platform
-refusal_outcome (refusal.Zones fault) = fault_outcome (codes "platform") (zone_words fault) (zone_place fault) status.Platform
-refusal_outcome (refusal.Deployment fault) = fault_outcome (codes "deployment") (fault_words fault) (option_map (λ rule. rule.place) fault) status.Deployment
-refusal_outcome (refusal.ReplayUnderRun row) = one_text stream.Err (replay_line row) status.Deployment
-refusal_outcome (refusal.TooFewContexts actors contexts) = one_text stream.Err (contexts_line actors contexts) status.Deployment
+refusal_outcome (refusal.Platform fault) = one_text stream.Err (text_line (codes "platform") fault) status.Platform
+refusal_outcome (refusal.Zones fault) = one_text stream.Err (refusal_line (codes "platform") (zone_words fault) (zone_place fault)) status.Platform
+refusal_outcome (refusal.Deployment fault) = one_text stream.Err (text_line (codes "deployment") fault) status.Deployment
+refusal_outcome (refusal.ReplayUnderRun row) =
+    one_text stream.Err (codes "deployment: replay actor under run (row " ++ (decimal row ++ codes ")\n")) status.Deployment
+refusal_outcome (refusal.TooFewContexts actors contexts) = one_text stream.Err
+    (codes "deployment: " ++ (decimal actors ++ (codes " actors, " ++ (decimal contexts ++ codes " contexts\n")))) status.Deployment
 refusal_outcome refusal.ReadPlatform = one_text stream.Err (codes "cannot read the platform\n") status.ReadFault
 refusal_outcome refusal.ReadDeployment = one_text stream.Err (codes "cannot read the deployment\n") status.ReadFault
 refusal_outcome refusal.Memory = one_text stream.Err [] status.Memory
@@ -66,21 +63,16 @@ refusal_outcome refusal.Memory = one_text stream.Err [] status.Memory
 abbrev pub of_run : Output → Outcome
 of_run run = record { out = run.out; err = run.err; status = status_of run.ended; contexts = run.contexts; work = run.work; need = run.need }
 
--- the run of a setting as a job asks for it, with so many contexts, with what its script gives
-abbrev pub run_on : Asked → ℕ → Source → Setting → Outcome
-run_on job contexts script on =
-    of_run (run_output on.platform on.deployment (has_script job.request) job.budget contexts (show_of job.request job.quiet) script)
-
--- the outcome of a run that was set up, or of the first refusal
+-- the outcome of a run that was set up, as the job asks for it and with what its script gives, or of the first refusal
 abbrev pub or_refused : Asked → ℕ → Source → Result Setting Refusal → Outcome
-or_refused job contexts script (Ok on) = run_on job contexts script on
+or_refused job contexts script (Ok on) =
+    of_run (run_output on.platform on.deployment (has_script job.request) job.budget contexts (show_of job.request job.quiet) script)
 or_refused job contexts script (Err why) = refusal_outcome why
 
 -- The outcome of a job with so many contexts, by what the three input streams gave: the platform, the deployment, the
 -- run; the first that ends the call decides.
 abbrev pub outcome : Asked → ℕ → Source → Source → Source → Outcome
-outcome job contexts platform deployment script =
-    or_refused job contexts script (setting job.request contexts platform deployment)
+outcome job contexts p d s = or_refused job contexts s (setting job.request contexts p d)
 
 -- a failed write or running out of memory cuts the call off
 abbrev pub cuts_output_short : Status → Bool

@@ -1,10 +1,10 @@
 -- What the words ask for, and what the parts gave.
 use Rattle.std.specs.Prelude.{◌≡◌, ℕ, List, [], Option, Some, None, IsTrue, IfSome}
-use Rattle.sg_edge.specs.Files.{PartView, IsNamed}
+use Rattle.sg_edge.specs.Files.{PartView}
 use Rattle.sg_edge.specs.Sources.{Source, Gives}
 use Rattle.sg_edge.specs.declared.files.Part.{Part}
 use Rattle.sg_edge.specs.declared.files.Part.TheVariants as part
-use Rattle.sg_words.specs.CommandLine.{Asked, Request, replay, run, churn, asked_of, refusals}
+use Rattle.sg_words.specs.CommandLine.{Asked, Request, replay, run, asked_of, refusals}
 use Rattle.sg_words.specs.Views.{Text, command_view}
 use Rattle.sg_words.specs.declared.job.Job.{Job}
 use Rattle.simgrid_replay.specs.Requests.{has_parts, has_script}
@@ -43,9 +43,8 @@ source_name (replay p d s) part.Deployment = Some d
 source_name (replay p d s) part.Script = Some s
 source_name (run p d) part.Platform = Some p
 source_name (run p d) part.Deployment = Some d
-source_name (run p d) part.Script = None
-source_name (churn seed actors steps) part = None
+source_name request part = None
 
 -- if the name under which the part was begun is known, it is the one that the words have for it
 abbrev pub IsNamedBy : Request → Part → PartView → Type 0
-IsNamedBy request part view = IfSome (source_name request part) (λ name. IsNamed name view)
+IsNamedBy request part view = IfSome (source_name request part) (λ name. IfSome view.name (λ told. told ≡ name))

@@ -16,5 +16,4 @@ has_script other = false
 
 -- what is shown of a run; of a churn a summary
 abbrev pub show_of : Request → Bool → Show
-show_of (churn seed actors steps) quiet = show.Summary
-show_of other quiet = if quiet then show.Quiet else show.All
+show_of request quiet = if has_parts request then (if quiet then show.Quiet else show.All) else show.Summary

@@ -1,9 +1,9 @@
 //! What a churn runs: it is made from three numbers.
-ghost use Rattle.std.specs.Prelude.{◌≡◌, ◌≤◌, false, IfOk, IfErr, length};
-ghost use Rattle.sg_churn.specs.Generated.{platform_of_seed};
+ghost use Rattle.std.specs.Prelude.{◌≡◌, ◌≤◌, false, true, IfOk, IfErr, length};
+ghost use Rattle.sg_churn.specs.Generated.{deployed_of_seed, platform_of_seed};
 ghost use Rattle.sg_words.specs.Ranges.{AreChurnNumbers};
 ghost use Rattle.simgrid_replay.specs.kept.Reading.{IsOfDeployment};
-ghost use Rattle.simgrid_replay.specs.Settings.{churn_setting};
+ghost use Rattle.simgrid_replay.specs.Settings.{fitting, on_platform};
 ghost use Rattle.simgrid_replay.specs.kept.Setups.{IsSetupOf, IsSetupFor};
 
 use crate::fitting::with_contexts;
@@ -44,7 +44,8 @@ pub fn churn_setup(
     contexts: usize,
 ) -> Result<Setup, Refusal>
     requires { AreChurnNumbers seed actors steps }
-    ensures given { IsSetupOf (churn_setting contexts seed actors steps) result }
+    ensures given { IsSetupOf (on_platform (platform_of_seed seed actors)
+        (fitting true contexts (deployed_of_seed seed actors steps))) result }
     ensures fits { IfOk result (IsSetupFor false contexts) }
     ensures refusal { IfErr result IsOfDeployment }
 {

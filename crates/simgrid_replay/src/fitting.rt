@@ -1,9 +1,9 @@
 //! Whether a deployment suits a run.
-ghost use Rattle.std.specs.Prelude.{◌≡◌, ◌≤◌, count_by, position, IfOk, IfErr};
+ghost use Rattle.std.specs.Prelude.{◌≡◌, ◌≤◌, count_by, position, true, IfOk, IfErr};
 ghost use Rattle.sg_calls.specs.Setup.{is_replay as is_replay_spec, replays};
 ghost use Rattle.sg_rows.specs.Deployment.{starts, started_number};
 ghost use Rattle.simgrid_replay.specs.kept.Reading.{IsOfDeployment};
-ghost use Rattle.simgrid_replay.specs.Settings.{fitting as fitting_spec, or_few_contexts};
+ghost use Rattle.simgrid_replay.specs.Settings.{fitting as fitting_spec};
 
 use crate::refusal::Refusal;
 use sg_rows::{ActorRow, Deployment, Function};
@@ -30,7 +30,7 @@ fn started(actors: &[ActorRow]) -> usize
 
 /// Returns the deployment, if there is a context for each actor that begins with the run.
 pub fn with_contexts(deployment: Deployment, contexts: usize) -> Result<Deployment, Refusal>
-    ensures given { result ≡ or_few_contexts contexts deployment }
+    ensures given { result ≡ fitting_spec true contexts deployment }
     ensures same { IfOk result (λ d. (d ≡ deployment) × (started_number d ≤ contexts)) }
     ensures refusal { IfErr result IsOfDeployment }
 {

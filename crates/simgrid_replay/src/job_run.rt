@@ -7,7 +7,7 @@ ghost use Rattle.sg_words.specs.Views.{job_view};
 ghost use Rattle.simgrid_replay.specs.Contexts.{TakesFirst};
 ghost use Rattle.simgrid_replay.specs.PartSources.{request_of, IsNamedBy, ScriptGives};
 ghost use Rattle.simgrid_replay.specs.kept.Reading.{BeginsScript, Broke, ComesTo, IsCallCause};
-ghost use Rattle.simgrid_replay.specs.Outcome.{is_refusal, run_on};
+ghost use Rattle.simgrid_replay.specs.Outcome.{is_refusal, or_refused};
 ghost use Rattle.simgrid_replay.specs.kept.Setups.{setting_in, IsSetupOfJob};
 ghost use Rattle.simgrid_replay.specs.Requests.{has_script, show_of};
 
@@ -88,11 +88,11 @@ pub fn run_job<R: Threads + Sync, F: Files, O: Sinks, L: Ledger>(
     requires fresh { (F.shows files.old Part.Script).stage ≡ Fresh }
     requires blank { All (λ b. mind b ≡ None) crew.old.items }
     requires sound { O.faults out.old ≡ 0 }
-    ensures output { (s : Source) → ScriptGives (request_of on.entry.job.now) (F.shows files.old)
-        (F.shows files.new) s → ComesTo (λ given. run_on (job_view on.entry.job.now)
-        (length crew.old.items) given (setting_in on.entry.setup)) s result (O.contents out.old)
-        (O.contents out.new) (length crew.old.items) (length crew.new.items) steps.old steps.new
-        (F.shows files.old) (F.shows files.new) }
+    ensures output { (s : Source) → ScriptGives (request_of on.entry.job.now)
+        (F.shows files.old) (F.shows files.new) s → ComesTo (λ given. or_refused
+        (job_view on.entry.job.now) (length crew.old.items) given (Ok (setting_in on.entry.setup)))
+        s result (O.contents out.old) (O.contents out.new) (length crew.old.items)
+        (length crew.new.items) steps.old steps.new (F.shows files.old) (F.shows files.new) }
     ensures crew { TakesFirst (Ok (setting_in on.entry.setup)) result crew.old.items
         crew.new.items }
     ensures unrefused { is_refusal result ≡ false }

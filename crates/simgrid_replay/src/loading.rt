@@ -1,5 +1,6 @@
 //! The platform and the deployment, each begun, read whole and judged.
 ghost use Rattle.std.specs.Prelude.{◌≡◌, ◌≢◌, ◌+◌, IfOk, IfErr, IsOk};
+ghost use Rattle.std.specs.Result.{result_map_both};
 ghost use Rattle.sg_edge.specs.declared.files.Stage.TheVariants.{Fresh, Broken};
 ghost use Rattle.sg_edge.specs.Files.{IsNamed, KeepsTelling, Only, TakesUpTo};
 ghost use Rattle.sg_edge.specs.Sources.{Source, Gives};
@@ -7,7 +8,7 @@ ghost use Rattle.sg_rows.specs.Deployment.{IsDeployedOn};
 ghost use Rattle.sg_platform.specs.DeploymentOf.{deployment_of as deployment_of_text};
 ghost use Rattle.sg_platform.specs.PlatformOf.{greatest_text, platform_of as platform_of_text};
 ghost use Rattle.simgrid_replay.specs.kept.Reading.{Broke, IsOfDeployment, IsOfPlatform, IsReadFault};
-ghost use Rattle.simgrid_replay.specs.Settings.{platform_given, deployment_given, or_platform_fault, or_deployment_fault};
+ghost use Rattle.simgrid_replay.specs.Settings.{platform_given, deployment_given, or_platform_fault};
 
 use crate::refusal::Refusal;
 use crate::routed_platform::RoutedPlatform;
@@ -41,7 +42,8 @@ fn platform_of(alloc: Global, text: Vec<u8>) -> Result<RoutedPlatform, Refusal>
 
 fn deployment_of(alloc: Global, text: &[u8], platform: &PlatformText) -> Result<Deployment, Refusal>
     ensures given { result ≢ Err Refusal.Memory
-        → result ≡ or_deployment_fault (deployment_of_text text.now platform.now) }
+        → result ≡ result_map_both (λ deployed. deployed) (λ fault. Refusal.Deployment fault)
+        (deployment_of_text text.now platform.now) }
     ensures deployed { IfOk result (IsDeployedOn platform.now) }
     ensures refusal { IfErr result IsOfDeployment }
 {

@@ -1,7 +1,9 @@
 //! Why a platform or a deployment isn't there, and the lines that report it.
-ghost use Rattle.std.specs.Prelude.{◌≡◌, IfOk, codes, option_map, string_bytes};
+ghost use Rattle.std.specs.Prelude.{◌≡◌, ◌++◌, IfOk, codes, decimal, option_map, string_bytes};
+ghost use Rattle.std.specs.Option.{option_map_or};
+ghost use Rattle.sg_tree.specs.Faults.{kind_words};
 ghost use Rattle.sg_zones.specs.FaultWords.{zone_words, zone_place};
-ghost use Rattle.simgrid_replay.specs.RefusalLines.{fault_words as fault_words_spec, refusal_line as refusal_line_spec, replay_line as replay_line_spec, contexts_line as contexts_line_spec};
+ghost use Rattle.simgrid_replay.specs.RefusalLines.{refusal_line as refusal_line_spec, text_line};
 
 use sg_base::Memory;
 use sg_tree::{Fault, Place};
@@ -51,7 +53,8 @@ fn refusal_line(
 
 /// Returns what is wrong with a text, in words.
 fn fault_words(fault: Option<Fault>) -> &'static str
-    ensures { result.now ≡ fault_words_spec fault }
+    ensures { result.now
+        ≡ option_map_or (λ rule. kind_words rule.kind) fault (codes "not TOML") }
 {
     match fault {
         Some(rule) => rule.kind.words(),
@@ -70,8 +73,7 @@ fn place_of(fault: Option<Fault>) -> Option<Place>
 
 /// Returns the line that reports a platform's fault, with its newline.
 pub fn platform_line(alloc: Global, fault: Option<Fault>) -> Result<String, Memory>
-    ensures { IfOk result (λ line. string_bytes line ≡ refusal_line_spec (codes "platform")
-        (fault_words_spec fault) (option_map (λ rule. rule.place) fault)) }
+    ensures { IfOk result (λ line. string_bytes line ≡ text_line (codes "platform") fault) }
 {
     refusal_line(alloc, "platform", fault_words(fault), place_of(fault))
 }
@@ -86,15 +88,15 @@ pub fn zone_line(alloc: Global, fault: &ZoneFault) -> Result<String, Memory>
 
 /// Returns the line that reports a deployment's fault, with its newline.
 pub fn deployment_line(alloc: Global, fault: Option<Fault>) -> Result<String, Memory>
-    ensures { IfOk result (λ line. string_bytes line ≡ refusal_line_spec (codes "deployment")
-        (fault_words_spec fault) (option_map (λ rule. rule.place) fault)) }
+    ensures { IfOk result (λ line. string_bytes line ≡ text_line (codes "deployment") fault) }
 {
     refusal_line(alloc, "deployment", fault_words(fault), place_of(fault))
 }
 
 /// Returns the line that reports an actor that replays without a script, with its newline.
 pub fn replay_line(alloc: Global, row: u32) -> Result<String, Memory>
-    ensures { IfOk result (λ line. string_bytes line ≡ replay_line_spec row) }
+    ensures { IfOk result (λ line. string_bytes line
+        ≡ codes "deployment: replay actor under run (row " ++ (decimal row ++ codes ")\n")) }
 {
     match format!(in alloc; "deployment: replay actor under run (row {row})\n") {
         Ok(line) => Ok(line),
@@ -104,7 +106,8 @@ pub fn replay_line(alloc: Global, row: u32) -> Result<String, Memory>
 
 /// Returns the line that reports that there are too few contexts, with its newline.
 pub fn contexts_line(alloc: Global, actors: usize, contexts: usize) -> Result<String, Memory>
-    ensures { IfOk result (λ line. string_bytes line ≡ contexts_line_spec actors contexts) }
+    ensures { IfOk result (λ line. string_bytes line ≡ codes "deployment: "
+        ++ (decimal actors ++ (codes " actors, " ++ (decimal contexts ++ codes " contexts\n")))) }
 {
     match format!(in alloc; "deployment: {actors} actors, {contexts} contexts\n") {
         Ok(line) => Ok(line),

@@ -1,9 +1,9 @@
 //! A platform and its routes.
 ghost use Rattle.std.specs.Prelude.{◌≡◌, ◌≢◌};
+ghost use Rattle.std.specs.Result.{result_map_both};
 ghost use Rattle.sg_rows.specs.Deployment.{IsDeployedOn};
 ghost use Rattle.sg_route.specs.Roads.{roads_of};
 ghost use Rattle.sg_zones.specs.Faults.{zones_of};
-ghost use Rattle.simgrid_replay.specs.Settings.{or_zone_fault};
 
 use crate::refusal::Refusal;
 use sg_base::Memory;
@@ -37,8 +37,8 @@ impl RoutedPlatform {
     /// Makes the platform, if its zones have no fault.
     #[tactic(auto, using(crate::proofs::ZoneLemmas::zones_are, crate::proofs::ZoneLemmas::no_zone_fault))]
     pub fn new(alloc: Global, platform: PlatformText) -> Result<RoutedPlatform, Refusal>
-        ensures { result ≢ Err Refusal.Memory
-            → result ≡ or_zone_fault platform (zones_of platform) }
+        ensures { result ≢ Err Refusal.Memory → result ≡ result_map_both
+            (λ tree. platform) (λ fault. Refusal.Zones fault) (zones_of platform) }
     {
         let zones = match Zones::build(alloc, &platform) {
             Ok(zones) => zones,

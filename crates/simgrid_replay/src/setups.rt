@@ -1,14 +1,14 @@
 //! What a job runs: read from a platform and a deployment, or made from numbers.
-ghost use Rattle.std.specs.Prelude.{◌≡◌, ◌≢◌, ◌+◌, true, false, Ok, IfOk, IfErr, IsOk};
+ghost use Rattle.std.specs.Prelude.{◌≡◌, ◌≢◌, ◌+◌, true, false, IfOk, IfErr, IsOk};
 ghost use Rattle.sg_edge.specs.declared.files.Part.{Part};
 ghost use Rattle.sg_edge.specs.declared.files.Stage.TheVariants.{Fresh, Broken};
 ghost use Rattle.sg_edge.specs.Files.{IsNamed, KeepsTelling, Only, TakesUpTo};
 ghost use Rattle.sg_edge.specs.Sources.{Source, Gives};
 ghost use Rattle.sg_platform.specs.PlatformOf.{greatest_text};
-ghost use Rattle.simgrid_replay.specs.PartSources.{request_of, IsNamedBy, TextsGive};
 ghost use Rattle.simgrid_replay.specs.PartOrder.{AreBounded};
+ghost use Rattle.simgrid_replay.specs.PartSources.{request_of, IsNamedBy, TextsGive};
 ghost use Rattle.simgrid_replay.specs.kept.Reading.{AreRead, Broke, IsOfPlatform, IsReadFault, PlatformDecides};
-ghost use Rattle.simgrid_replay.specs.Settings.{platform_given, setting, setting_on};
+ghost use Rattle.simgrid_replay.specs.Settings.{platform_given, setting, setting_on, unless_refused};
 ghost use Rattle.simgrid_replay.specs.kept.Setups.{IsSetupOf, IsSetupFor};
 ghost use Rattle.simgrid_replay.specs.Requests.{has_parts, has_script};
 
@@ -41,7 +41,7 @@ fn deployed<F: Files>(
     requires { (F.shows files.old Part.Deployment).stage ≡ Fresh }
     ensures given { (d : Source)
         → Gives (F.shows files.old Part.Deployment) (F.shows files.new Part.Deployment) d
-        → IsSetupOf (setting_on texts.now.script contexts d (Ok platform)) result }
+        → IsSetupOf (setting_on texts.now.script contexts d platform) result }
     ensures fits { IfOk result (IsSetupFor texts.now.script contexts) }
     ensures platform { IfErr result (λ why. ¬ IsOfPlatform why) }
     ensures cause { IfErr result (λ why. IsReadFault why
@@ -75,7 +75,8 @@ fn read_setup<F: Files>(
     ensures given { (p d : Source)
         → Gives (F.shows files.old Part.Platform) (F.shows files.new Part.Platform) p
         → Gives (F.shows files.old Part.Deployment) (F.shows files.new Part.Deployment) d
-        → IsSetupOf (setting_on texts.now.script contexts d (platform_given p)) result }
+        → IsSetupOf (unless_refused (setting_on texts.now.script contexts d) (platform_given p))
+        result }
     ensures fits { IfOk result (IsSetupFor texts.now.script contexts) }
     ensures read { AreRead result (F.shows files.old) (F.shows files.new) }
     ensures decided { PlatformDecides true result (F.shows files.old) (F.shows files.new) }

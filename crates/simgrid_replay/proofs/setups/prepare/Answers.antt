@@ -17,4 +17,4 @@ pub returns-in-Churn-clause-decided : goal.returns-in-Churn-clause-decided
 returns-in-Churn-clause-decided g c = record { refused = λ p gives err ok. ap (λ (what : Command). has_parts (command_view what)) c.in-Churn.is; behind = λ p gives err. refl }
 
 pub returns-in-Churn-clause-bounded : goal.returns-in-Churn-clause-bounded
-returns-in-Churn-clause-bounded g c = record { platform = takes_none _ _ _ refl; deployment = takes_none _ _ _ refl }
+returns-in-Churn-clause-bounded g c = λ q other. takes_none _ _ _ refl

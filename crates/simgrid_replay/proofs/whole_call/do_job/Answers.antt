@@ -10,7 +10,7 @@ use Rattle.simgrid_replay.specs.kept.Setups.{IsSetupFor, setting_in}
 use Rattle.simgrid_replay.specs.Settings.{setting}
 use Rattle.simgrid_replay.specs.Requests.{has_script}
 use Rattle.simgrid_replay.proofs.TopLemmas.{none_broken, none_taken, not_refused, partless, refusal_leaves, refusal_prints, script_after, setting_counts, setting_leaves, setting_needs, setting_prints, setting_seats, setting_stops, none_stops, telling_before, texts_before, unrefused_spares}
-use Rattle.simgrid_replay.proofs.PartLemmas.{named_parts, nameless_by, takes_none}
+use Rattle.simgrid_replay.proofs.PartLemmas.{bounded_parts, named_parts, nameless_by, only_platform, takes_none}
 use Rattle.simgrid_replay.proofs.whole_call.do_job.Goals as goal
 
 pub run_job-requires-clause-setup : goal.run_job-requires-clause-setup
@@ -91,17 +91,16 @@ returns-in-Ok-clause-parts g c =
     record {
       named = named_parts request new (subst (λ (v : PartView). IsNamedBy request Platform v) (sym same) c.in-Ok.ensures.platform)
           (subst (λ (v : PartView). IsNamedBy request Deployment v) (sym also) c.in-Ok.ensures.deployment) script.named;
-      bounded = record {
-        platform = subst (λ (v : PartView). TakesUpTo (greatest_text + 1) (old Platform) v) (sym same) c.in-Ok.ensures.bounded.platform;
-        deployment = subst (λ (v : PartView). TakesUpTo (greatest_text + 1) (old Deployment) v) (sym also) c.in-Ok.ensures.bounded.deployment;
-      };
+      bounded = bounded_parts (greatest_text + 1) old new
+          (subst (λ (v : PartView). TakesUpTo (greatest_text + 1) (old Platform) v) (sym same) (c.in-Ok.ensures.bounded Platform (λ e. cc)))
+          (subst (λ (v : PartView). TakesUpTo (greatest_text + 1) (old Deployment) v) (sym also) (c.in-Ok.ensures.bounded Deployment (λ e. cc)));
       order = record {
         platform_first = λ broken. absurd (read.platform_whole refl (ap (λ (v : PartView). v.stage) (sym same) ∙ broken));
         deployment_first = λ broken. absurd (read.deployment_whole refl (ap (λ (v : PartView). v.stage) (sym also) ∙ broken));
         platform_refused = λ p gives err.
             let none = c.in-Ok.ensures.decided.refused p (subst (λ (v : PartView). Gives (old Platform) v p) same gives) err refl in
             let files = script.unscripted (partless request none) ∙ c.in-Ok.ensures.unread none in
-            (ap (λ f. g.F.Files.shows f Deployment) files, ap (λ f. g.F.Files.shows f Script) files);
+            only_platform old new (ap (λ f. g.F.Files.shows f Deployment) files) (ap (λ f. g.F.Files.shows f Script) files);
         refused_first = λ p d texts err.
             absurd (not_refused (setting request (length c.args.crew.now.items) p d) (setting_in c.in-Ok.setup)
             (ap (λ (n : ℕ). setting request n p d) (sym contexts) ∙ c.in-Ok.ensures.given p d (texts_before request old mid new p d same also texts)) err);
@@ -121,9 +120,9 @@ returns-in-Err-clause-parts g c =
           (nameless_by request Script (g.F.Files.shows c.prepare.new.files Script) (ap (λ (v : PartView). v.name) read.unbegun ∙ fresh));
       bounded = c.in-Err.ensures.bounded;
       order = record {
-        platform_first = λ broken. (read.platform_first broken, read.unbegun);
+        platform_first = λ broken. only_platform _ _ (read.platform_first broken) read.unbegun;
         deployment_first = λ broken. read.unbegun;
-        platform_refused = λ p gives err. (c.in-Err.ensures.decided.behind p gives err, read.unbegun);
+        platform_refused = λ p gives err. only_platform _ _ (c.in-Err.ensures.decided.behind p gives err) read.unbegun;
         refused_first = λ p d texts err. read.unbegun;
         unscripted = λ none. read.unbegun;
       };
@@ -136,7 +135,7 @@ returns-in-Ok-clause-rest g c = unrefused_spares c.run_job.result (g.F.Files.sho
 
 pub returns-in-Err-clause-rest : goal.returns-in-Err-clause-rest
 returns-in-Err-clause-rest g c = record {
-  platform = λ is. (c.in-Err.ensures.read.platform_refused (c.refuse.ensures.platform is), c.in-Err.ensures.read.unbegun);
+  platform = λ is. only_platform _ _ (c.in-Err.ensures.read.platform_refused (c.refuse.ensures.platform is)) c.in-Err.ensures.read.unbegun;
   deployment = λ is. c.in-Err.ensures.read.unbegun;
 }
 

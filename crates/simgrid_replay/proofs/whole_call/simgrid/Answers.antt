@@ -10,7 +10,7 @@ use Rattle.simgrid_replay.specs.PartSources.{PartsGive, TextsGive}
 use Rattle.simgrid_replay.specs.Settings.{setting}
 use Rattle.simgrid_replay.specs.WholeCall.{TakesForJob}
 use Rattle.simgrid_replay.proofs.PartLemmas.{nameless_by, takes_none}
-use Rattle.simgrid_replay.proofs.TopLemmas.{none_stops, prints_nothing, takes_contexts}
+use Rattle.simgrid_replay.proofs.TopLemmas.{none_most, none_stops, prints_nothing, takes_contexts}
 use Rattle.simgrid_replay.proofs.WordLemmas.{fault_is, job_is}
 use Rattle.simgrid_replay.proofs.whole_call.simgrid.Goals as goal
 
@@ -70,11 +70,11 @@ returns-in-Ok-clause-parts g c = λ job asks.
 pub returns-in-Err-clause-parts : goal.returns-in-Err-clause-parts
 returns-in-Err-clause-parts g c = λ job asks. record {
   named = λ part. nameless_by job.request part (g.F.Files.shows c.args.files.now part) (g.met.F.Files.unnamed c.args.files.now part (c.requires.fresh part));
-  bounded = record { platform = takes_none _ _ _ refl; deployment = takes_none _ _ _ refl };
+  bounded = λ part other. takes_none _ _ _ refl;
   order = record {
-    platform_first = λ broken. (refl, refl);
+    platform_first = λ broken part other. refl;
     deployment_first = λ broken. refl;
-    platform_refused = λ p gives err. (refl, refl);
+    platform_refused = λ p gives err part other. refl;
     refused_first = λ p d texts err. refl;
     unscripted = λ none. refl;
   };
@@ -92,7 +92,7 @@ pub returns-in-Err-clause-crew : goal.returns-in-Err-clause-crew
 returns-in-Err-clause-crew g c = λ job asks p d texts. record {
   taken = 0;
   least = λ some. absurd (some (c.report_words.ensures.silent (asked_of (map string_bytes c.args.words.now)) (fault_is _ _ (asked_of (map string_bytes c.args.words.now)) c.read_words.result c.in-Err.fault c.read_words.ensures c.in-Err.is asks.accepted)).0);
-  most = omega (arith);
+  most = none_most (setting job.request (length c.args.crew.now.items) p d);
   within = omega (arith);
   left = refl;
 }
