@@ -8,8 +8,7 @@ use Rattle.sg_base.specs.declared.ids.BoxId.TheVariants as box
 use Rattle.sg_rows.specs.Deployment.{Deployed}
 use Rattle.sg_trace.specs.Names.{actor_name, mutex_id, semaphore_id}
 
--- the other side of a mailbox: the receiver, if the actor that names it sends, and else the sender; or the actor whose
--- name the mailbox has
+-- the peer that a mailbox names: the receiver if the call sends, else the sender; or the actor whose name the mailbox has
 abbrev pub peer_name : Bool → Deployed → BoxId → List ℕ
 peer_name sends deployed (box.Pair from to) = actor_name deployed (if sends then to else from)
 peer_name sends deployed (box.Named actor) = actor_name deployed actor
