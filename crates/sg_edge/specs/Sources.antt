@@ -1,7 +1,7 @@
 -- What an input stream has given to a call: its bytes, and whether a call failed after them.
-use Rattle.std.specs.Prelude.{◌≡◌, ◌≢◌, ◌<◌, ◌≤◌, ◌+◌, ◌-◌, ℕ, List, length, take, Some, Bool, true, false, ⊤}
+use Rattle.std.specs.Prelude.{◌≡◌, ◌≢◌, ◌<◌, ◌≤◌, ◌+◌, ◌-◌, ℕ, List, length, take, if◌then◌else◌, Some, Bool, true, false, ⊤}
 use Rattle.sg_edge.specs.declared.files.Stage.{Stage}
-use Rattle.sg_edge.specs.declared.files.Stage.TheVariants.{Fresh, Begun, Over, Broken}
+use Rattle.sg_edge.specs.declared.files.Stage.TheVariants.{Broken}
 use Rattle.sg_edge.specs.declared.loading.Loaded.{Loaded}
 use Rattle.sg_edge.specs.declared.loading.Loaded.TheVariants.{Whole, TooLong, Fault, Memory}
 use Rattle.sg_edge.specs.Files.{PartView, TakesJust}
@@ -13,17 +13,12 @@ pub record Source : Type 0 where
 
 -- whether a read of an input stream has failed
 abbrev pub is_broken : Stage → Bool
-is_broken Fresh = false
-is_broken Begun = false
-is_broken Over = false
 is_broken Broken = true
+is_broken other = false
 
 -- all bytes of an input stream that isn't broken, and of a broken one those that were taken
 abbrev pub bytes_given : List ℕ → List ℕ → Stage → List ℕ
-bytes_given all rest Fresh = all
-bytes_given all rest Begun = all
-bytes_given all rest Over = all
-bytes_given all rest Broken = take (length all - length rest) all
+bytes_given all rest stage = if is_broken stage then take (length all - length rest) all else all
 
 -- this is what the input stream gave between two moments; nothing is said if its contents are unknown
 pub record Gives (old new : PartView) (source : Source) : Type 0 where
