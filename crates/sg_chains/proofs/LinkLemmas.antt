@@ -1,6 +1,6 @@
 -- A slot comes in front, or goes away.
 use Rattle.std.proofs.Common.{◌≡◌, ◌≢◌, ℕ, zero, suc, ◌+◌, ◌⊎◌, inl, inr, true, true≢false, cond, ◌==◌, Option, None, Some, is_some, option_map, set, map, length, count_by, ◌<◌, ◌≤◌, le_trans, get_or-set_same, get_or-set_other, length-set, List, [], ◌∷◌, ◌++◌, get_or, replicate, refl, sym, ap, ap₂, subst, ◌∙◌, arith}
-use Rattle.std.proofs.lemmas.List.{get_or_past, length-map}
+use Rattle.std.proofs.lemmas.List.{get_or-replicate, get_or_past, length-map, length-replicate}
 use Rattle.sg_chains.specs.declared.uses.Use.{Use}
 use Rattle.sg_chains.specs.Walk.{Leads, next_on, resource_of, user_of}
 use Rattle.std.proofs.lemmas.List.Sums.{sum_by-set, sum_by-cons, count_by-le-length}
@@ -627,11 +627,12 @@ none_linked on none = record {
 pub nobody_on : (slots : List (Option Slot)) (on : List (Option ℕ)) → ((c : ℕ) → get_or on c None ≡ None) → (c : ℕ) → users_on (map (walked (length slots) slots) on) c ≡ []
 nobody_on slots on none c = users_is slots on c ∙ ap (walked (length slots) slots) (none c) ∙ walked_none (length slots) slots
 
-pub none_push : (on : List (Option ℕ)) → ((c : ℕ) → get_or on c None ≡ None) → (c : ℕ) → get_or (on ++ None ∷ []) c None ≡ None
-none_push [] none zero = refl
-none_push [] none (suc c) = refl
-none_push (o ∷ on) none zero = none 0
-none_push (o ∷ on) none (suc c) = none_push on (λ k. none (suc k)) c
+-- no resource of a new list has a first use
+pub none_first : (n resource : ℕ) → get_or (replicate {A = Option ℕ} n None) resource None ≡ None
+none_first n resource = elim (lt_cases resource n) [
+  | inl less ↦ get_or-replicate {A = Option ℕ} n resource None None less
+  | inr most ↦ get_or_past (replicate {A = Option ℕ} n None) resource None (omega (arith, most, length-replicate {A = Option ℕ} n None))
+]
 
 -- what leads to the first slot on a resource has a code
 pub head_small : (slots : List (Option Slot)) (on : List (Option ℕ)) (resource : ℕ) → AreLists slots on → resource < length on → ((i : ℕ) → nothing ≤ i → get_or slots i None ≡ None) → IsSmall (get_or on resource None)

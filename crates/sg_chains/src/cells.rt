@@ -55,17 +55,3 @@ pub(crate) fn slot_in(cell: &Cell) -> Slot
         prev_on: link_of(cell.prev_on),
     }
 }
-
-/// Returns a cell with this slot.
-pub(crate) fn cell_with(slot: Slot) -> Cell
-    requires { AreSmall slot }
-    ensures { slot_in_spec result ≡ slot }
-{
-    Cell {
-        flow: slot.flow,
-        resource: slot.resource as u32,
-        next_of_flow: code_of(slot.next_of_flow),
-        next_on: code_of(slot.next_on),
-        prev_on: code_of(slot.prev_on),
-    }
-}

@@ -88,18 +88,6 @@ fn remove_uses(
     }
 }
 
-// Returns a list of so many resources without a first use.
-fn nowhere(alloc: Global, resources: usize) -> Result<Vec<Option<usize>>, Memory>
-    ensures len { IfOk result (λ on. length on.items ≡ resources) }
-    ensures none { IfOk result (λ on. (c : ℕ) → slice_index_or on.items c None ≡ None) }
-{
-    let mut on = Vec::new(alloc);
-    for _resource in 0..resources {
-        on.push(None)?;
-    }
-    Ok(on)
-}
-
 impl Chains {
     /// Makes the chains of so many resources, without uses.
     pub fn new(alloc: Global, resources: usize) -> Result<Chains, Memory>
@@ -114,7 +102,7 @@ impl Chains {
         }
         Ok(Chains {
             slots: Slots::new(alloc),
-            on: nowhere(alloc, resources)?,
+            on: vec![in alloc; None; resources]?,
         })
     }
 

@@ -4,7 +4,7 @@ ghost use Rattle.slab.specs.Slab.{get, slab_len, HasRoomFor, Updates};
 ghost use Rattle.sg_chains.specs.kept.Cells.{AreSmall, HasNumber, IsSmall, nothing};
 ghost use Rattle.sg_chains.specs.kept.Linked.{KeepsRoom, with_next, with_prev};
 
-use crate::cells::{Cell, cell_with, code_of, slot_in};
+use crate::cells::{Cell, code_of, slot_in};
 use sg_base::Memory;
 use slab::Slab;
 use std::alloc::Global;
@@ -113,7 +113,14 @@ impl Slots {
         ensures len { slab_len self.new ≡ slab_len self.old + 1 }
         ensures capacity { self.new.capacity ≡ self.old.capacity }
     {
-        insert_below(&mut self.slab, cell_with(slot))
+        let cell = Cell {
+            flow: slot.flow,
+            resource: slot.resource as u32,
+            next_of_flow: code_of(slot.next_of_flow),
+            next_on: code_of(slot.next_on),
+            prev_on: code_of(slot.prev_on),
+        };
+        insert_below(&mut self.slab, cell)
     }
 
     /// Takes the slot under a number away.

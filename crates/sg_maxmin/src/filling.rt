@@ -96,15 +96,6 @@ fn least_limit<L: Ledger>(
     least
 }
 
-// Writes 0 everywhere.
-fn clear(waiting: &mut [u64])
-    ensures { (resource : ℕ) → slice_index waiting.new resource ≡ 0 }
-{
-    for count in waiting.iter_mut() {
-        *count = 0;
-    }
-}
-
 // Counts the flow under one number, if there is one.
 fn count_row<L: Ledger>(
     flows: &Rows,
@@ -149,7 +140,9 @@ fn count_all<L: Ledger>(
     ensures looks { steps.new ≡ steps.old + count_of flows.now }
 {
     left.copy_from_slice(capacities);
-    clear(waiting);
+    for count in waiting.iter_mut() {
+        *count = 0;
+    }
     for id in 0..flows.numbers() {
         count_row(flows, uses, id, left, waiting, steps);
     }
@@ -324,21 +317,14 @@ pub(crate) fn fill<L: Ledger>(
     }
 }
 
-// Gives the flow under one number the share of its level.
-fn put_share(flows: &mut Rows, id: usize)
-    ensures { ChangesRow id with_share flows.old flows.new }
-{
-    if let Some(row) = flows.get(id) {
-        let share = share_at(row.weight, row.bound, row.level.unwrap_or(0));
-        flows.replace(id, FlowRow { share, ..row });
-    }
-}
-
 // Gives each flow the share of the level at which `fill` fixed it.
 pub(crate) fn put_shares(flows: &mut Rows)
     ensures { ChangesRows with_share flows.old flows.new }
 {
     for id in 0..flows.numbers() {
-        put_share(flows, id);
+        if let Some(row) = flows.get(id) {
+            let share = share_at(row.weight, row.bound, row.level.unwrap_or(0));
+            flows.replace(id, FlowRow { share, ..row });
+        }
     }
 }

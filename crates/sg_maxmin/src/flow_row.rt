@@ -1,5 +1,5 @@
 //! What a system keeps of a flow.
-ghost use Rattle.std.specs.Prelude.{◌≡◌, ◌<◌, ◌^◌, None, Some, IfSome, if◌then◌else◌};
+ghost use Rattle.std.specs.Prelude.{◌≡◌, ◌<◌, ◌^◌, None, Some, IfSome};
 ghost use Rattle.sg_maxmin.specs.kept.Cells.{row_in as row_in_spec};
 
 /// A flow: its uses are the chain of `count` uses that begins at `first`.
@@ -30,13 +30,6 @@ pub(crate) struct Cell {
     has_level: bool,
 }
 
-// Returns a number if there is one.
-fn number_if(has: bool, number: u64) -> Option<u64>
-    ensures { result ≡ (if has then Some number else None) }
-{
-    if has { Some(number) } else { None }
-}
-
 /// Returns the flow in a place, if there is one.
 pub(crate) fn row_in(cell: Cell) -> Option<FlowRow>
     ensures { result ≡ row_in_spec cell }
@@ -44,17 +37,12 @@ pub(crate) fn row_in(cell: Cell) -> Option<FlowRow>
     if !cell.is_held {
         return None;
     }
-    let first = if cell.has_first {
-        Some(cell.first)
-    } else {
-        None
-    };
     Some(FlowRow {
-        first,
+        first: cell.has_first.then_some(cell.first),
         count: cell.count,
         weight: cell.weight,
-        bound: number_if(cell.has_bound, cell.bound),
-        level: number_if(cell.has_level, cell.level),
+        bound: cell.has_bound.then_some(cell.bound),
+        level: cell.has_level.then_some(cell.level),
         share: cell.share,
     })
 }
@@ -95,25 +83,6 @@ pub(crate) fn free_cell() -> Cell
     }
 }
 
-// Returns a bound. A contract doesn't see inside an `Option` that the number fits its type.
-fn given(bound: u64) -> Option<u64>
-    ensures is { result ≡ Some bound }
-    ensures fits { bound < 2 ^ 64 }
-{
-    Some(bound)
-}
-
-// Does the same for a bound that may be missing.
-fn checked(bound: Option<u64>) -> Option<u64>
-    ensures is { result ≡ bound }
-    ensures fits { IfSome result (λ bound. bound < 2 ^ 64) }
-{
-    match bound {
-        None => None,
-        Some(bound) => given(bound),
-    }
-}
-
 impl FlowRow {
     /// Makes a flow that isn't fixed, and of which no use is known yet.
     pub(crate) fn new(count: usize, weight: u32, bound: Option<u64>) -> FlowRow
@@ -124,7 +93,11 @@ impl FlowRow {
         ensures level { result.level ≡ None }
         ensures share { result.share ≡ 0 }
     {
-        let bound = checked(bound);
+        // a contract doesn't see inside an `Option` that the number fits its type
+        let bound = match bound {
+            None => None,
+            Some(bound) => Some(bound),
+        };
         FlowRow {
             first: None,
             count,

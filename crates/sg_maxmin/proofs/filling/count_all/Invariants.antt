@@ -1,6 +1,9 @@
-use Rattle.std.proofs.Common.{◌≡◌, ℕ, ◌≤◌, ◌+◌, ◌*◌, ◌^◌, take, slice_index}
+use Rattle.std.proofs.Common.{◌≡◌, ℕ, ◌≤◌, ◌<◌, ◌+◌, ◌*◌, ◌^◌, take, get_or, slice_index}
 use Rattle.sg_maxmin.specs.kept.Counting.{AreCounted, count_of}
 use Rattle.sg_maxmin.proofs.filling.count_all.Given as goal
+
+abbrev pub invariant-loop-count : goal.invariant-loop-count
+invariant-loop-count g l = (k : ℕ) → k < l.count-index → get_or l.waiting k 0 ≡ 0
 
 abbrev pub invariant-loop-id : goal.invariant-loop-id
 invariant-loop-id g l = record {
