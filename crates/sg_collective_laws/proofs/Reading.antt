@@ -1,5 +1,6 @@
 -- The lines of an expansion are read as its actions.
 use Rattle.std.proofs.Common.{◌≡◌, ◌<◌, ◌≤◌, ◌*◌, ◌∙◌, ap, refl, ℕ, Bool, true, false, cond, List, [], ◌∷◌, length, map, get_or, filter, All, Option, None, Some, Ok, Err, codes, decimal, arith, le-ltb}
+use Rattle.std.specs.Option.{option_map_or}
 use Rattle.std.specs.List.{join_with_byte, list_all, slice_get, slice_split}
 use Rattle.std.specs.Prelude.{◌==◌, ok_or, slice_index}
 use Rattle.std.proofs.lemmas.List.Elements.{All-cons, All-get_or, All-head, All-map, All-nil, All-tail, All-weaker}
@@ -10,7 +11,7 @@ use Rattle.sg_base.specs.declared.ids.ActorId.{ActorId}
 use Rattle.sg_base.specs.Limits.{Extent, IsAction, IsActorIn}
 use Rattle.sg_collectives.specs.Actions.{NamesMember, action_of, member}
 use Rattle.sg_collectives.specs.Expansion.{expansion}
-use Rattle.sg_collectives.specs.Members.{HasAmounts, actions_at, actions_of as collective_actions, rank_of}
+use Rattle.sg_collectives.specs.Members.{HasAmounts, actions_of as collective_actions, rank_of}
 use Rattle.sg_collectives.specs.declared.collective.Collective.{Collective}
 use Rattle.sg_collectives.specs.declared.step.Step.{Step}
 use Rattle.sg_collectives.specs.declared.step.Step.TheVariants.{Recv, Send, Compute, IRecv, ISend, Wait}
@@ -173,7 +174,7 @@ module _ (known : ScriptNames) (name : Naming) (are : AreNamed known name) where
         (step_keeps_limits are.extent known.members collective rank k (get_or steps k d) below at are.exist has)
 
     at_rank : (rank : Option ℕ) → ((r : ℕ) → rank ≡ Some r → r < length known.members) →
-        map (line_judgement known) (lines_at name known.members actor collective rank) ≡ map (entry_for actor) (actions_at known.members collective rank)
+        map (line_judgement known) (lines_at name known.members actor collective rank) ≡ map (entry_for actor) (option_map_or (λ r. map (action_of known.members) (expansion collective r (length known.members))) rank [])
     at_rank None within = refl
     at_rank (Some rank) within =
         all_read actor (expansion collective rank (length known.members))

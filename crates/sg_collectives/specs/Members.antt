@@ -1,6 +1,7 @@
 -- Who takes part in collectives, and what each member does for one.
-use Rattle.std.specs.Prelude.{◌≡◌, ℕ, ◌==◌, List, [], length, map, slice_index_or, Option, None, Some}
+use Rattle.std.specs.Prelude.{◌≡◌, ℕ, ◌==◌, List, [], length, map, slice_index_or, Option, None}
 use Rattle.std.specs.List.{position}
+use Rattle.std.specs.Option.{option_map_or}
 use Rattle.sg_base.specs.declared.call.Action.{Action}
 use Rattle.sg_base.specs.declared.ids.ActorId.{ActorId}
 use Rattle.sg_base.specs.Limits.{IsAmount}
@@ -13,15 +14,10 @@ use Rattle.sg_collectives.specs.declared.collective.Collective.TheVariants.{Bcas
 abbrev pub rank_of : List ActorId → ℕ → Option ℕ
 rank_of members actor = position (λ member. member.0 == actor) members
 
--- what the member of this rank does for a collective; nothing if there is no rank
-abbrev pub actions_at : List ActorId → Collective → Option ℕ → List Action
-actions_at members collective None = []
-actions_at members collective (Some rank) =
-    map (action_of members) (expansion collective rank (length members))
-
 -- what that actor does for a collective; nothing if it is no member
 unfoldable pub actions_of : List ActorId → ℕ → Collective → List Action
-actions_of members actor collective = actions_at members collective (rank_of members actor)
+actions_of members actor collective =
+    option_map_or (λ rank. map (action_of members) (expansion collective rank (length members))) (rank_of members actor) []
 
 -- a list has the rank of each actor at the place of its number, and none after its end
 abbrev pub IsRanked : List ActorId → List (Option ℕ) → Type 0

@@ -1,6 +1,7 @@
 -- The members of a deployment, named by their actors, meet in each collective.
-use Rattle.std.proofs.Common.{◌≡◌, ◌≢◌, ◌<◌, ◌≤◌, ◌+◌, ◌∙◌, sym, ap₂, refl, ℕ, Bool, true, false, eqb, cond, List, [], ◌∷◌, ◌++◌, length, get_or, Option, None, Some, inl, inr, arith}
+use Rattle.std.proofs.Common.{◌≡◌, ◌≢◌, ◌<◌, ◌≤◌, ◌+◌, ◌∙◌, sym, ap₂, refl, ℕ, Bool, true, false, eqb, cond, map, List, [], ◌∷◌, ◌++◌, length, get_or, Option, None, Some, inl, inr, arith}
 use Rattle.std.specs.List.{All, AllPairs, count_by, position_or_len}
+use Rattle.std.specs.Option.{option_map_or}
 use Rattle.std.proofs.lemmas.Bool.{cases_Bool, cases_lt}
 use Rattle.std.proofs.lemmas.Bool.Decides.{nat_tests}
 use Rattle.std.proofs.lemmas.List.Elements.{All-cons, All-nil, All-tail}
@@ -18,7 +19,7 @@ use Rattle.sg_collectives.specs.declared.step.Step.{Step}
 use Rattle.sg_collectives.specs.declared.step.Step.TheVariants.{Recv, Send, Compute, IRecv, ISend, Wait}
 use Rattle.sg_collectives.specs.Expansion.{expansion}
 use Rattle.sg_collectives.specs.Laws.{is_irecv, is_isend, is_recv, is_send, NamesOther, receives_from as receives_at, sends_to as sends_at}
-use Rattle.sg_collectives.specs.Members.{actions_at, actions_of, rank_of}
+use Rattle.sg_collectives.specs.Members.{actions_of, rank_of}
 use Rattle.sg_collectives.proofs.Ranges.{count_by-map}
 use Rattle.sg_rows.specs.declared.rows.ActorRow.{ActorRow}
 use Rattle.sg_rows.specs.declared.rows.Function.{Function}
@@ -199,23 +200,27 @@ receives_none (Compute flops ∷ steps) = receives_none steps
 receives_none (Wait ∷ steps) = receives_none steps
 
 -- ---- two actors
+-- the steps of a rank, as the actions of its member
+abbrev steps_at : List ActorId → Collective → ℕ → List Action
+steps_at members collective rank = map (action_of members) (expansion collective rank (length members))
+
 -- the actions of a member that meet a condition are as many as its steps that do
 counted : (members : List ActorId) (collective : Collective) (me : ℕ) (p : Action → Bool) (q : Step → Bool) → me < length members → ((step : Step) → NamesOther me (length members) step → p (action_of members step) ≡ q step)
-    → count_by p (actions_at members collective (Some me)) ≡ count_by q (expansion collective me (length members))
+    → count_by p (steps_at members collective me) ≡ count_by q (expansion collective me (length members))
 counted members collective me p q below agree =
     count_by-map p (action_of members) (expansion collective me (length members))
     ∙ counts_agree (NamesOther me (length members)) (λ step. p (action_of members step)) q agree (expansion collective me (length members)) (peers_are_others collective me (length members) below)
 
 sent : (members : List ActorId) (collective : Collective) (me actor : ℕ) (rank : Option ℕ) → Differ members → me < length members → rank_of members actor ≡ rank
-    → count_by (sends_to actor) (actions_at members collective (Some me)) ≡ count_by (sends_where (is_at rank)) (expansion collective me (length members))
+    → count_by (sends_to actor) (steps_at members collective me) ≡ count_by (sends_where (is_at rank)) (expansion collective me (length members))
 sent members collective me actor rank differ below is = counted members collective me (sends_to actor) (sends_where (is_at rank)) below (send_named members actor me rank differ is)
 
 received : (members : List ActorId) (collective : Collective) (me actor : ℕ) (rank : Option ℕ) → Differ members → me < length members → rank_of members actor ≡ rank
-    → count_by (receives_from actor) (actions_at members collective (Some me)) ≡ count_by (receives_where (is_at rank)) (expansion collective me (length members))
+    → count_by (receives_from actor) (steps_at members collective me) ≡ count_by (receives_where (is_at rank)) (expansion collective me (length members))
 received members collective me actor rank differ below is = counted members collective me (receives_from actor) (receives_where (is_at rank)) below (receive_named members actor me rank differ is)
 
 by_ranks : (members : List ActorId) (collective : Collective) (a b : ℕ) (ra rb : Option ℕ) → Differ members → rank_of members a ≡ ra → rank_of members b ≡ rb
-    → count_by (sends_to b) (actions_at members collective ra) ≡ count_by (receives_from a) (actions_at members collective rb)
+    → count_by (sends_to b) (option_map_or (steps_at members collective) ra []) ≡ count_by (receives_from a) (option_map_or (steps_at members collective) rb [])
 by_ranks members collective a b None None differ a_is b_is = refl
 by_ranks members collective a b (Some ra) None differ a_is b_is =
     sent members collective ra b None differ (rank_below members a ra a_is) b_is ∙ sends_none (expansion collective ra (length members))
