@@ -92,6 +92,12 @@ def named_texts():
     return {head.split()[0]: text for head, _, text in heads}
 
 
+def actors(hosts):
+    """A deployment of the actors p0, p1 and so on, which replay on these hosts, and of a mutex and a semaphore."""
+    found = "".join(f"{{name = 'p{number}', host = '{host}', function = 'replay'}}, " for number, host in enumerate(hosts))
+    return f"mutex = [{{id = 'm1'}}]\nsemaphore = [{{id = 's1', capacity = 0}}]\nactor = [{found}]\n".encode()
+
+
 class Row:
     """A row of a table, while its lines are taken."""
 
@@ -105,8 +111,9 @@ class Row:
         if key == "job":
             self.words = text.split()
         elif key == "over":
-            for name, text in zip("pd", text.split()):
-                self.files[name] = literal(self.texts.get(text, ""))
+            platform, _, deployment = text.partition(" ")
+            self.files["p"] = literal(self.texts.get(platform, ""))
+            self.files["d"] = actors(deployment.split()) if deployment.startswith("h") else literal(self.texts.get(deployment, ""))
         elif key in ("platform", "deployment"):
             self.files[parts[key]] = literal(text)
         elif key in ("with", "script"):

@@ -5,7 +5,7 @@ ghost use Rattle.sg_edge.specs.MemFiles.{mem_view};
 ghost use Rattle.sg_edge.specs.MemSinks.{mem_faults};
 
 use crate::crew::{Kind, Kinds, Meeting};
-use crate::literal::{fill, push_line, push_text, push_times};
+use crate::literal::{fill, push_actors, push_line, push_text, push_times, set_text};
 use crate::texts::text_named;
 use sg_base::Memory;
 use sg_edge::{MemFiles, MemSinks, Part};
@@ -107,13 +107,15 @@ impl Case {
         }
     }
 
-    // Takes the platform and the deployment of these names.
+    // Takes the platform of the first name, and the deployment of the second or of actors on these hosts.
     fn take_texts(&mut self, alloc: Global, names: &str) -> Result<(), Fail> {
         let (platform, deployment) = names.split_once(" ").unwrap_or((names, ""));
-        self.platform.clear();
-        push_text(alloc, &mut self.platform, text_named(platform))?;
-        self.deployment.clear();
-        push_text(alloc, &mut self.deployment, text_named(deployment))
+        set_text(alloc, &mut self.platform, text_named(platform))?;
+        set_text(alloc, &mut self.deployment, text_named(deployment))?;
+        if deployment.starts_with("h") {
+            push_actors(alloc, &mut self.deployment, deployment)?;
+        }
+        Ok(())
     }
 
     // Takes a context pool of so many contexts of this kind.
@@ -147,15 +149,9 @@ impl Case {
         match key {
             "job" => self.words = String::from_str(alloc, text)?,
             "over" => self.take_texts(alloc, text)?,
-            "platform" => {
-                self.platform.clear();
-                push_text(alloc, &mut self.platform, text)?;
-            }
+            "platform" => set_text(alloc, &mut self.platform, text)?,
             "with" => push_line(alloc, &mut self.platform, text)?,
-            "deployment" => {
-                self.deployment.clear();
-                push_text(alloc, &mut self.deployment, text)?;
-            }
+            "deployment" => set_text(alloc, &mut self.deployment, text)?,
             "script" => push_line(alloc, &mut self.script, text)?,
             "unended" => push_text(alloc, &mut self.script, text)?,
             "lines" => push_times(&mut self.script, text)?,

@@ -8,8 +8,9 @@ use std::test::Fail;
 /// its words and its number in the table.
 ///
 /// A line is `KEY TEXT`, and a blank line ends a case, so that each is whole: `job WORDS`, if it isn't a replay of the
-/// three parts; `over PLATFORM DEPLOYMENT` (by the names of texts), and in place of one or after it `platform TEXT`,
-/// `with LINE` after a platform, `deployment TEXT`; `script LINE`, `lines TIMES LINE`, `unended TEXT`;
+/// three parts; `over PLATFORM DEPLOYMENT` (by the names of texts) or `over PLATFORM HOST..` (of the actors p0, p1 and
+/// so on), and in place of one or after it `platform TEXT`, `with LINE` after a platform, `deployment TEXT`;
+/// `script LINE`, `lines TIMES LINE`, `unended TEXT`;
 /// `crew KIND NUMBER` or `meeting NUMBER WANTED TURN`, else twenty contexts of both kinds; what is written by
 /// `out LINE`, `front TEXT` and `err LINE`; `status NUMBER`, if it isn't 0; what else [`Case`] has; `-- TEXT` is a
 /// comment. `same` does the job too, and keeps it for the next case, in which a `job`, `crew` or `failing_call` takes

@@ -27,13 +27,8 @@ impl Kinds {
     pub fn at(self, place: u32) -> Kind {
         match self {
             Kinds::All(kind) => kind,
-            Kinds::Both => {
-                if place % 2 == 1 {
-                    Kind::Tape
-                } else {
-                    Kind::Plain
-                }
-            }
+            Kinds::Both if place % 2 == 1 => Kind::Tape,
+            Kinds::Both => Kind::Plain,
         }
     }
 }

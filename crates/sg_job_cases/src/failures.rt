@@ -2,49 +2,29 @@
 
 /// One call of a part fails, or one write.
 pub const FAILURES: &str = "\
--- The platform can't be opened, or read, or read to its end.
-over FAST ONE
+-- The platform can't be opened.
+over FAST h1
 script p0 compute 1e9
-err cannot read the platform
-status 10
 failing_call 1
-same
-failing_call 2
-same
-failing_call 3
-
--- The deployment can't be opened, or read to its end.
-over FAST ONE
-script p0 compute 1e9
-err cannot read the deployment
-status 10
-failing_call 4
-same
-failing_call 6
-
--- The script can't be opened.
-over FAST ONE
-script p0 compute 1e9
-failing_call 7
-err cannot read the script
+err cannot read the platform
 status 10
 
 -- A read fails in the first line.
-over FAST ONE
+over FAST h1
 unended p0 comp
 failing_call 9
 err cannot read the script
 status 10
 
 -- A read fails at the end of the first line.
-over FAST ONE
+over FAST h1
 unended p0 compute 1e9
 failing_call 9
 err cannot read the script
 status 10
 
 -- A read fails in the second line.
-over FAST ONE
+over FAST h1
 script p0 compute 1e9
 unended p0 comp
 failing_call 9
@@ -58,15 +38,8 @@ script p0 compute 1e9
 failing_call 6
 out Simulation time 0.000000000
 
--- A failed write leaves a prefix. A write takes 7 bytes at most.
-over LINE TWO
-script p0 compute 1e9
-failing_write 3
-front [h1:p0:(1) 1.0
-status 11
-
--- A failed write in the second line.
-over LINE TWO
+-- A failed write leaves a prefix. A write takes 7 bytes at most, so this one is in the second line.
+over LINE h1 h2
 script p0 send p1 1e6 | p1 recv p0
 failing_write 11
 out [h1:p0:(1) 1.010000000] send p1 1000000 1.010000000
@@ -84,7 +57,7 @@ status 11
 /// Jobs of which each call of a part and each write is to fail in turn.
 pub const EACH_FAILURE: &str = "\
 -- A message.
-over LINE TWO
+over LINE h1 h2
 script p0 send p1 1e6 | p1 recv p0
 calls 9
 writes 2
@@ -93,7 +66,7 @@ out [h2:p1:(2) 1.010000000] recv p0 1000000 1.010000000
 out Simulation time 1.010000000
 
 -- A bad line after an execution.
-over LINE TWO
+over LINE h1 h2
 script p0 compute 1e9 | p1 compute 5e8 | p0 jump 5
 calls 8
 writes 2
@@ -102,7 +75,7 @@ err script line 3: unknown action
 status 5
 
 -- A last line that is cut off.
-over LINE ONE
+over LINE h1
 script p0 compute 1e9
 unended p0 comp
 calls 9

@@ -4,13 +4,13 @@
 pub const JOBS: &str = "\
 -- Without a trace.
 job p replay p d s --quiet
-over FAST ONE
+over FAST h1
 script p0 compute 1e9
 out Simulation time 1.000000000
 
 -- A budget of four events.
 job p replay p d s --budget 4
-over FAST ONE
+over FAST h1
 script p0 compute 1e9
 out [h1:p0:(1) 1.000000000] compute 1000000000 1.000000000
 out budget of 4 events used at 1.000000000
@@ -18,7 +18,7 @@ status 8
 
 -- A budget of three events.
 job p replay p d s --budget=3
-over FAST ONE
+over FAST h1
 script p0 compute 1e9
 out [h1:p0:(1) 1.000000000] compute 1000000000 1.000000000
 out budget of 3 events used at 1.000000000
@@ -26,14 +26,14 @@ status 8
 
 -- A budget of two events, without a trace.
 job p replay p d s --budget 2 --quiet
-over FAST ONE
+over FAST h1
 script p0 compute 1e9
 out budget of 2 events used at 0.000000000
 status 8
 
 -- An actor that replays, under run.
 job p run p d
-over FAST ONE
+over FAST h1
 err deployment: replay actor under run (row 1)
 status 4
 
@@ -69,7 +69,7 @@ status 2
 
 -- A budget of 0.
 job p replay --budget 0 p d s
-over FAST ONE
+over FAST h1
 script p0 compute 1e9
 err error: invalid value '0' for '--budget <N>': 0 is not in 1..=1000000000
 err
@@ -78,7 +78,7 @@ status 2
 
 -- No threads.
 job p replay --nthreads 0 p d s
-over FAST ONE
+over FAST h1
 script p0 compute 1e9
 err error: invalid value '0' for '--nthreads <N>': 0 is not in 1..=64
 err
@@ -87,7 +87,7 @@ status 2
 
 -- No script.
 job simgrid_replay replay p d
-over FAST ONE
+over FAST h1
 script p0 compute 1e9
 err error: the following required arguments were not provided:
 err   <SCRIPT>
@@ -99,7 +99,7 @@ status 2
 
 -- A platform of another name.
 job p replay d p s
-over FAST ONE
+over FAST h1
 script p0 compute 1e9
 err cannot read the platform
 status 10
@@ -113,13 +113,13 @@ status 10
 
 -- A script of another name.
 job p replay p d -
-over FAST ONE
+over FAST h1
 script p0 compute 1e9
 err cannot read the script
 status 10
 
 -- An actor needs a context.
-over FAST TWO
+over FAST h1 h2
 crew both 1
 script p0 compute 1e9
 err deployment: 2 actors, 1 contexts
@@ -166,7 +166,7 @@ crew tape 4
 pub const MEETINGS: &str = "\
 -- Two turns.
 job p replay p d s --nthreads 2
-over FAST PAIR
+over FAST h1 h1
 meeting 2 2 1
 script p0 compute 1e9 | p1 compute 1e9
 out [h1:p0:(1) 2.000000000] compute 1000000000 2.000000000
@@ -175,19 +175,19 @@ out Simulation time 2.000000000
 
 -- Three turns, of actors without a script.
 job p replay p d s --nthreads 3
-over LINE BESIDE
+over LINE h1 h1 h1
 meeting 3 3 1
 out Simulation time 0.000000000
 
 -- Eight turns.
 job p replay p d s --nthreads 8
-over LINE EIGHT
+over LINE h1 h1 h1 h1 h1 h1 h1 h1
 meeting 8 8 1
 out Simulation time 0.000000000
 
 -- Four of eight actors, in their third turn.
 job p replay p d s --nthreads 8
-over LINE EIGHT
+over LINE h1 h1 h1 h1 h1 h1 h1 h1
 meeting 8 4 3
 script p0 sleep 1 | p2 sleep 1 | p5 sleep 1 | p7 sleep 1
 out [h1:p0:(1) 1.000000000] sleep 1.000000000
@@ -198,7 +198,8 @@ out Simulation time 1.000000000
 
 -- A master and workers. A task has a byte and a flop, so its message takes a microsecond beside the latency, and it a nanosecond.
 job p run p d --nthreads 3
-over LINE TWO_WORKERS
+over LINE
+deployment actor = [{name = 'm', host = 'h1', function = 'master', argument = ['1', '1', '1', 'w1', 'w2']}, {name = 'w1', host = 'h2', function = 'worker'}, {name = 'w2', host = 'h2', function = 'worker'}] | 
 meeting 3 3 1
 out [h1:m:(1) 0.010001000] send w1 1 0.010001000
 out [h2:w1:(2) 0.010001000] recv w1 1 0.010001000

@@ -17,12 +17,10 @@ fn push_bytes(text: &mut Vec<u8>, piece: &str) -> Result<(), Memory> {
 
 /// Adds lines between which ` | ` stands.
 fn push_lines(text: &mut Vec<u8>, lines: &str) -> Result<(), Memory> {
-    let mut is_first = true;
-    for line in lines.split(" | ") {
-        if !is_first {
+    for (place, line) in lines.split(" | ").enumerate() {
+        if place > 0 {
             text.push(b'\n')?;
         }
-        is_first = false;
         push_bytes(text, line)?;
     }
     Ok(())
@@ -30,12 +28,10 @@ fn push_lines(text: &mut Vec<u8>, lines: &str) -> Result<(), Memory> {
 
 /// Adds an item, in which this mark stands for its number.
 fn push_item(alloc: Global, text: &mut Vec<u8>, item: &str, number: u32) -> Result<(), Fail> {
-    let mut is_first = true;
-    for piece in item.split("#") {
-        if !is_first {
+    for (place, piece) in item.split("#").enumerate() {
+        if place > 0 {
             push_bytes(text, format!(in alloc; "{number}")?.as_str())?;
         }
-        is_first = false;
         push_lines(text, piece)?;
     }
     Ok(())
@@ -60,6 +56,29 @@ pub fn push_text(alloc: Global, text: &mut Vec<u8>, short: &str) -> Result<(), F
         }
         place = if place < 3 { place + 1 } else { 0 };
     }
+    Ok(())
+}
+
+/// Puts a text in the place of another.
+pub fn set_text(alloc: Global, text: &mut Vec<u8>, short: &str) -> Result<(), Fail> {
+    text.clear();
+    push_text(alloc, text, short)
+}
+
+/// Adds a deployment of the actors p0, p1 and so on, which replay on these hosts, the mutex m1 and the semaphore s1.
+pub fn push_actors(alloc: Global, text: &mut Vec<u8>, hosts: &str) -> Result<(), Fail> {
+    push_lines(
+        text,
+        "mutex = [{id = 'm1'}] | semaphore = [{id = 's1', capacity = 0}] | actor = [",
+    )?;
+    let mut number: u32 = 0;
+    for host in hosts.split_whitespace() {
+        push_item(alloc, text, "{name = 'p#', host = '", number)?;
+        push_bytes(text, host)?;
+        push_bytes(text, "', function = 'replay'}, ")?;
+        number = number.saturating_add(1);
+    }
+    push_lines(text, "] | ")?;
     Ok(())
 }
 

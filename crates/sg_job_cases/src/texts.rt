@@ -16,15 +16,6 @@ host = [{id = 'h1', zone = 'z', speed = '10f'}]
 == SLOWEST One host of one flop a second.
 zone = [{id = 'z', routing = 'Full'}]
 host = [{id = 'h1', zone = 'z', speed = '1f'}]
-== TWO_LINKS Three hosts in a line of two links.
-zone = [{id = 'z', routing = 'Full'}]
-host = [%1%4%{id = 'h#', zone = 'z', speed = '1Gf'}, %]
-link = [%1%3%{id = 'k#', bandwidth = '5Bps', latency = '0s'}, %]
-route = [
-    {src = 'h1', dst = 'h2', links = ['k1']},
-    {src = 'h1', dst = 'h3', links = ['k1', 'k2']},
-    {src = 'h2', dst = 'h3', links = ['k2']},
-]
 == TWO_ZONES Two zones of a host and a router each, with a link between the routers.
 zone = [{id = 'z', routing = 'Full'}, {id = 'za', parent = 'z', routing = 'Full'}, {id = 'zb', parent = 'z', routing = 'Full'}]
 host = [{id = 'h1', zone = 'za', speed = '1Gf'}, {id = 'h2', zone = 'zb', speed = '1Gf'}]
@@ -36,12 +27,6 @@ link = [
 ]
 route = [{src = 'h1', dst = 'r1', links = ['a']}, {src = 'r2', dst = 'h2', links = ['c']}]
 zone_route = [{src = 'za', dst = 'zb', gw_src = 'r1', gw_dst = 'r2', links = ['b']}]
-== FOREIGN_GATEWAY Two zones with a route between them, whose gateway in the first is a host of the second.
-zone = [{id = 'z', routing = 'Full'}, {id = 'za', parent = 'z', routing = 'Full'}, {id = 'zb', parent = 'z', routing = 'Full'}]
-host = [{id = 'h1', zone = 'za', speed = '1Gf'}, {id = 'h2', zone = 'zb', speed = '1Gf'}]
-router = [{id = 'r1', zone = 'za'}, {id = 'r2', zone = 'zb'}]
-link = [{id = 'b', bandwidth = '1MBps'}]
-zone_route = [{src = 'za', dst = 'zb', gw_src = 'h2', gw_dst = 'r2', links = ['b']}]
 == STAR A star whose spokes share a backbone.
 zone = [{id = 'z', routing = 'Star'}]
 host = [{id = 'h1', zone = 'z', speed = '1Gf'}, {id = 'h2', zone = 'z', speed = '1Gf'}]
@@ -55,75 +40,10 @@ route = [
     {src = 'h2', dst = 'h3', links = ['b']},
     {src = 'h1', dst = 'h3', links = ['c', 'd']},
 ]
-== TRIANGLE Three hosts, between each two of which the same link leads.
-zone = [{id = 'z', routing = 'Full'}]
-host = [%1%4%{id = 'h#', zone = 'z', speed = '1Gf'}, %]
-link = [{id = 'l', bandwidth = '1MBps', latency = '10ms'}]
-route = [
-    {src = 'h1', dst = 'h2', links = ['l']},
-    {src = 'h1', dst = 'h3', links = ['l']},
-    {src = 'h2', dst = 'h3', links = ['l']},
-]
-== ONE An actor, and a mutex.
-actor = [{name = 'p0', host = 'h1', function = 'replay'}]
-mutex = [{id = 'm1'}]
-== TWO An actor on each host, a mutex and a semaphore.
-actor = [{name = 'p0', host = 'h1', function = 'replay'}, {name = 'p1', host = 'h2', function = 'replay'}]
-mutex = [{id = 'm1'}]
-semaphore = [{id = 's1', capacity = 0}]
-== THREE Actors on two hosts.
-actor = [
-    {name = 'p0', host = 'h1', function = 'replay'},
-    {name = 'p1', host = 'h2', function = 'replay'},
-    {name = 'p2', host = 'h1', function = 'replay'},
-]
-== FOUR Two pairs of actors.
-actor = [
-    {name = 'p0', host = 'h1', function = 'replay'},
-    {name = 'p1', host = 'h2', function = 'replay'},
-    {name = 'p2', host = 'h1', function = 'replay'},
-    {name = 'p3', host = 'h2', function = 'replay'},
-]
-== SIX Three pairs of actors.
-actor = [
-    {name = 'p0', host = 'h1', function = 'replay'},
-    {name = 'p1', host = 'h2', function = 'replay'},
-    {name = 'p2', host = 'h1', function = 'replay'},
-    {name = 'p3', host = 'h3', function = 'replay'},
-    {name = 'p4', host = 'h2', function = 'replay'},
-    {name = 'p5', host = 'h3', function = 'replay'},
-]
-== PAIR Two actors on one host.
-actor = [%0%2%{name = 'p#', host = 'h1', function = 'replay'}, %]
-== BESIDE Three actors on one host.
-actor = [%0%3%{name = 'p#', host = 'h1', function = 'replay'}, %]
-== CROWD Eleven actors on one host.
-actor = [%0%11%{name = 'p#', host = 'h1', function = 'replay'}, %]
-== EIGHT Eight actors on one host.
-actor = [%0%8%{name = 'p#', host = 'h1', function = 'replay'}, %]
-== ACROSS Actors on hosts between which two paths lead, and on hosts next to each other.
-actor = [
-    {name = 'p0', host = 'h1', function = 'replay'},
-    {name = 'p1', host = 'h3', function = 'replay'},
-    {name = 'p2', host = 'h1', function = 'replay'},
-    {name = 'p3', host = 'h2', function = 'replay'},
-]
-== THREE_APART An actor on each of three hosts.
-actor = [
-    {name = 'p0', host = 'h1', function = 'replay'},
-    {name = 'p1', host = 'h2', function = 'replay'},
-    {name = 'p2', host = 'h3', function = 'replay'},
-]
 == MASTER A master that has one task, and its worker.
 actor = [
     {name = 'm', host = 'h1', function = 'master', argument = ['1', '1e9', '1e6', 'w1']},
     {name = 'w1', host = 'h2', function = 'worker'},
-]
-== TWO_WORKERS A master with a task for one of two workers.
-actor = [
-    {name = 'm', host = 'h1', function = 'master', argument = ['1', '1', '1', 'w1', 'w2']},
-    {name = 'w1', host = 'h2', function = 'worker'},
-    {name = 'w2', host = 'h2', function = 'worker'},
 ]
 == LATER Two actors, of which the second begins when it is created.
 actor = [{name = 'p0', host = 'h1', function = 'replay'}, {name = 'p1', host = 'h2', function = 'replay', start = false}]

@@ -163,7 +163,7 @@ fn completes_over_parts_and_streams_that_never_fail(rt: HostRuntime) -> Result<(
     let alloc = rt.alloc();
     let mut case = Case::new(alloc)?;
     case.take(alloc, "job", "simgrid_replay replay p d s")?;
-    case.take(alloc, "over", "FAST ONE")?;
+    case.take(alloc, "over", "FAST h1")?;
     case.take(alloc, "script", "p0 compute 1e9")?;
     assert_eq!(rt; over_sure_parts(&rt, alloc, &case)?, 0);
     Ok(())
