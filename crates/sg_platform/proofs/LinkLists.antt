@@ -5,6 +5,7 @@ use Rattle.std.proofs.lemmas.Bool.Decides.{nat_tests}
 use Rattle.std.proofs.lemmas.List.{length-map}
 use Rattle.std.proofs.lemmas.List.Elements.{All-cons, All-nil}
 use Rattle.std.specs.List.{All, list_any}
+use Rattle.std.specs.Option.{option_map_or}
 use Rattle.sg_base.specs.declared.ids.LinkId.{LinkId}
 use Rattle.sg_platform.specs.Build.{link_id, links_at}
 use Rattle.sg_rows.specs.Platform.{Counts, IsLinkList}
@@ -19,7 +20,7 @@ use Rattle.sg_tables.specs.declared.tables.Rule.TheVariants.{Texts}
 use Rattle.sg_tables.specs.declared.tables.TextsRule.TheVariants.{LinkList}
 use Rattle.sg_tree.proofs.Kept.{empty_left, empty_right}
 use Rattle.sg_tree.specs.Faults.{of_type}
-use Rattle.sg_tree.specs.Tree.{items_or_none, list_of}
+use Rattle.sg_tree.specs.Tree.{list_of}
 use Rattle.toml.specs.Data.{Data, Items, get, as_array, as_str}
 
 abbrev LinksBelow : Known → Counts → Type 0
@@ -74,17 +75,17 @@ items_link_list names counts below items empty =
     }
 
 typed_link_list : (names : Known) (counts : Counts) → LinksBelow names counts → (row : Data) (found : Option Items) → of_type (λ items. list_kinds (λ x. is_some (as_str x)) (texts_kinds names row LinkList) (list_of items)) found ≡ []
-    → IsLinkList counts (map (link_of names) (items_or_none found))
+    → IsLinkList counts (map (link_of names) (option_map_or list_of found []))
 typed_link_list names counts below row None empty = cc
 typed_link_list names counts below row (Some items) empty = items_link_list names counts below (list_of items) (typed_list (λ x. is_some (as_str x)) (texts_kinds names row LinkList) (list_of items) empty)
 
 pub value_link_list : (names : Known) (counts : Counts) → LinksBelow names counts → (number : ℕ) (row : Data) (d : Data) → value_kinds names number row (Texts LinkList) d ≡ []
-    → IsLinkList counts (map (link_of names) (items_or_none (as_array d)))
+    → IsLinkList counts (map (link_of names) (option_map_or list_of (as_array d) []))
 unfolding value_kinds
 value_link_list names counts below number row d empty = typed_link_list names counts below row (as_array d) empty
 
 required_at : (names : Known) (counts : Counts) → LinksBelow names counts → (number : ℕ) (row : Data) (k : List ℕ) (d : Option Data) → kinds_at names number row (key k Required (Texts LinkList)) d ≡ []
-    → IsLinkList counts (map (link_of names) (items_or_none (option_and_then as_array d)))
+    → IsLinkList counts (map (link_of names) (option_map_or list_of (option_and_then as_array d) []))
 required_at names counts below number row k None empty = cc
 required_at names counts below number row k (Some d) empty = value_link_list names counts below number row d empty
 

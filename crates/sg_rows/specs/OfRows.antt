@@ -53,7 +53,7 @@ is_split other = false
 
 -- the names that the row of a link takes: a SPLITDUPLEX link has one in each direction beside its own
 abbrev pub names_of_link : LinkRow → List (List ℕ)
-names_of_link link = taken_by (is_split link.policy) (Some link.id)
+names_of_link link = taken_by (is_split link.policy) link.id
 
 -- a link of some row, and so not the loopback, which is the last of all
 abbrev pub IsOfRow : List LinkRow → LinkId → Type 0

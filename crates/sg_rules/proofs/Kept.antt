@@ -22,7 +22,7 @@ use Rattle.sg_tree.specs.Along.{along}
 use Rattle.sg_tree.specs.Faults.{kind_if, of_type}
 use Rattle.sg_tree.specs.NameSpaces.{Finds}
 use Rattle.sg_tree.specs.Spelling.{is_name, is_name_byte}
-use Rattle.sg_tree.specs.Tree.{items_or_none, list_of, rows_at, text_at}
+use Rattle.sg_tree.specs.Tree.{list_of, rows_at, text_at}
 use Rattle.sg_tree.specs.declared.fault.Kind.{Kind}
 use Rattle.sg_tree.specs.declared.fault.Kind.TheVariants.{BadValue, Unknown}
 use Rattle.toml.specs.Data.{Data, Items, Members, get, get_member, as_array, as_str}
@@ -103,12 +103,12 @@ typed_list fits kinds items empty =
       | inr other ↦ let wrong = rw other at empty in cc
     ]
 
-typed_items : (names : Known) (row : Data) (rule : TextsRule) (found : Option Items) → of_type (λ items. list_kinds (λ d. is_some (as_str d)) (texts_kinds names row rule) (list_of items)) found ≡ [] → texts_kinds names row rule (items_or_none found) ≡ []
+typed_items : (names : Known) (row : Data) (rule : TextsRule) (found : Option Items) → of_type (λ items. list_kinds (λ d. is_some (as_str d)) (texts_kinds names row rule) (list_of items)) found ≡ [] → texts_kinds names row rule (option_map_or list_of found []) ≡ []
 typed_items names row rule None empty = cc
 typed_items names row rule (Some items) empty = typed_list (λ d. is_some (as_str d)) (texts_kinds names row rule) (list_of items) empty
 
 items_there : (names : Known) (number : ℕ) (row : Data) (k : List ℕ) (rule : TextsRule) → (d : Option Data) → kinds_at names number row (key k Required (Texts rule)) d ≡ []
-    → texts_kinds names row rule (items_or_none (option_and_then as_array d)) ≡ []
+    → texts_kinds names row rule (option_map_or list_of (option_and_then as_array d) []) ≡ []
 unfolding value_kinds
 items_there names number row k rule None empty = cc
 items_there names number row k rule (Some d) empty = typed_items names row rule (as_array d) empty

@@ -24,23 +24,23 @@ use Rattle.sg_tables.specs.declared.tables.TextsRule.TheVariants.{ArgumentList}
 use Rattle.sg_tree.proofs.NameSpaceLemmas.{lookup_append}
 use Rattle.sg_tree.specs.Faults.{of_type}
 use Rattle.sg_tree.specs.NameSpaces.{Finds, found_in, numbered, or_else, with_number}
-use Rattle.sg_tree.specs.Tree.{items_or_none, list_of, rows_at, text_at}
+use Rattle.sg_tree.specs.Tree.{list_of, rows_at, text_at}
 use Rattle.toml.specs.Data.{Data, Items, Members, as_array, as_str, get}
 
 typed_arguments : (names : Known) (row : Data) (found : Option Items) → of_type (λ items. list_kinds (λ d. is_some (as_str d)) (texts_kinds names row ArgumentList) (list_of items)) found ≡ []
-    → argument_kinds names.workers row (items_or_none found) ≡ []
+    → argument_kinds names.workers row (option_map_or list_of found []) ≡ []
 typed_arguments names row None empty = cc
 typed_arguments names row (Some items) empty = typed_list (λ d. is_some (as_str d)) (texts_kinds names row ArgumentList) (list_of items) empty
 
 arguments_at : (names : Known) (number : ℕ) (row : Data) (d : Option Data) → kinds_at names number row (key (codes "argument") Optional (Texts ArgumentList)) d ≡ []
-    → argument_kinds names.workers row (items_or_none (option_and_then as_array d)) ≡ []
+    → argument_kinds names.workers row (option_map_or list_of (option_and_then as_array d) []) ≡ []
 unfolding value_kinds
 arguments_at names number row None empty = empty
 arguments_at names number row (Some d) empty = typed_arguments names row (as_array d) empty
 
 -- the arguments of a row fit, even if they are left out
 pub arguments_fit : (names : Known) (number : ℕ) (row : Data) → key_kinds names number row (key (codes "argument") Optional (Texts ArgumentList)) ≡ []
-    → argument_kinds names.workers row (items_or_none (option_and_then as_array (get (codes "argument") row))) ≡ []
+    → argument_kinds names.workers row (option_map_or list_of (option_and_then as_array (get (codes "argument") row)) []) ≡ []
 unfolding key_kinds
 arguments_fit names number row empty = arguments_at names number row (get (codes "argument") row) empty
 

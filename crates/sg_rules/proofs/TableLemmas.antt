@@ -1,10 +1,10 @@
 -- The first fault of a table.
-use Rattle.std.proofs.Common.{◌≡◌, ℕ, ◌<◌, ◌≤◌, true, nat_lt, List, map, length, get_or, drop, Option, Some, None, option_and_then, ap, ◌∙◌, sym, inl, inr, arith}
+use Rattle.std.proofs.Common.{◌≡◌, ℕ, ◌<◌, ◌≤◌, true, nat_lt, List, [], map, length, get_or, drop, Option, Some, None, option_and_then, ap, ◌∙◌, sym, inl, inr, arith}
 use Rattle.std.proofs.lemmas.List.{drop_more, length-map}
 use Rattle.toml.specs.Data.{Members, get_member, Data, Items, as_array}
 use Rattle.toml.specs.View.{view}
 use Rattle.toml.specs.declared.value.Value.{Value}
-use Rattle.sg_tree.specs.Tree.{rows_at, items_or_none, list_of}
+use Rattle.sg_tree.specs.Tree.{rows_at, list_of}
 use Rattle.sg_tree.specs.Names.{Known}
 use Rattle.sg_tree.specs.Along.{first, along}
 use Rattle.sg_rules.proofs.FaultParts.{row_faults_at}
@@ -20,14 +20,15 @@ use Rattle.sg_tables.specs.declared.tables.Table.TheVariants.{Zone, Host, Router
 use Rattle.sg_tree.proofs.Along.{first_append_none, first_append_some, first_at_none, first_at_some, along_map}
 use Rattle.std.proofs.lemmas.Bool.{cases_Bool}
 use Rattle.std.proofs.lemmas.Bool.Decides.{nat_tests}
+use Rattle.std.specs.Option.{option_map_or}
 use Rattle.sg_tree.specs.Faults.{kind_if, of_type}
 use Rattle.sg_tree.specs.declared.fault.Kind.TheVariants.{Limit}
 
-pub few_rows : (table : Table) (o : Option Data) → first (table_kinds table o) ≡ None → length (items_or_none (option_and_then as_array o)) ≤ (heading table).limit
+pub few_rows : (table : Table) (o : Option Data) → first (table_kinds table o) ≡ None → length (option_map_or list_of (option_and_then as_array o) []) ≤ (heading table).limit
 few_rows table None none = omega arith
 few_rows table (Some d) none = few_items table (as_array d) none
   where
-    few_items : (table : Table) (o : Option Items) → first (of_type (λ items. kind_if (nat_lt (heading table).limit (length (list_of items))) Limit) o) ≡ None → length (items_or_none o) ≤ (heading table).limit
+    few_items : (table : Table) (o : Option Items) → first (of_type (λ items. kind_if (nat_lt (heading table).limit (length (list_of items))) Limit) o) ≡ None → length (option_map_or list_of o []) ≤ (heading table).limit
     few_items table None none = omega arith
     few_items table (Some items) none =
         elim (cases_Bool (nat_lt (heading table).limit (length (list_of items)))) [

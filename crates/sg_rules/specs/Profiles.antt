@@ -8,7 +8,7 @@ use Rattle.sg_tables.specs.Units.{quantity_value}
 use Rattle.sg_tables.specs.declared.units.Quantity.{Quantity}
 use Rattle.sg_tables.specs.declared.units.Quantity.TheVariants.{Time, Speed, Bandwidth}
 use Rattle.sg_tree.specs.Faults.{kind_if}
-use Rattle.sg_tree.specs.Tree.{items_or_none}
+use Rattle.sg_tree.specs.Tree.{list_of}
 use Rattle.sg_tree.specs.declared.fault.Kind.{Kind}
 use Rattle.sg_tree.specs.declared.fault.Kind.TheVariants.{BadValue, Limit}
 use Rattle.toml.specs.Data.{Data, get, as_array}
@@ -19,7 +19,7 @@ quantity_of row = if is_some (get (codes "host") row) then Speed else Bandwidth
 
 -- the items of the array at a key
 abbrev pub items_at : List ℕ → Data → List Data
-items_at key row = items_or_none (option_and_then as_array (get key row))
+items_at key row = option_map_or list_of (option_and_then as_array (get key row)) []
 
 -- the amount that an item gives
 abbrev pub amount_in : Quantity → Data → Option ℕ

@@ -1,5 +1,5 @@
 -- The rules that the values of keys keep, each asked by itself of the whole tree.
-use Rattle.std.specs.Prelude.{is_none, is_some, ℕ, ◌+◌, ◌==◌, Bool, true, false, not, ◌&&◌, ◌||◌, nat_lt, nat_le, List, [], ◌∷◌, ◌++◌, if◌then◌else◌, Option, Some, option_and_then, length, codes}
+use Rattle.std.specs.Prelude.{is_none, is_some, ℕ, ◌+◌, ◌==◌, Bool, true, false, not, ◌&&◌, ◌||◌, nat_lt, nat_le, List, [], ◌∷◌, ◌++◌, if◌then◌else◌, Option, option_and_then, length, codes}
 use Rattle.std.specs.List.{list_all, list_any}
 use Rattle.std.specs.Option.{option_map_or}
 use Rattle.std.specs.Str.{bytes_eq}
@@ -39,7 +39,7 @@ id_kinds numbers number name = kind_if (not (is_name name)) BadName ++ kind_if (
 unfoldable pub link_id_kinds : Finds → ℕ → Bool → List ℕ → List Kind
 link_id_kinds taken number split id =
     kind_if (not (is_name id) || (split && nat_lt 59 (length id))) BadName
-    ++ kind_if (list_any (λ name. is_below (taken name) number) (taken_by split (Some id))) Duplicate
+    ++ kind_if (list_any (λ name. is_below (taken name) number) (taken_by split id)) Duplicate
 
 -- the name of a point: its number is not that of a zone
 unfoldable pub point_kinds : Known → List ℕ → List Kind

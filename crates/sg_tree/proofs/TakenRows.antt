@@ -5,8 +5,9 @@ use Rattle.std.proofs.lemmas.Cmp.{nat_list_cmp_total}
 use Rattle.std.specs.BTreeMap.{is_at}
 use Rattle.std.specs.Cmp.Lexicographic.{slice_cmp}
 use Rattle.std.specs.Map.{remove_entry}
+use Rattle.std.specs.Option.{option_map_or}
 use Rattle.std.specs.Ordering.{match_ordering, ordering_reverse}
-use Rattle.sg_tree.specs.Tree.{rows_at, items_or_none}
+use Rattle.sg_tree.specs.Tree.{list_of, rows_at}
 use Rattle.sg_tree.proofs.TreeLemmas.{list_of_items}
 use Rattle.toml.proofs.Views.{Entry, view-Array}
 use Rattle.toml.specs.Data.{Data, as_array, get_member, same_key}
@@ -41,8 +42,8 @@ kept_member q k (e ∷ es) far =
 pub kept_rows : (q k : List ℕ) (es left : List Entry) → left ≡ remove_entry (is_at (λ x. slice_cmp nat_cmp k (string_bytes x))) es → same_key q k ≡ false
     → rows_at q (members_view left) ≡ rows_at q (members_view es)
 unfolding rows_at
-kept_rows q k es left taken far = ap (λ d. items_or_none (option_and_then as_array d)) (ap (λ l. get_member q (members_view l)) taken ∙ kept_member q k es far)
+kept_rows q k es left taken far = ap (λ d. option_map_or list_of (option_and_then as_array d) []) (ap (λ l. get_member q (members_view l)) taken ∙ kept_member q k es far)
 
 -- the items of an array, as those of its data
-pub array_items : (v : Value) (items : Vec Value Global) → v ≡ Array items → map view items.items ≡ items_or_none (as_array (view v))
-array_items v items is = sym (list_of_items (map view items.items)) ∙ ap (λ d. items_or_none (as_array d)) (sym (view-Array items) ∙ ap view (sym is))
+pub array_items : (v : Value) (items : Vec Value Global) → v ≡ Array items → map view items.items ≡ option_map_or list_of (as_array (view v)) []
+array_items v items is = sym (list_of_items (map view items.items)) ∙ ap (λ d. option_map_or list_of (as_array d) []) (sym (view-Array items) ∙ ap view (sym is))

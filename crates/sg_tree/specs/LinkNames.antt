@@ -16,4 +16,4 @@ link_names row = option_map_or (λ id. if is_split row then split_names id else 
 
 -- the names that a row takes in the space of links
 abbrev pub taken_names : Data → List (List ℕ)
-taken_names row = taken_by (is_split row) (text_at (codes "id") row)
+taken_names row = option_map_or (taken_by (is_split row)) (text_at (codes "id") row) []

@@ -1,5 +1,5 @@
 -- How names are spelled.
-use Rattle.std.specs.Prelude.{ℕ, ◌==◌, Bool, not, ◌&&◌, ◌||◌, nat_le, List, [], ◌∷◌, ◌++◌, if◌then◌else◌, Option, Some, None, length, codes}
+use Rattle.std.specs.Prelude.{ℕ, ◌==◌, Bool, not, ◌&&◌, ◌||◌, nat_le, List, [], ◌∷◌, ◌++◌, if◌then◌else◌, length, codes}
 use Rattle.std.specs.Char.{is_ascii_alphanumeric}
 use Rattle.std.specs.List.{list_all}
 
@@ -16,6 +16,5 @@ abbrev pub split_names : List ℕ → List (List ℕ)
 split_names id = (id ++ codes "_UP") ∷ (id ++ codes "_DOWN") ∷ []
 
 -- the names that the row of a link takes in the space of links
-abbrev pub taken_by : Bool → Option (List ℕ) → List (List ℕ)
-taken_by split None = []
-taken_by split (Some id) = id ∷ (if split then split_names id else [])
+abbrev pub taken_by : Bool → List ℕ → List (List ℕ)
+taken_by split id = id ∷ (if split then split_names id else [])

@@ -1,6 +1,7 @@
 -- The tree of a text, and what stands at its keys.
-use Rattle.std.specs.Prelude.{ℕ, Bool, true, ◌&&◌, List, [], ◌∷◌, if◌then◌else◌, Option, Some, None, option_and_then, unwrap_or}
+use Rattle.std.specs.Prelude.{ℕ, Bool, true, ◌&&◌, List, [], ◌∷◌, if◌then◌else◌, Option, None, option_and_then, unwrap_or}
 use Rattle.std.specs.List.{list_any}
+use Rattle.std.specs.Option.{option_map_or}
 use Rattle.std.specs.Str.{bytes_eq, is_utf8}
 use Rattle.toml.specs.Data.{Data, Items, no_items, item, Members, no_members, member, get, get_member, as_array, as_str}
 use Rattle.toml.specs.Parse.{parse_document}
@@ -14,14 +15,9 @@ abbrev pub list_of : Items → List Data
 list_of no_items = []
 list_of (item d ds) = d ∷ list_of ds
 
--- the items of an array, or no items if there is no array
-abbrev pub items_or_none : Option Items → List Data
-items_or_none None = []
-items_or_none (Some ds) = list_of ds
-
 -- the rows of a table: none if it is absent or no array
 unfoldable pub rows_at : List ℕ → Members → List Data
-rows_at name tree = items_or_none (option_and_then as_array (get_member name tree))
+rows_at name tree = option_map_or list_of (option_and_then as_array (get_member name tree)) []
 
 -- the text at a key of a row
 abbrev pub text_at : List ℕ → Data → Option (List ℕ)

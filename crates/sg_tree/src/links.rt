@@ -65,7 +65,6 @@ fn add_taken(
 }
 
 /// Gives the names that links take the numbers of their rows.
-#[tactic(auto, using(crate::proofs::NameSpaceLemmas::along_turn))]
 fn add_all_taken(
     alloc: Global,
     space: &mut IndexMap<String, u32>,

@@ -1,6 +1,7 @@
 //! The tree of a text, and what stands at its keys.
 ghost use Rattle.std.specs.Prelude.{◌≡◌, ◌∷◌, [], IfOk, IsErrOf, Some, None, map, option_map, option_copied};
-ghost use Rattle.sg_tree.specs.Tree.{items_or_none, tree_of, rows_at, text_at, text_or_empty};
+ghost use Rattle.std.specs.Option.{option_map_or};
+ghost use Rattle.sg_tree.specs.Tree.{list_of, tree_of, rows_at, text_at, text_or_empty};
 ghost use Rattle.sg_tree.specs.kept.Rows.{KeepsBut};
 ghost use Rattle.toml.specs.Data.{as_array, get_member};
 ghost use Rattle.toml.specs.View.{view, table_view};
@@ -64,7 +65,7 @@ fn take_value(tree: &mut Table, name: &str) -> Option<Value>
 
 // Returns the items of an array: none if it isn't one.
 fn items_of(alloc: Global, value: Value) -> Vec<Value>
-    ensures { map view result.items ≡ items_or_none (as_array (view value)) }
+    ensures { map view result.items ≡ option_map_or list_of (as_array (view value)) [] }
 {
     match value {
         Value::Array(items) => items,
