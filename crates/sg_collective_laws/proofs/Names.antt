@@ -1,5 +1,5 @@
 -- The names of a deployment's actors stand for them in a script.
-use Rattle.std.proofs.Common.{◌≡◌, ◌<◌, ◌+◌, ◌-◌, ◌∙◌, ◌==◌, ◌&&◌, ap, sym, refl, subst, ℕ, zero, suc, Bool, true, false, cond, not, List, [], ◌∷◌, ◌++◌, length, All, Option, None, Some, option_map, inl, inr, arith, ne_eqb, leb-true, nat_le}
+use Rattle.std.proofs.Common.{◌≡◌, ◌<◌, ◌+◌, ◌-◌, ◌∙◌, ◌==◌, ◌&&◌, ap, sym, refl, subst, ℕ, zero, suc, Bool, true, false, cond, if◌then◌else◌, not, List, [], ◌∷◌, ◌++◌, length, All, Option, None, Some, option_map, inl, inr, arith, ne_eqb, leb-true, nat_le}
 use Rattle.std.specs.List.{list_all, slice_get}
 use Rattle.std.specs.Map.{lookup}
 use Rattle.std.specs.Prelude.{IsTrue, slice_index}
@@ -11,9 +11,9 @@ use Rattle.std.proofs.lemmas.List.Sums.{AllPass-from_list_all}
 use Rattle.std.proofs.lemmas.Option.{same_Some}
 use Rattle.std.proofs.lemmas.Slice.Eq.{bytes_eq-Decides}
 use Rattle.sg_base.specs.declared.ids.ActorId.{ActorId}
-use Rattle.sg_rows.specs.Deployment.{Deployed, extent_of, members_of, replay_actor_named}
-use Rattle.sg_rows.specs.Index.{names_if_replay, number_by}
-use Rattle.sg_rows.specs.kept.Finds.{numbered_names, replay_names}
+use Rattle.sg_rows.specs.Deployment.{Deployed, extent_of, is_replay, members_among, replay_actor_named, replay_names}
+use Rattle.sg_rows.specs.Index.{number_by}
+use Rattle.sg_rows.specs.kept.Finds.{numbered_names}
 use Rattle.sg_rows.specs.declared.rows.ActorRow.{ActorRow}
 use Rattle.sg_rows.specs.declared.rows.Function.{Function}
 use Rattle.sg_rows.specs.declared.rows.Function.TheVariants.{Replay, Worker, Master, Churn}
@@ -73,7 +73,7 @@ further text row rows first found there = record {
 
 at_function : (text : List ℕ) (row : ActorRow) (rows : List ActorRow) (first found : ℕ) →
     (lookup (bytes_eq text) (along (numbered_names replay_names) (first + 1) rows) ≡ Some found → Found text rows (first + 1) found) → (function : Function) →
-    lookup (bytes_eq text) (with_number first (names_if_replay function row.name) ++ along (numbered_names replay_names) (first + 1) rows) ≡ Some found → Found text (row ∷ rows) first found
+    lookup (bytes_eq text) (with_number first (if is_replay function then row.name ∷ [] else []) ++ along (numbered_names replay_names) (first + 1) rows) ≡ Some found → Found text (row ∷ rows) first found
 at_function text row rows first found behind Replay e = elim (cases_Bool (bytes_eq text row.name)) [
   | inl is ↦
       let same : first ≡ found = same_Some first found (sym (ap (λ (b : Bool). cond b (Some first) (lookup (bytes_eq text) (along (numbered_names replay_names) (first + 1) rows))) is) ∙ e) in
@@ -117,7 +117,7 @@ pub are_named : (deployed : Deployed) → HasNames deployed → AreNamed (known_
 are_named deployed has = record {
   named = λ actor known. named_by deployed has known.0 actor (number_by replay_names deployed.actors known.0) refl known.1;
   members = All-weaker (λ member. replay_actor_named deployed (name_of deployed member) ≡ Some member) (IsKnown (known_in deployed))
-      (λ member is. (name_of deployed member, is)) (members_of deployed) has.own;
+      (λ member is. (name_of deployed member, is)) (members_among deployed.actors) has.own;
   extent = extent_of deployed;
   exist = members_exist deployed;
 }

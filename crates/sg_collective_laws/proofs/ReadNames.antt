@@ -1,5 +1,5 @@
 -- A deployment that a text describes has names: they are spelled so, and each stands for one actor.
-use Rattle.std.proofs.Common.{◌≡◌, ◌<◌, ◌≤◌, ◌+◌, ◌-◌, ◌∙◌, ap, sym, refl, subst, ℕ, zero, suc, Bool, true, false, cond, not, List, [], ◌∷◌, ◌++◌, length, map, get_or, All, Option, None, Some, Result, Ok, Err, option_map, option_to_list, unwrap_or, codes, nat_lt, inl, inr, arith, lt-ltb}
+use Rattle.std.proofs.Common.{◌≡◌, ◌<◌, ◌≤◌, ◌+◌, ◌-◌, ◌∙◌, ap, sym, refl, subst, ℕ, zero, suc, Bool, true, false, cond, if◌then◌else◌, not, List, [], ◌∷◌, ◌++◌, length, map, get_or, All, Option, None, Some, Result, Ok, Err, option_map, option_to_list, unwrap_or, codes, nat_lt, inl, inr, arith, lt-ltb}
 use Rattle.std.specs.List.{slice_get}
 use Rattle.std.specs.Map.{lookup}
 use Rattle.std.specs.Option.{option_map_or}
@@ -12,9 +12,9 @@ use Rattle.sg_base.specs.declared.ids.ActorId.{ActorId}
 use Rattle.sg_platform.specs.Build.{actor_row}
 use Rattle.sg_platform.specs.DeploymentOf.{deployment_of, names_on, deployment_rows}
 use Rattle.sg_platform.specs.PlatformOf.{greatest_text, too_long, tree_by}
-use Rattle.sg_rows.specs.Deployment.{Deployed, id_if_replay, member_ids, members_among, members_of, replay_actor_named}
-use Rattle.sg_rows.specs.Index.{names_if_replay, number_by}
-use Rattle.sg_rows.specs.kept.Finds.{numbered_names, replay_names}
+use Rattle.sg_rows.specs.Deployment.{Deployed, is_replay, member_ids, members_among, replay_actor_named, replay_names}
+use Rattle.sg_rows.specs.Index.{number_by}
+use Rattle.sg_rows.specs.kept.Finds.{numbered_names}
 use Rattle.sg_rows.specs.Platform.{Platform}
 use Rattle.sg_rows.specs.declared.rows.ActorRow.{ActorRow}
 use Rattle.sg_rows.specs.declared.rows.Function.{Function}
@@ -196,11 +196,11 @@ first_found : (rows : List ActorRow) (from place : ℕ) (row : ActorRow) → sli
 first_found [] from place row at replays apart = absurd (cc at)
 first_found (head ∷ rows) from zero row at replays apart =
     let rest = along (numbered_names replay_names) (from + 1) rows in
-    let found : lookup (bytes_eq row.name) (with_number from (names_if_replay row.function row.name) ++ rest) ≡ Some (from + 0) =
-    ap (λ (f : Function). lookup (bytes_eq row.name) (with_number from (names_if_replay f row.name) ++ rest)) replays
+    let found : lookup (bytes_eq row.name) (with_number from (replay_names row) ++ rest) ≡ Some (from + 0) =
+    ap (λ (f : Function). lookup (bytes_eq row.name) (with_number from (if is_replay f then row.name ∷ [] else []) ++ rest)) replays
     ∙ ap (λ (b : Bool). cond b (Some from) (lookup (bytes_eq row.name) rest)) ((bytes_eq-Decides row.name row.name).1 refl)
     ∙ ap Some (omega arith) in
-    subst (λ (h : ActorRow). lookup (bytes_eq row.name) (with_number from (names_if_replay h.function h.name) ++ rest) ≡ Some (from + 0)) (sym (same_Some head row at)) found
+    subst (λ (h : ActorRow). lookup (bytes_eq row.name) (with_number from (replay_names h) ++ rest) ≡ Some (from + 0)) (sym (same_Some head row at)) found
 first_found (head ∷ rows) from (suc place) row at replays apart =
     let other : bytes_eq row.name head.name ≡ false =
     false_from_ne_true (bytes_eq row.name head.name) (λ is. apart 0 head (omega arith) refl (sym ((bytes_eq-Decides row.name head.name).0 is))) in
@@ -209,7 +209,7 @@ first_found (head ∷ rows) from (suc place) row at replays apart =
     ∙ ap Some (omega arith)
   where
     passed : (text name : List ℕ) (function : Function) (from : ℕ) (rest : List (List ℕ × ℕ)) → bytes_eq text name ≡ false →
-        lookup (bytes_eq text) (with_number from (names_if_replay function name) ++ rest) ≡ lookup (bytes_eq text) rest
+        lookup (bytes_eq text) (with_number from (if is_replay function then name ∷ [] else []) ++ rest) ≡ lookup (bytes_eq text) rest
     passed text name Replay from rest isnt = ap (λ (b : Bool). cond b (Some from) (lookup (bytes_eq text) rest)) isnt
     passed text name Worker from rest isnt = refl
     passed text name (Master tasks flops bytes workers) from rest isnt = refl
@@ -224,7 +224,7 @@ record IsMember (rows : List ActorRow) (from : ℕ) (member : ActorId) : Type 0 
   at : slice_get rows place ≡ Some row
   replays : row.function ≡ Replay
 
-one_member : (row : ActorRow) (rows : List ActorRow) (from : ℕ) (function : Function) → row.function ≡ function → All (IsMember (row ∷ rows) from) (id_if_replay function from)
+one_member : (row : ActorRow) (rows : List ActorRow) (from : ℕ) (function : Function) → row.function ≡ function → All (IsMember (row ∷ rows) from) (if is_replay function then record { 0 = from + 1 } ∷ [] else [])
 one_member row rows from Replay e =
     All-cons (IsMember (row ∷ rows) from) (record { 0 = from + 1 }) [] (record { place = 0; is = omega arith; row = row; at = refl; replays = e }) (All-nil (IsMember (row ∷ rows) from))
 one_member row rows from Worker e = All-nil (IsMember (row ∷ rows) from)
@@ -257,7 +257,7 @@ unfolding members_among AreNumbered
 tree_named names tree numbered none = record {
   spelled = λ k d less. spelled_at names tree none k (get_or (deployment_rows names tree).actors k d) (slice_get-get_or (deployment_rows names tree).actors k d less);
   own = All-weaker (IsMember (deployment_rows names tree).actors 0) (λ member. replay_actor_named (deployment_rows names tree) (name_of (deployment_rows names tree) member) ≡ Some member)
-      (member_named (deployment_rows names tree) (apart names tree none numbered)) (members_of (deployment_rows names tree)) (all_members (deployment_rows names tree).actors 0);
+      (member_named (deployment_rows names tree) (apart names tree none numbered)) (members_among (deployment_rows names tree).actors) (all_members (deployment_rows names tree).actors 0);
 }
 
 numbered_on : (platform : Platform) (tree : Tree) (text : List ℕ) →

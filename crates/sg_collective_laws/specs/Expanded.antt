@@ -3,7 +3,7 @@ use Rattle.std.specs.Prelude.{◌≡◌, ◌-◌, ℕ, Bool, IsTrue, All, true, 
 use Rattle.std.specs.List.{join_with_byte, slice_get, slice_split}
 use Rattle.sg_base.specs.declared.ids.ActorId.{ActorId}
 use Rattle.sg_edge.specs.Sources.{Source}
-use Rattle.sg_rows.specs.Deployment.{Deployed, members_of, replay_actor_named}
+use Rattle.sg_rows.specs.Deployment.{Deployed, members_among, replay_actor_named}
 use Rattle.sg_rows.specs.declared.rows.ActorRow.{ActorRow}
 use Rattle.sg_script.specs.Answer.{is_newline, lines_among}
 use Rattle.sg_script.specs.Known.{ScriptNames, known_in}
@@ -77,7 +77,7 @@ name_of deployed actor = row_name (slice_get deployed.actors (actor.0 - 1))
 -- names are spelled as names, and each actor that replays is the one that its name stands for
 pub record HasNames (deployed : Deployed) : Type 0 where
   pub spelled : All (λ row. IsTrue (is_name row.name)) deployed.actors
-  pub own : All (λ member. replay_actor_named deployed (name_of deployed member) ≡ Some member) (members_of deployed)
+  pub own : All (λ member. replay_actor_named deployed (name_of deployed member) ≡ Some member) (members_among deployed.actors)
 
 -- the source with each collective line replaced
 abbrev pub expanded_in : Deployed → Source → Source

@@ -1,9 +1,9 @@
 -- A deployment, and what holds of each one.
-use Rattle.std.specs.Prelude.{ℕ, ◌+◌, ◌<◌, ◌≤◌, ◌^◌, Bool, List, [], ◌∷◌, Option, count_by, length, option_map, ⊤}
+use Rattle.std.specs.Prelude.{ℕ, ◌+◌, ◌<◌, ◌≤◌, ◌^◌, Bool, true, false, List, [], ◌∷◌, if◌then◌else◌, Option, count_by, length, option_map, ⊤}
 use Rattle.std.specs.List.{All}
 use Rattle.sg_base.specs.declared.ids.ActorId.{ActorId}
 use Rattle.sg_base.specs.Limits.{Extent, IsActorIn, IsAmount}
-use Rattle.sg_rows.specs.Index.{names_if_replay, number_by}
+use Rattle.sg_rows.specs.Index.{number_by}
 use Rattle.sg_rows.specs.Platform.{Platform}
 use Rattle.sg_rows.specs.declared.rows.ActorRow.{ActorRow}
 use Rattle.sg_rows.specs.declared.rows.Function.{Function}
@@ -65,10 +65,18 @@ started_number deployed = count_by starts deployed.actors
 abbrev pub actor_named : Deployed → List ℕ → Option ActorId
 actor_named deployed name = option_map (λ row. record { 0 = row + 1 }) (number_by (λ actor. actor.name ∷ []) deployed.actors name)
 
+-- whether a function is replay: its actor takes its actions from the script
+abbrev pub is_replay : Function → Bool
+is_replay Replay = true
+is_replay other = false
+
+-- the names by which an actor that replays is found: its own, and none of one that does not replay
+abbrev pub replay_names : ActorRow → List (List ℕ)
+replay_names actor = if is_replay actor.function then actor.name ∷ [] else []
+
 -- the actor of a name, if it replays
 abbrev pub replay_actor_named : Deployed → List ℕ → Option ActorId
-replay_actor_named deployed name =
-    option_map (λ row. record { 0 = row + 1 }) (number_by (λ actor. names_if_replay actor.function actor.name) deployed.actors name)
+replay_actor_named deployed name = option_map (λ row. record { 0 = row + 1 }) (number_by replay_names deployed.actors name)
 
 -- the number of the mutex of a name, from 0 on
 abbrev pub mutex_named : Deployed → List ℕ → Option ℕ
@@ -78,19 +86,10 @@ mutex_named deployed name = number_by (λ mutex. mutex.id ∷ []) deployed.mutex
 abbrev pub semaphore_named : Deployed → List ℕ → Option ℕ
 semaphore_named deployed name = number_by (λ semaphore. semaphore.id ∷ []) deployed.semaphores name
 
--- the identifier of an actor that replays, at the place of its row
-abbrev pub id_if_replay : Function → ℕ → List ActorId
-id_if_replay Replay place = record { 0 = place + 1 } ∷ []
-id_if_replay other place = []
-
 -- the identifier of the actor of this row as a list, empty if it does not replay
 abbrev pub member_ids : ℕ → ActorRow → List ActorId
-member_ids place actor = id_if_replay actor.function place
+member_ids place actor = if is_replay actor.function then record { 0 = place + 1 } ∷ [] else []
 
 -- who takes part in collectives: all actors that replay, by rising identifier
 unfoldable pub members_among : List ActorRow → List ActorId
 members_among actors = along member_ids 0 actors
-
--- the actors of a deployment that take part in collectives, by rising identifier
-abbrev pub members_of : Deployed → List ActorId
-members_of deployed = members_among deployed.actors

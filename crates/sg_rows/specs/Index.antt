@@ -2,8 +2,6 @@
 use Rattle.std.specs.Prelude.{ℕ, List, [], ◌∷◌}
 use Rattle.std.specs.Map.{lookup}
 use Rattle.std.specs.Str.{bytes_eq}
-use Rattle.sg_rows.specs.declared.rows.Function.{Function}
-use Rattle.sg_rows.specs.declared.rows.Function.TheVariants.{Replay}
 use Rattle.sg_rows.specs.declared.rows.HostRow.{HostRow}
 use Rattle.sg_tree.specs.Along.{along}
 use Rattle.sg_tree.specs.NameSpaces.{Finds, with_number}
@@ -15,8 +13,3 @@ number_by names_of rows name = lookup (bytes_eq name) (along (λ i row. with_num
 -- the number of the first host that has a name, from 0 on
 abbrev pub host_number : List HostRow → Finds
 host_number hosts = number_by (λ host. host.id ∷ []) hosts
-
--- an actor that doesn't replay has no name as one that does
-abbrev pub names_if_replay : Function → List ℕ → List (List ℕ)
-names_if_replay Replay name = name ∷ []
-names_if_replay other name = []

@@ -1,9 +1,9 @@
 //! Deployments.
 ghost use Rattle.std.specs.Prelude.{◌≡◌, ◌≤◌, ◌∷◌, [], All, IfOk, length};
 ghost use Rattle.sg_base.specs.Limits.{IsActorIn};
-ghost use Rattle.sg_rows.specs.Deployment.{IsDeployment, actor_named, deployment_of_rows, extent_of, members_among, members_of, mutex_named, replay_actor_named, semaphore_named};
+ghost use Rattle.sg_rows.specs.Deployment.{IsDeployment, actor_named, deployment_of_rows, extent_of, members_among, mutex_named, replay_actor_named, replay_names, semaphore_named};
 ghost use Rattle.sg_rows.specs.Index.{number_by};
-ghost use Rattle.sg_rows.specs.kept.Finds.{FindsAs, replay_names};
+ghost use Rattle.sg_rows.specs.kept.Finds.{FindsAs};
 
 use crate::index::{replay_by_name, rows_by_name};
 use crate::names::NameTable;
@@ -220,7 +220,7 @@ impl Deployment {
 
     /// Returns who takes part in collectives: all actors that replay, by rising identifier.
     pub fn members(&self) -> &Members
-        ensures members { result.now ≡ members_of self.now }
+        ensures members { result.now ≡ members_among self.now.actors }
         ensures exist { All (IsActorIn (extent_of self.now)) result.now }
     {
         &self.members

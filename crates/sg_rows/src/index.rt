@@ -3,8 +3,9 @@ ghost use Rattle.std.specs.Prelude.{◌≡◌, ℕ, List, ◌∷◌, [], IfOk, O
 ghost use Rattle.std.specs.HashMap.{get_by_text};
 ghost use Rattle.std.specs.Map.{lookup};
 ghost use Rattle.std.specs.Str.{bytes_eq};
+ghost use Rattle.sg_rows.specs.Deployment.{replay_names};
 ghost use Rattle.sg_rows.specs.Index.{host_number, number_by};
-ghost use Rattle.sg_rows.specs.kept.Finds.{FindsAs, finds, numbered_names, replay_names};
+ghost use Rattle.sg_rows.specs.kept.Finds.{FindsAs, finds, numbered_names};
 ghost use Rattle.sg_tree.specs.Along.{along};
 ghost use Rattle.sg_tree.specs.NameSpaces.{Adds, or_else, with_number};
 

@@ -1,5 +1,5 @@
 -- The members of a deployment, named by their actors, meet in each collective.
-use Rattle.std.proofs.Common.{◌≡◌, ◌≢◌, ◌<◌, ◌≤◌, ◌+◌, ◌∙◌, sym, ap₂, refl, ℕ, Bool, true, false, eqb, cond, map, List, [], ◌∷◌, ◌++◌, length, get_or, Option, None, Some, inl, inr, arith}
+use Rattle.std.proofs.Common.{◌≡◌, ◌≢◌, ◌<◌, ◌≤◌, ◌+◌, ◌∙◌, sym, ap₂, refl, ℕ, Bool, true, false, eqb, cond, if◌then◌else◌, map, List, [], ◌∷◌, ◌++◌, length, get_or, Option, None, Some, inl, inr, arith}
 use Rattle.std.specs.List.{All, AllPairs, count_by, position_or_len}
 use Rattle.std.specs.Option.{option_map_or}
 use Rattle.std.proofs.lemmas.Bool.{cases_Bool, cases_lt}
@@ -24,7 +24,7 @@ use Rattle.sg_collectives.proofs.Ranges.{count_by-map}
 use Rattle.sg_rows.specs.declared.rows.ActorRow.{ActorRow}
 use Rattle.sg_rows.specs.declared.rows.Function.{Function}
 use Rattle.sg_rows.specs.declared.rows.Function.TheVariants.{Replay, Worker, Master, Churn}
-use Rattle.sg_rows.specs.Deployment.{Deployed, id_if_replay, member_ids, members_among, members_of}
+use Rattle.sg_rows.specs.Deployment.{Deployed, is_replay, member_ids, members_among}
 use Rattle.sg_tree.specs.Along.{along}
 use Rattle.sg_script.proofs.Splits.{none_cases}
 use Rattle.sg_script.specs.Laws.{CollectivesMeet, receives_from, sends_to}
@@ -79,7 +79,7 @@ IsAbove place m = place < m.0
 weaker : (place : ℕ) (ids : List ActorId) → All (IsAbove (place + 1)) ids → All (IsAbove place) ids
 weaker place ids all = λ k d below. let it : place + 1 < (get_or ids k d).0 = all k d below in omega (arith, it)
 
-with_row : (function : Function) (place : ℕ) (ids : List ActorId) → All (IsAbove (place + 1)) ids → All (IsAbove place) (id_if_replay function place ++ ids)
+with_row : (function : Function) (place : ℕ) (ids : List ActorId) → All (IsAbove (place + 1)) ids → All (IsAbove place) ((if is_replay function then record { 0 = place + 1 } ∷ [] else []) ++ ids)
 with_row Replay place ids all = All-cons (IsAbove place) (record { 0 = place + 1 }) ids (omega arith) (weaker place ids all)
 with_row Worker place ids all = weaker place ids all
 with_row (Master tasks flops bytes workers) place ids all = weaker place ids all
@@ -89,7 +89,7 @@ above : (place : ℕ) (rows : List ActorRow) → All (IsAbove place) (along memb
 above place [] = All-nil (IsAbove place)
 above place (row ∷ rows) = with_row row.function place (along member_ids (place + 1) rows) (above (place + 1) rows)
 
-rising_with : (function : Function) (place : ℕ) (ids : List ActorId) → All (IsAbove (place + 1)) ids → AllPairs IsBelow ids → AllPairs IsBelow (id_if_replay function place ++ ids)
+rising_with : (function : Function) (place : ℕ) (ids : List ActorId) → All (IsAbove (place + 1)) ids → AllPairs IsBelow ids → AllPairs IsBelow ((if is_replay function then record { 0 = place + 1 } ∷ [] else []) ++ ids)
 rising_with Replay place ids all pairs = AllPairs-cons IsBelow (record { 0 = place + 1 }) ids all pairs
 rising_with Worker place ids all pairs = pairs
 rising_with (Master tasks flops bytes workers) place ids all pairs = pairs
@@ -112,7 +112,7 @@ differ_by members pairs i j i_below j_below is = elim (cases_lt i j) [
   ]
 ]
 
-members_differ : (deployed : Deployed) → Differ (members_of deployed)
+members_differ : (deployed : Deployed) → Differ (members_among deployed.actors)
 unfolding members_among
 members_differ deployed = differ_by (along member_ids 0 deployed.actors) (rising 0 deployed.actors)
 
@@ -234,4 +234,4 @@ by_ranks members collective a b (Some ra) (Some rb) differ a_is b_is =
 
 pub meet : CollectivesMeet
 unfolding actions_of
-meet deployed collective a b = by_ranks (members_of deployed) collective a b (rank_of (members_of deployed) a) (rank_of (members_of deployed) b) (members_differ deployed) refl refl
+meet deployed collective a b = by_ranks (members_among deployed.actors) collective a b (rank_of (members_among deployed.actors) a) (rank_of (members_among deployed.actors) b) (members_differ deployed) refl refl

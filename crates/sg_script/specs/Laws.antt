@@ -5,7 +5,7 @@ use Rattle.sg_base.specs.declared.call.Action.TheVariants.{ISend, IRecv, Recv, S
 use Rattle.sg_collectives.specs.declared.collective.Collective.{Collective}
 use Rattle.sg_edge.specs.Files.{PartView}
 use Rattle.sg_edge.specs.Sources.{Source}
-use Rattle.sg_rows.specs.Deployment.{Deployed, members_of}
+use Rattle.sg_rows.specs.Deployment.{Deployed, members_among}
 use Rattle.sg_script.specs.Answer.{answer_of}
 use Rattle.sg_script.specs.Fetched.{fetches_of, one_more}
 use Rattle.sg_script.specs.Known.{ScriptNames}
@@ -51,5 +51,5 @@ receives_from from other = false
 -- that one receives from it
 abbrev pub CollectivesMeet : Type 0
 CollectivesMeet = (deployed : Deployed) (collective : Collective) (a b : ℕ) →
-    count_by (sends_to b) (actions_for (members_of deployed) a (Together collective))
-    ≡ count_by (receives_from a) (actions_for (members_of deployed) b (Together collective))
+    count_by (sends_to b) (actions_for (members_among deployed.actors) a (Together collective))
+    ≡ count_by (receives_from a) (actions_for (members_among deployed.actors) b (Together collective))

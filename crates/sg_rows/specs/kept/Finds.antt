@@ -4,9 +4,8 @@ use Rattle.std.specs.HashMap.{HashMap, get_by}
 use Rattle.std.specs.Str.{bytes_eq}
 use Rattle.std.specs.Global.{Vec}
 use Rattle.sg_base.specs.declared.ids.ActorId.{ActorId}
-use Rattle.sg_rows.specs.Deployment.{Deployed, IsDeployment, members_of}
-use Rattle.sg_rows.specs.Index.{names_if_replay, number_by}
-use Rattle.sg_rows.specs.declared.rows.ActorRow.{ActorRow}
+use Rattle.sg_rows.specs.Deployment.{Deployed, IsDeployment, members_among, replay_names}
+use Rattle.sg_rows.specs.Index.{number_by}
 use Rattle.sg_tree.specs.NameSpaces.{Finds, with_number}
 
 -- the key is these bytes
@@ -25,15 +24,11 @@ FindsAs map found = (q : List ℕ) → finds map q ≡ found q
 abbrev pub numbered_names : {X : Type 0} → (X → List (List ℕ)) → ℕ → X → List (List ℕ × ℕ)
 numbered_names names_of i row = with_number i (names_of row)
 
--- the names by which an actor that replays is found
-abbrev pub replay_names : ActorRow → List (List ℕ)
-replay_names actor = names_if_replay actor.function actor.name
-
 -- the rows are a deployment, these maps find its actors, those that replay, its mutexes and its semaphores, and these actors take part in collectives
 pub record IsIndexed {S : Type 0} (actors_by replay_by mutexes_by semaphores_by : HashMap (Vec ℕ) ℕ S) (ids : List ActorId) (rows : Deployed) : Type 0 where
   pub actors : FindsAs actors_by (number_by (λ actor. actor.name ∷ []) rows.actors)
   pub replay : FindsAs replay_by (number_by replay_names rows.actors)
   pub mutexes : FindsAs mutexes_by (number_by (λ mutex. mutex.id ∷ []) rows.mutexes)
   pub semaphores : FindsAs semaphores_by (number_by (λ semaphore. semaphore.id ∷ []) rows.semaphores)
-  pub members : ids ≡ members_of rows
+  pub members : ids ≡ members_among rows.actors
   pub kept : IsDeployment rows

@@ -5,7 +5,7 @@ use Rattle.sg_base.specs.declared.call.Action.{Action}
 use Rattle.sg_edge.specs.Files.{Only, PartView}
 use Rattle.sg_edge.specs.declared.files.Part.{Part}
 use Rattle.sg_edge.specs.declared.files.Part.TheVariants as part
-use Rattle.sg_rows.specs.Deployment.{Deployed, extent_of, members_of}
+use Rattle.sg_rows.specs.Deployment.{Deployed, extent_of, members_among}
 use Rattle.sg_script.specs.Known.{actors_in, known_in}
 use Rattle.sg_script.specs.Line.{Judgement, KeepsLimits}
 use Rattle.sg_script.specs.Stands.{AreLimited, IsLimited, IsRead, Kept}
@@ -39,7 +39,7 @@ pub record IsReady (deployed : Deployed) (actor : ℕ) (kept : Kept) : Type 0 wh
 -- so it is, and no action waits for the actor
 pub record IsIdle (deployed : Deployed) (actor : ℕ) (kept : Kept) : Type 0 where
   pub ready : IsReady deployed actor kept
-  pub empty : waits (members_of deployed) kept.queues actor ≡ []
+  pub empty : waits (members_among deployed.actors) kept.queues actor ≡ []
 
 -- an answer, if there is one, and the lines that wait keep to the limits
 pub record KeepsLimitsIf (deployed : Deployed) (answer : Option (Result (Option Action) ScriptFault))

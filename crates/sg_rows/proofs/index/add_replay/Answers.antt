@@ -1,7 +1,8 @@
 use Rattle.std.proofs.Common.{◌∙◌, ap}
 use Rattle.std.specs.Map.{lookup}
 use Rattle.std.specs.Str.{bytes_eq}
-use Rattle.sg_rows.specs.kept.Finds.{finds, numbered_names, replay_names}
+use Rattle.sg_rows.specs.Deployment.{replay_names}
+use Rattle.sg_rows.specs.kept.Finds.{finds, numbered_names}
 use Rattle.sg_tree.proofs.NameSpaceLemmas.{along_turn}
 use Rattle.sg_tree.specs.NameSpaces.{or_else}
 use Rattle.sg_rows.proofs.index.add_replay.Goals as goal

@@ -1,6 +1,6 @@
 use Rattle.std.proofs.Common.{arith, ◌∙◌, sym}
 use Rattle.sg_rows.proofs.RowsBelow.{row_below}
-use Rattle.sg_rows.specs.kept.Finds.{replay_names}
+use Rattle.sg_rows.specs.Deployment.{replay_names}
 use Rattle.sg_rows.proofs.deployment.Deployment.replay_actor.Goals as goal
 
 pub overflow_add-result : goal.overflow_add-result
