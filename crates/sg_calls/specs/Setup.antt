@@ -8,15 +8,13 @@ use Rattle.sg_lives.specs.declared.kinds.LinkCap.{LinkCap}
 use Rattle.sg_lives.specs.declared.kinds.Power.{Power}
 use Rattle.sg_profile.specs.Profiles.{profiles_in}
 use Rattle.sg_rows.specs.declared.rows.ActorRow.{ActorRow}
-use Rattle.sg_rows.specs.declared.rows.Function.{Function}
-use Rattle.sg_rows.specs.declared.rows.Function.TheVariants.{Replay}
 use Rattle.sg_rows.specs.declared.rows.HostRow.{HostRow}
 use Rattle.sg_rows.specs.declared.rows.LinkRow.{LinkRow}
 use Rattle.sg_rows.specs.declared.rows.Policy.{Policy}
 use Rattle.sg_rows.specs.declared.rows.Policy.TheVariants.{Shared, Fatpipe, SplitDuplex}
 use Rattle.sg_rows.specs.declared.rows.Power as rows
 use Rattle.sg_rows.specs.declared.rows.SemaphoreRow.{SemaphoreRow}
-use Rattle.sg_rows.specs.Deployment.{Deployed, starts}
+use Rattle.sg_rows.specs.Deployment.{Deployed, is_replay, starts}
 use Rattle.sg_rows.specs.Ends.{link_ends}
 use Rattle.sg_rows.specs.Network.{bandwidth_over}
 use Rattle.sg_rows.specs.Platform.{Platform}
@@ -59,11 +57,6 @@ caps_in network row = caps_of row.policy (bandwidth_over network row.bandwidth)
 -- the links of all rows, and last the loopback, a FATPIPE link of 498,000,000 bytes a second without the factor
 abbrev pub link_caps : Network → List LinkRow → List LinkCap
 link_caps network rows = flat_map (caps_in network) rows ++ link_cap 498000000 true ∷ []
-
--- whether a function is replay: its actor takes actions from the script
-abbrev pub is_replay : Function → Bool
-is_replay Replay = true
-is_replay other = false
 
 -- whether an actor takes its actions from the script, and so is a member of collectives
 abbrev pub replays : ActorRow → Bool

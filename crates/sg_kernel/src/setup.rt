@@ -1,10 +1,10 @@
 //! What a platform and a deployment give to a simulation, row by row. An `Err` says that memory ran out.
 ghost use Rattle.std.specs.Prelude.{◌≡◌, ◌≤◌, ◌++◌, All, IfOk, OnOk, length, map, option_map};
 ghost use Rattle.std.specs.List.{count_by};
-ghost use Rattle.sg_rows.specs.Deployment.{starts};
+ghost use Rattle.sg_rows.specs.Deployment.{is_replay, starts};
 ghost use Rattle.sg_rows.specs.Network.{IsNetwork};
 ghost use Rattle.sg_rows.specs.Platform.{IsLinkRow};
-ghost use Rattle.sg_calls.specs.Setup.{capacity_of, caps_in, host_cap, is_replay, link_cap, link_caps, power_of_row, replays};
+ghost use Rattle.sg_calls.specs.Setup.{capacity_of, caps_in, host_cap, link_cap, link_caps, power_of_row, replays};
 
 use sg_base::{Memory, PointId};
 use sg_lives::{HostCap, LinkCap, Power};

@@ -1,7 +1,7 @@
 //! Whether a deployment suits a run.
 ghost use Rattle.std.specs.Prelude.{◌≡◌, ◌≤◌, count_by, position, true, IfOk, IfErr};
-ghost use Rattle.sg_calls.specs.Setup.{is_replay as is_replay_spec, replays};
-ghost use Rattle.sg_rows.specs.Deployment.{starts, started_number};
+ghost use Rattle.sg_calls.specs.Setup.{replays};
+ghost use Rattle.sg_rows.specs.Deployment.{is_replay as is_replay_spec, starts, started_number};
 ghost use Rattle.simgrid_replay.specs.kept.Reading.{IsOfDeployment};
 ghost use Rattle.simgrid_replay.specs.Settings.{fitting as fitting_spec};
 
