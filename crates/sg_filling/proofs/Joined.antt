@@ -4,7 +4,8 @@ use Rattle.std.proofs.Common.{◌≡◌, ◌≢◌, ℕ, ◌-◌, ◌*◌, ◌/�
 use Rattle.std.proofs.lemmas.List.Elements.{All-get_or}
 use Rattle.sg_base.specs.MarkSet.{is_in}
 use Rattle.sg_chains.specs.Chained.{times, users_on}
-use Rattle.sg_maxmin.specs.Fill.{Flow, Fixed, is_on, level, level_of, limits, share_of_fixed, taken, waiting}
+use Rattle.sg_maxmin.specs.Fill.{Flow, is_on, level_of}
+use Rattle.sg_maxmin.specs.Fixing.{Fixed, level, limits, share_of_fixed, taken, waiting}
 use Rattle.sg_maxmin.specs.Sharing.{Sharing, flow_at, held, uses_at}
 use Rattle.sg_maxmin.proofs.Held.{held_in}
 use Rattle.sg_maxmin.proofs.Leveled.{IsLeveled, Limited, below, share_of_leveled}

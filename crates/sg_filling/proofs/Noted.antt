@@ -3,7 +3,8 @@ use Rattle.std.proofs.Common.{◌≡◌, ℕ, ◌-◌, ◌/◌, ◌<◌, ◌≤�
 use Rattle.std.proofs.Math.Nat.{div-zero}
 use Rattle.sg_base.specs.MarkSet.{is_in}
 use Rattle.sg_chains.specs.Chained.{users_on}
-use Rattle.sg_maxmin.specs.Fill.{Fixed, Flow, step}
+use Rattle.sg_maxmin.specs.Fill.{Flow}
+use Rattle.sg_maxmin.specs.Fixing.{Fixed, step}
 use Rattle.sg_maxmin.specs.Sharing.{Sharing, uses_at}
 use Rattle.sg_maxmin.proofs.Members.{In, In-flat_map, In-flat_map_back, In-from_contains, In-map, contains_from_In}
 use Rattle.sg_maxmin.proofs.Rises.{limits_rise}

@@ -6,7 +6,8 @@ use Rattle.sg_base.specs.MarkSet.{is_in}
 use Rattle.sg_chains.specs.declared.uses.Use.{Use}
 use Rattle.sg_chains.specs.Chained.{users_on}
 use Rattle.sg_chains.specs.Walk.{next_on, user_of}
-use Rattle.sg_maxmin.specs.Fill.{Flow, bound_level, level, level_of, limits, lowest, share_of_fixed, step, steps_from, unfixed}
+use Rattle.sg_maxmin.specs.Fill.{Flow, bound_level, level_of}
+use Rattle.sg_maxmin.specs.Fixing.{level, limits, lowest, share_of_fixed, step, steps_from, unfixed}
 use Rattle.sg_maxmin.specs.Sharing.{Sharing, uses_at}
 use Rattle.sg_maxmin.proofs.Members.{In, In-append_cases, In-append_left, In-append_right, In-from_contains, In-map, In-map_back, contains_from_In}
 use Rattle.sg_maxmin.proofs.OneStep.{limit_bound, limit_cases, limit_level, lowest_in, lowest_le, step_at}

@@ -4,7 +4,8 @@ use Rattle.std.specs.List.{list_any}
 use Rattle.std.proofs.lemmas.List.Sums.{sum_by-cons}
 use Rattle.std.proofs.lemmas.List.Elements.{All-get_or}
 use Rattle.sg_base.specs.MarkSet.{is_in}
-use Rattle.sg_maxmin.specs.Fill.{Flow, is_on, share_of, share_of_fixed}
+use Rattle.sg_maxmin.specs.Fill.{Flow, is_on, share_of}
+use Rattle.sg_maxmin.specs.Fixing.{share_of_fixed}
 use Rattle.sg_maxmin.specs.Laws.{HaveLimits}
 use Rattle.sg_chains.specs.Chained.{times}
 use Rattle.sg_maxmin.specs.Sharing.{Sharing, HasLimit, uses_at, flow_at}

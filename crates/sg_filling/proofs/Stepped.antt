@@ -1,7 +1,8 @@
 -- The passes of one step over the touched flows are a step of the max-min solve.
 use Rattle.std.proofs.Common.{◌≡◌, ◌≢◌, ℕ, ◌+◌, ◌-◌, ◌*◌, ◌/◌, ◌≤◌, inl, inr, Bool, true, false, cond, ◌&&◌, is_none, Option, None, Some, option_map, option_to_list, List, [], ◌∷◌, ◌++◌, map, filter, flat_map, get_or, sum_by, AllPairs, refl, sym, ap, ap₂, subst, ◌∙◌, arith}
 use Rattle.std.proofs.lemmas.List.Sums.{sum_by-cons}
-use Rattle.sg_maxmin.specs.Fill.{Flow, Fixed, share_of_fixed, bound_level, is_on, taken, waiting, level, limits, least, lowest, step}
+use Rattle.sg_maxmin.specs.Fill.{Flow, bound_level, is_on, least}
+use Rattle.sg_maxmin.specs.Fixing.{Fixed, share_of_fixed, taken, waiting, level, limits, lowest, step}
 use Rattle.sg_chains.specs.Chained.{times}
 use Rattle.sg_maxmin.specs.Sharing.{Sharing, uses_at}
 use Rattle.sg_maxmin.proofs.Members.{In, In-map, In-from_contains, contains_from_In}

@@ -1,6 +1,7 @@
 -- A max-min solve of the touched flows, by their numbers.
 use Rattle.std.specs.Prelude.{◌≡◌, ◌≢◌, ℕ, ◌+◌, ◌-◌, ◌*◌, ◌/◌, ◌<◌, ◌≤◌, ◌==◌, ◌⊎◌, Bool, true, false, AllPairs, Option, None, Some, IsSome, is_none, option_to_list, if◌then◌else◌, List, [], ◌∷◌, ◌++◌, map, flat_map, length, sum_by, All, Contains, slice_index, slice_index_or, slice_set}
-use Rattle.sg_maxmin.specs.Fill.{Flow, share_at, share_of_fixed, level_of}
+use Rattle.sg_maxmin.specs.Fill.{Flow, share_at, level_of}
+use Rattle.sg_maxmin.specs.Fixing.{share_of_fixed}
 use Rattle.sg_chains.specs.Chained.{times}
 use Rattle.sg_maxmin.specs.Sharing.{Sharing, IsSound, flow_at, uses_at}
 use Rattle.sg_base.specs.MarkSet.{is_in}

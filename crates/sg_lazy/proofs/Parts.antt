@@ -1,7 +1,8 @@
 -- What nothing reached, and what is touched, are parts.
 use Rattle.std.proofs.Common.{◌≡◌, ℕ, ◌-◌, ◌*◌, ◌/◌, ◌<◌, ◌≤◌, inl, inr, min, Bool, true, false, cond, not, ◌&&◌, true≢false, Some, is_none, List, filter, get_or, ◌==◌, eqb-true, refl, sym, ap, ap₂, subst, ◌∙◌, arith}
 use Rattle.std.proofs.lemmas.Grind.{div_ceil_times}
-use Rattle.sg_maxmin.specs.Fill.{Flow, Fixed, is_on, bounded, share_at, share_of_fixed, bound_level, taken, waiting, level, level_of, limits, share_of}
+use Rattle.sg_maxmin.specs.Fill.{Flow, is_on, bounded, share_at, bound_level, level_of, share_of}
+use Rattle.sg_maxmin.specs.Fixing.{Fixed, share_of_fixed, taken, waiting, level, limits}
 use Rattle.sg_maxmin.specs.Laws.{HaveLimits}
 use Rattle.sg_maxmin.proofs.Members.{In, In-filter, In-filter_back, In-from_contains, contains_from_In, list_any_in, list_any_back}
 use Rattle.sg_maxmin.proofs.Sums.{sum_by-filter}

@@ -3,7 +3,8 @@ use Rattle.std.proofs.Common.{◌≡◌, ◌≢◌, ℕ, ◌+◌, ◌-◌, ◌*�
 use Rattle.std.specs.List.{list_any}
 use Rattle.std.proofs.lemmas.List.Sums.{sum_by-cons}
 use Rattle.sg_chains.specs.Chained.{times, users_on}
-use Rattle.sg_maxmin.specs.Fill.{Flow, share_at, share_of_fixed}
+use Rattle.sg_maxmin.specs.Fill.{Flow, share_at}
+use Rattle.sg_maxmin.specs.Fixing.{share_of_fixed}
 use Rattle.sg_maxmin.specs.Sharing.{Sharing, IsSound, flow_at, uses_at}
 use Rattle.sg_maxmin.proofs.Sums.{sum_by_same}
 use Rattle.sg_maxmin.specs.Numbered.{flow_in, level_at, row_taken, row_waiting, weight_at}

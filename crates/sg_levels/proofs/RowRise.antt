@@ -1,7 +1,8 @@
 -- As flows of higher levels are fixed, the level of a resource doesn't fall.
 use Rattle.std.proofs.Common.{◌≡◌, ℕ, suc, ◌+◌, ◌-◌, ◌*◌, ◌/◌, ◌<◌, ◌≤◌, ◌⊎◌, inl, inr, true, cond, lt-ltb, le-ltb, is_none, Option, None, Some, IfSome, List, [], ◌∷◌, length, mul-le-mul_right, get_or, take, sum_by, refl, sym, ap, ap₂, subst, ◌∙◌, arith, div-mul-le_self, le_trans, div-le_self}
 use Rattle.std.proofs.lemmas.List.Sums.{sum_by-cons}
-use Rattle.sg_maxmin.specs.Fill.{Flow, share_of_fixed}
+use Rattle.sg_maxmin.specs.Fill.{Flow}
+use Rattle.sg_maxmin.specs.Fixing.{share_of_fixed}
 use Rattle.sg_maxmin.proofs.Members.{In}
 use Rattle.sg_maxmin.proofs.Sums.{sum_by_le, sum_by-add, sum_by-mul, sum_by_same}
 use Rattle.sg_maxmin.specs.Numbered.{below_at, flow_in, level_at, row_level, row_taken, row_waiting, weight_at, when_below}

@@ -1,7 +1,8 @@
 //! The level at which a resource holds its flows.
 ghost use Rattle.std.specs.Prelude.{◌≡◌, ◌≤◌, ◌<◌, ◌+◌, ◌-◌, ◌*◌, ◌/◌, ℕ, Option, None, Some, IfSome, is_none, length, slice_index, if◌then◌else◌};
 ghost use Rattle.sg_chains.specs.Chained.{users_on};
-ghost use Rattle.sg_maxmin.specs.Fill.{bounded, share_of_fixed};
+ghost use Rattle.sg_maxmin.specs.Fill.{bounded};
+ghost use Rattle.sg_maxmin.specs.Fixing.{share_of_fixed};
 ghost use Rattle.sg_maxmin.specs.Held.{IsHold};
 ghost use Rattle.sg_levels.specs.Kept.{CanCount, CanPass, IsFirstPass, IsLevelAbove, IsPass, IsRest};
 ghost use Rattle.sg_maxmin.specs.Numbered.{below_at, flow_in, level_at, row_level, row_taken, row_waiting, weight_at, when_below};

@@ -1,6 +1,7 @@
 -- Balanced levels are the max-min levels.
 use Rattle.std.proofs.Common.{◌≡◌, ℕ, zero, suc, ◌+◌, ◌-◌, ◌*◌, ◌/◌, ◌<◌, ◌≤◌, ◌⊎◌, inl, inr, Bool, true, false, cond, ◌&&◌, ◌==◌, lt-ltb, le-ltb, true≢false, eqb-true, Option, Some, None, is_none, List, [], ◌∷◌, slice_index, refl, sym, ap, ap₂, subst, ◌∙◌, arith, mul-add, le-div_iff_mul-le, div-mul-le_self, mul-le-mul_left, mul_comm}
-use Rattle.sg_maxmin.specs.Fill.{Flow, Fixed, is_on, taken, waiting, level, limits, level_of, bound_level, share_of_fixed}
+use Rattle.sg_maxmin.specs.Fill.{Flow, is_on, level_of, bound_level}
+use Rattle.sg_maxmin.specs.Fixing.{Fixed, taken, waiting, level, limits, share_of_fixed}
 use Rattle.sg_maxmin.proofs.Members.{In, In-from_contains, contains_from_In, list_any_back}
 use Rattle.sg_maxmin.proofs.Sums.{sum_by_same, sum_by_le, sum_by-add, sum_by-mul}
 use Rattle.sg_maxmin.proofs.OneStep.{limit_cases, limit_bound, limit_level, is_at_back, is_at_in}

@@ -2,10 +2,12 @@
 use Rattle.std.proofs.Common.{◌≡◌, ℕ, zero, suc, ◌-◌, ◌*◌, ◌/◌, ◌≤◌, ◌==◌, Bool, true, false, cond, ◌&&◌, Option, None, Some, is_none, option_map, option_to_list, List, [], ◌∷◌, ◌++◌, map, filter, flat_map, length, slice_index, refl, sym, ap, ap₂, subst, ◌∙◌, inl, inr, arith}
 use Rattle.std.specs.Option.{unwrap_or}
 use Rattle.std.specs.List.{list_any}
-use Rattle.sg_maxmin.specs.Fill.{Flow, Fixed, is_on, bounded, share_at, share_of_fixed, taken, waiting, level, bound_level, limits, least, lowest, is_at, step, steps_from, unfixed, level_of, share_of}
+use Rattle.sg_maxmin.specs.Fill.{Flow, is_on, bounded, share_at, bound_level, least, share_of}
+use Rattle.sg_maxmin.specs.Fixing.{Fixed, share_of_fixed, taken, waiting, level, limits, lowest, is_at, step, steps_from, unfixed}
 use Rattle.sg_maxmin.specs.Unweighted.{taken as equal_taken, waiting as equal_waiting, level as equal_level, limits as equal_limits, lowest as equal_lowest, is_at as equal_at, step as equal_step, steps_from as equal_steps, share_of as equal_share, FillsEqually}
 use Rattle.sg_maxmin.proofs.Members.{In, contains_from_In}
 use Rattle.sg_maxmin.proofs.Sums.{sum_by_same}
+use Rattle.sg_maxmin.proofs.Staged.{level_is_fixed_lem}
 use Rattle.sg_maxmin.proofs.OneStep.{limit_bound, lowest_le, was, gets, waits, step_cases}
 
 bound_one : (b : ℕ) → bound_level 1 b ≡ b
@@ -109,11 +111,12 @@ module _ (caps : List ℕ) (flows : List Flow) (one : (f : Flow) → In f flows 
   steps_alike (suc n) a b alike = steps_alike n (step caps flows a) (equal_step caps flows b) (step_alike a b alike)
 
   shares_same : (f : Flow) → In f flows → share_of caps flows f ≡ equal_share caps flows f
-  unfolding level_of equal_share
+  unfolding equal_share
   shares_same f i =
       let alike = steps_alike (length flows) unfixed unfixed (record { same = λ g j. refl; within = λ g j l bound e is. cc e }) in
       let o = steps_from (length flows) caps flows unfixed f in
-      share_is f (unwrap_or o 0) (one f i) (λ bound is. within o bound (λ l e. alike.within f i l bound e is))
+      ap (share_at f) (level_is_fixed_lem caps flows f)
+      ∙ share_is f (unwrap_or o 0) (one f i) (λ bound is. within o bound (λ l e. alike.within f i l bound e is))
       ∙ ap (λ p. unwrap_or p 0) (alike.same f i)
     where
       within : (o : Option ℕ) (bound : ℕ) → ((l : ℕ) → o ≡ Some l → l ≤ bound) → unwrap_or o 0 ≤ bound

@@ -4,7 +4,8 @@ use Rattle.std.specs.Option.{unwrap_or}
 use Rattle.std.proofs.lemmas.List.Sums.{sum_by-cons, count_by-le-length}
 use Rattle.sg_maxmin.specs.declared.flow_row.FlowRow.{FlowRow}
 use Rattle.sg_chains.specs.declared.uses.Use.{Use}
-use Rattle.sg_maxmin.specs.Fill.{Flow, Fixed, is_on, taken, waiting, level, limits, least, lowest, step, steps_from, unfixed, bounded, bound_level, share_at, share_of_fixed, level_of, share_of}
+use Rattle.sg_maxmin.specs.Fill.{Flow, is_on, least, bounded, bound_level, share_at, level_of, share_of}
+use Rattle.sg_maxmin.specs.Fixing.{Fixed, taken, waiting, level, limits, lowest, step, steps_from, unfixed, share_of_fixed}
 use Rattle.sg_maxmin.specs.Laws.{HaveLimits}
 use Rattle.sg_maxmin.specs.Sharing.{Sharing, HasLimit, held, flow_at}
 use Rattle.sg_chains.specs.Chain.{IsChain, resources}

@@ -3,7 +3,8 @@ use Rattle.std.proofs.Common.{◌≡◌, ℕ, zero, suc, ◌+◌, ◌-◌, ◌/�
 use Rattle.std.proofs.lemmas.List.Sums.{sum_by-cons}
 use Rattle.sg_base.specs.MarkSet.{is_in}
 use Rattle.sg_chains.specs.Chained.{users_on}
-use Rattle.sg_maxmin.specs.Fill.{Flow, share_of_fixed, level, limits, level_of, bound_level}
+use Rattle.sg_maxmin.specs.Fill.{Flow, level_of, bound_level}
+use Rattle.sg_maxmin.specs.Fixing.{share_of_fixed, level, limits}
 use Rattle.sg_maxmin.specs.Laws.{HaveLimits}
 use Rattle.sg_maxmin.specs.Sharing.{Sharing, IsSound, flow_at, held, uses_at}
 use Rattle.sg_maxmin.proofs.Members.{In, In-from_contains}

@@ -5,9 +5,11 @@ use Rattle.std.specs.List.{AllZip}
 use Rattle.std.proofs.lemmas.List.Sums.{sum_by-cons}
 use Rattle.std.proofs.lemmas.List.Sorted.{Contains-permutation, IsPermutation-sym}
 use Rattle.std.proofs.lemmas.Slice.Zip.{AllZip-long}
-use Rattle.sg_maxmin.specs.Fill.{Flow, Fixed, is_on, taken, waiting, level, limits, least, lowest, is_at, step, steps_from, unfixed, level_of, share_of, share_at, share_of_fixed, bounded, bound_level}
+use Rattle.sg_maxmin.specs.Fill.{Flow, is_on, least, level_of, share_of, share_at, bounded, bound_level}
+use Rattle.sg_maxmin.specs.Fixing.{Fixed, taken, waiting, level, limits, lowest, is_at, step, steps_from, unfixed, share_of_fixed}
 use Rattle.sg_maxmin.specs.Relisted.{IsUsed, IsMoved, AreRelisted, FillsInAnyOrder}
 use Rattle.sg_maxmin.proofs.Members.{In, In-from_contains, contains_from_In, In-append_left, In-append_right, In-append_cases, In-map, In-map_back, list_any_in}
+use Rattle.sg_maxmin.proofs.Staged.{level_is_fixed_lem}
 use Rattle.sg_maxmin.proofs.OneStep.{limit_bound, limit_level, limit_cases, least_le, least_in, is_at_in, is_at_back}
 use Rattle.sg_maxmin.proofs.Rises.{is_on_uses}
 use Rattle.sg_maxmin.proofs.Fairness.{uses_is_on}
@@ -165,13 +167,13 @@ module _ (place : ℕ → ℕ) (caps relisted : List ℕ) (flows moved : List Fl
   steps_same (suc n) a b alike = steps_same n (step caps flows a) (step relisted moved b) (step_same a b alike)
 
   levels_same : AllZip (λ f g. level_of caps flows f ≡ level_of relisted moved g) flows moved
-  unfolding level_of
   levels_same =
       let long : length moved ≡ length flows = AllZip-long (IsMoved place) flows moved are.each in
       let start = both (IsMoved place) (IsMoved place) (λ f g. unfixed f ≡ unfixed g) flows moved (λ f g i is is'. refl) are.each are.each in
       both (IsMoved place) (λ f g. steps_from (length flows) caps flows unfixed f ≡ steps_from (length flows) relisted moved unfixed g)
-      (λ f g. unwrap_or (steps_from (length flows) caps flows unfixed f) 0 ≡ unwrap_or (steps_from (length moved) relisted moved unfixed g) 0) flows moved
-      (λ f g i is e. ap (λ o. unwrap_or o 0) e ∙ ap (λ n. unwrap_or (steps_from n relisted moved unfixed g) 0) (sym long)) are.each (steps_same (length flows) unfixed unfixed start)
+      (λ f g. level_of caps flows f ≡ level_of relisted moved g) flows moved
+      (λ f g i is e. level_is_fixed_lem caps flows f ∙ ap (λ o. unwrap_or o 0) e ∙ ap (λ n. unwrap_or (steps_from n relisted moved unfixed g) 0) (sym long)
+      ∙ sym (level_is_fixed_lem relisted moved g)) are.each (steps_same (length flows) unfixed unfixed start)
 
   shares_same : AllZip (λ f g. share_of caps flows f ≡ share_of relisted moved g) flows moved
   shares_same =

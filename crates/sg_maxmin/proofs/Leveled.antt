@@ -1,12 +1,15 @@
 -- The max-min solve by its result: a flow's share is the first number at which something limits it, with the flows of smaller shares fixed.
 use Rattle.std.proofs.Common.{◌≡◌, ℕ, zero, suc, ◌+◌, ◌<◌, ◌≤◌, ◌⊎◌, inl, inr, Bool, true, false, cond, ltb, lt-ltb, le-ltb, true≢false, Option, None, Some, is_none, List, [], ◌∷◌, length, count_by, refl, sym, ap, subst, ◌∙◌, arith, if◌then◌else◌}
 use Rattle.std.specs.Option.{unwrap_or}
+use Rattle.std.proofs.Math.Path.{fun_ext}
 use Rattle.std.proofs.lemmas.List.Sums.{sum_by-cons, count_by-le-length}
-use Rattle.sg_maxmin.specs.Fill.{Flow, Fixed, limits, lowest, step, steps_from, unfixed, level_of}
+use Rattle.sg_maxmin.specs.Fill.{Flow, level_of}
+use Rattle.sg_maxmin.specs.Fixing.{Fixed, limits, lowest, step, steps_from, unfixed}
 use Rattle.sg_maxmin.proofs.Members.{In}
 use Rattle.sg_maxmin.proofs.Sums.{sum_by_le, sum_by_lt, le-sum_by}
-use Rattle.sg_maxmin.proofs.OneStep.{limits_same, lowest_le, lowest_in, Stepped, was, gets, waits, step_cases, step_fixed, step_at}
+use Rattle.sg_maxmin.proofs.OneStep.{limits_same, lowest_le, lowest_in, Stepped, was, gets, waits, step_cases, step_at, stays_fixed}
 use Rattle.sg_maxmin.proofs.Rises.{limits_rise}
+use Rattle.sg_maxmin.proofs.Staged.{level_is_fixed_lem}
 
 -- the flows of a share below t, fixed
 unfoldable pub below : ℕ → (Flow → ℕ) → Fixed
@@ -81,11 +84,6 @@ all_fixed (suc n) caps flows a limited few f i e =
   where
     zero_or : (m : ℕ) → (m ≡ 0) ⊎ (0 < m)
     zero_or m = grind arith
-
-pub stays_fixed : (n : ℕ) (caps : List ℕ) (flows : List Flow) (a : Fixed) (f : Flow) (x : ℕ) → a f ≡ Some x → steps_from n caps flows a f ≡ Some x
-unfolding steps_from
-stays_fixed zero caps flows a f x e = e
-stays_fixed (suc n) caps flows a f x e = stays_fixed n caps flows (step caps flows a) f x (step_fixed caps flows a f x e)
 
 -- ---- the main induction
 abbrev pub result_of : ℕ → List ℕ → List Flow → Fixed → Flow → ℕ
@@ -172,10 +170,10 @@ held_from (suc n) caps flows a low small high all limited f i e =
     ]
 
 pub share_of_held : (caps : List ℕ) (flows : List Flow) → Limited caps flows → (f : Flow) → In f flows → IsHeld caps flows (level_of caps flows) 0 f
-unfolding level_of
 share_of_held caps flows limited f i =
-    held_from (length flows) caps flows unfixed 0 (λ g j x e. cc e) (λ g j e l m. omega arith)
-    (all_fixed (length flows) caps flows unfixed limited (count_by-le-length (λ g. true) flows)) limited f i refl
+    subst (λ q. IsHeld caps flows q 0 f) (sym (fun_ext (level_is_fixed_lem caps flows)))
+    (held_from (length flows) caps flows unfixed 0 (λ g j x e. cc e) (λ g j e l m. omega arith)
+    (all_fixed (length flows) caps flows unfixed limited (count_by-le-length (λ g. true) flows)) limited f i refl)
 
 pub share_of_leveled : (caps : List ℕ) (flows : List Flow) → Limited caps flows → IsLeveled caps flows (level_of caps flows)
 share_of_leveled caps flows limited = record {

@@ -2,7 +2,8 @@
 use Rattle.std.proofs.Common.{◌≡◌, ◌≢◌, ℕ, zero, suc, ◌+◌, ◌-◌, ◌*◌, ◌/◌, ◌<◌, ◌≤◌, inl, inr, Bool, true, false, cond, ◌&&◌, eqb, eq-eqb, ne_eqb, is_none, Option, None, Some, List, [], ◌∷◌, length, get_or, sum_by, slice_index, ◌^◌, mul-le-mul_right, lit<, refl, sym, ap, ap₂, subst, ◌∙◌, arith}
 use Rattle.std.proofs.lemmas.List.Sums.{sum_by-cons}
 use Rattle.sg_chains.specs.Chained.{times, users_on}
-use Rattle.sg_maxmin.specs.Fill.{Flow, Fixed, share_of_fixed, is_on, taken, waiting, level}
+use Rattle.sg_maxmin.specs.Fill.{Flow, is_on}
+use Rattle.sg_maxmin.specs.Fixing.{Fixed, share_of_fixed, taken, waiting, level}
 use Rattle.sg_maxmin.specs.Sharing.{Sharing, IsSound, flow_at, held, uses_at}
 use Rattle.sg_maxmin.specs.Numbered.{RowTells, flow_in, row_level, row_taken, row_waiting, weight_at}
 use Rattle.std.specs.List.{list_any}

@@ -1,6 +1,7 @@
 -- A resource has one hold, and it depends on the capacity, the flows on the resource and their levels alone.
 use Rattle.std.proofs.Common.{◌≡◌, ℕ, ◌-◌, ◌/◌, ◌⊎◌, inl, inr, cond, is_none, Option, None, Some, List, refl, ap, ap₂, ◌∙◌, arith}
-use Rattle.sg_maxmin.specs.Fill.{Flow, flow, share_of_fixed}
+use Rattle.sg_maxmin.specs.Fill.{Flow, flow}
+use Rattle.sg_maxmin.specs.Fixing.{share_of_fixed}
 use Rattle.sg_maxmin.specs.Sharing.{uses_in}
 use Rattle.sg_maxmin.proofs.Sums.{sum_by_same}
 use Rattle.sg_maxmin.specs.Numbered.{below_at, row_level, row_taken, row_waiting, slot_bound, slot_weight, when_below}

@@ -1,10 +1,6 @@
 -- Weighted max-min fairness in whole units.
 use Rattle.std.specs.Prelude.{◌≡◌, ℕ, ◌+◌, ◌-◌, ◌*◌, ◌<◌, ◌≤◌, ◌⊎◌, Some, List, Contains, if◌then◌else◌, sum_by, slice_index, IsTrue}
-use Rattle.sg_maxmin.specs.Fill.{Flow, is_on}
-
--- what the flows on the resource have together
-abbrev pub load : List Flow → (Flow → ℕ) → ℕ → ℕ
-load flows share resource = sum_by (λ flow. if is_on resource flow then share flow else 0) flows
+use Rattle.sg_maxmin.specs.Fill.{Flow, is_on, load}
 
 -- the units that whole numbers may leave over: less than one level for each unit of weight, and what a bound takes off the last one
 abbrev pub slack : List Flow → ℕ → ℕ

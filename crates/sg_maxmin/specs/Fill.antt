@@ -1,7 +1,7 @@
 -- Progressive filling in whole numbers, with weights: which share each flow gets of the resources that it uses.
-use Rattle.std.specs.Prelude.{ℕ, zero, suc, ◌-◌, ◌*◌, ◌/◌, ◌==◌, min, Bool, ◌&&◌, Option, None, Some, is_none, unwrap_or, option_map, option_to_list, if◌then◌else◌, List, [], ◌∷◌, ◌++◌, map, filter, flat_map, length, sum_by, slice_index}
+use Rattle.std.specs.Prelude.{ℕ, zero, suc, ◌-◌, ◌*◌, ◌/◌, ◌==◌, min, Bool, not, Option, None, Some, option_map, option_to_list, if◌then◌else◌, List, [], ◌∷◌, ◌++◌, map, filter, flat_map, length, sum_by, slice_index}
 use Rattle.std.specs.Int.{div_ceil}
-use Rattle.std.specs.List.{list_any}
+use Rattle.std.specs.List.{enumerate_from, list_any}
 
 -- what a flow asks for: the resources that it uses, each listed once, its weight, and its bound, if it has one
 pub record Flow : Type 0 where
@@ -17,43 +17,35 @@ flow uses weight bound = record { uses = uses; weight = weight; bound = bound }
 abbrev pub is_on : ℕ → Flow → Bool
 is_on resource flow = list_any (λ used. used == resource) flow.uses
 
--- which flows are fixed, and at which level
-abbrev pub Fixed : Type 0
-Fixed = Flow → Option ℕ
+-- the sum of this amount over the flows on the resource
+abbrev pub load : List Flow → (Flow → ℕ) → ℕ → ℕ
+load flows amount resource = sum_by (λ flow. if is_on resource flow then amount flow else 0) flows
 
 -- no more than the bound, if there is one
 abbrev pub bounded : Option ℕ → ℕ → ℕ
 bounded None share = share
 bounded (Some bound) share = min bound share
 
--- the share of a flow that is fixed at this level: the level for each unit of its weight, and no more than its bound
+-- the share of a flow at this level: the level for each unit of its weight, and no more than its bound
 unfoldable pub share_at : Flow → ℕ → ℕ
 share_at flow level = bounded flow.bound (flow.weight * level)
 
--- what a flow has of each of its resources: its share once it is fixed, and nothing before
-abbrev pub share_of_fixed : Flow → Option ℕ → ℕ
-share_of_fixed flow None = 0
-share_of_fixed flow (Some level) = share_at flow level
+-- what the resources have left, and the flows that wait for their shares of it
+pub record Stage : Type 0 where
+  pub left : List ℕ
+  pub waiting : List Flow
 
--- the sum of the fixed shares on the resource
-unfoldable pub taken : List Flow → Fixed → ℕ → ℕ
-taken flows fixed resource = sum_by (λ flow. if is_on resource flow then share_of_fixed flow (fixed flow) else 0) flows
-
--- the sum of the weights of the unfixed flows on the resource
-unfoldable pub waiting : List Flow → Fixed → ℕ → ℕ
-waiting flows fixed resource = sum_by (λ flow. if is_on resource flow && is_none (fixed flow) then flow.weight else 0) flows
-
--- the level of the resource: what the fixed flows leave, for each unit of weight of the unfixed ones
-unfoldable pub level : List ℕ → List Flow → Fixed → ℕ → ℕ
-level capacities flows fixed resource = (slice_index capacities resource - taken flows fixed resource) / waiting flows fixed resource
+-- the level of the resource: what it has left, for each unit of weight that waits there
+unfoldable pub level : Stage → ℕ → ℕ
+level stage resource = slice_index stage.left resource / load stage.waiting (λ flow. flow.weight) resource
 
 -- the level of a bound: at this level, and at no lower one, a flow of this weight has all of its bound
 unfoldable pub bound_level : ℕ → ℕ → ℕ
 bound_level weight bound = div_ceil bound weight
 
 -- what limits a flow: the level of its bound, and the levels of its resources
-unfoldable pub limits : List ℕ → List Flow → Fixed → Flow → List ℕ
-limits capacities flows fixed flow = option_to_list (option_map (bound_level flow.weight) flow.bound) ++ map (level capacities flows fixed) flow.uses
+unfoldable pub limits : Stage → Flow → List ℕ
+limits stage flow = option_to_list (option_map (bound_level flow.weight) flow.bound) ++ map (level stage) flow.uses
 
 -- the least of the numbers
 unfoldable pub least : List ℕ → ℕ
@@ -61,30 +53,31 @@ least [] = 0
 least (x ∷ []) = x
 least (x ∷ y ∷ rest) = min x (least (y ∷ rest))
 
--- the least level of all bounds of unfixed flows, and of all resources with an unfixed flow
-unfoldable pub lowest : List ℕ → List Flow → Fixed → ℕ
-lowest capacities flows fixed = least (flat_map (limits capacities flows fixed) (filter (λ flow. is_none (fixed flow)) flows))
+-- the lowest level: the least of all that limits the waiting flows
+unfoldable pub lowest : Stage → ℕ
+lowest stage = least (flat_map (limits stage) stage.waiting)
 
--- whether this is the level of the flow's bound, or of a resource that it uses
-unfoldable pub is_at : List ℕ → List Flow → Fixed → ℕ → Flow → Bool
-is_at capacities flows fixed low flow = list_any (λ limit. limit == low) (limits capacities flows fixed flow)
+-- whether the flow is at the lowest level: that is the level of its bound, or of a resource that it uses
+unfoldable pub is_at : Stage → Flow → Bool
+is_at stage flow = list_any (λ limit. limit == lowest stage) (limits stage flow)
 
--- One step: all unfixed flows that are at the lowest level are fixed there, in the same step.
-unfoldable pub step : List ℕ → List Flow → Fixed → Fixed
-step capacities flows fixed flow = if is_none (fixed flow) && is_at capacities flows fixed (lowest capacities flows fixed) flow then Some (lowest capacities flows fixed) else fixed flow
+-- One step: all waiting flows that are at the lowest level are served in the same step. Each takes its share there from its resources.
+unfoldable pub next : Stage → Stage
+next stage =
+    let served = filter (is_at stage) stage.waiting in
+    record {
+      left = map (λ p. p.1 - load served (λ flow. share_at flow (lowest stage)) p.0) (enumerate_from 0 stage.left);
+      waiting = filter (λ flow. not (is_at stage flow)) stage.waiting;
+    }
 
--- so many steps, from this on
-unfoldable pub steps_from : ℕ → List ℕ → List Flow → Fixed → Fixed
-steps_from zero capacities flows fixed = fixed
-steps_from (suc n) capacities flows fixed = steps_from n capacities flows (step capacities flows fixed)
+-- the level at which the flow is served: the lowest level of the first stage where the flow is at it, of so many from this one on
+unfoldable pub level_from : ℕ → Stage → Flow → ℕ
+level_from zero stage flow = 0
+level_from (suc n) stage flow = if is_at stage flow then lowest stage else level_from n (next stage) flow
 
--- at first no flow is fixed
-abbrev pub unfixed : Fixed
-unfixed flow = None
-
--- The level at which a flow is fixed. Each step fixes one flow at least, so after as many steps as there are flows all are fixed.
+-- the level at which the flow is served: if each flow has a limit, each step serves one at least, and as many steps as there are flows serve all
 unfoldable pub level_of : List ℕ → List Flow → Flow → ℕ
-level_of capacities flows flow = unwrap_or (steps_from (length flows) capacities flows unfixed flow) 0
+level_of capacities flows flow = level_from (length flows) (record { left = capacities; waiting = flows }) flow
 
 -- the share of a flow among these flows
 abbrev pub share_of : List ℕ → List Flow → Flow → ℕ

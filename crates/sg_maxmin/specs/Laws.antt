@@ -1,6 +1,7 @@
 -- Laws of max-min shares.
-use Rattle.std.specs.Prelude.{◌≡◌, ℕ, ◌<◌, ◌≤◌, ◌+◌, Option, None, Some, IsTrue, IsSome, List, ◌++◌, length, Contains, sum_by}
-use Rattle.sg_maxmin.specs.Fill.{Flow, is_on, lowest, steps_from, level_of, share_of, fill, unfixed}
+use Rattle.std.specs.Prelude.{◌≡◌, ℕ, ◌<◌, ◌≤◌, ◌+◌, Option, None, Some, IsTrue, IsSome, unwrap_or, List, ◌++◌, length, Contains, sum_by}
+use Rattle.sg_maxmin.specs.Fill.{Flow, is_on, level_of, share_of, fill}
+use Rattle.sg_maxmin.specs.Fixing.{lowest, steps_from, unfixed}
 use Rattle.sg_maxmin.specs.Fair.{IsFair}
 use Rattle.sg_maxmin.specs.Sharing.{HasLimit, Changes, flow_at, held, slot_part}
 
@@ -36,6 +37,12 @@ abbrev pub FixesAll : Type 0
 FixesAll =
     (capacities : List ℕ) (flows : List Flow) (flow : Flow) → HaveLimits flows → Contains flows flow →
     IsSome (steps_from (length flows) capacities flows unfixed flow)
+
+-- The level of a flow is the one at which the steps fix it.
+abbrev pub LevelIsFixed : Type 0
+LevelIsFixed =
+    (capacities : List ℕ) (flows : List Flow) (flow : Flow) →
+    level_of capacities flows flow ≡ unwrap_or (steps_from (length flows) capacities flows unfixed flow) 0
 
 -- A flow is fixed once: in whichever step it is, at its level.
 abbrev pub FixesOnce : Type 0

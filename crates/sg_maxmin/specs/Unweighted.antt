@@ -1,7 +1,8 @@
 -- Max-min shares of flows of equal weight: the weighted shares, if each weight is 1.
 use Rattle.std.specs.Prelude.{◌≡◌, ℕ, zero, suc, ◌-◌, ◌/◌, ◌==◌, Bool, ◌&&◌, Contains, Some, is_none, unwrap_or, option_to_list, if◌then◌else◌, List, ◌++◌, map, filter, flat_map, length, sum_by, count_by, slice_index}
 use Rattle.std.specs.List.{list_any}
-use Rattle.sg_maxmin.specs.Fill.{Flow, Fixed, is_on, least, unfixed, fill}
+use Rattle.sg_maxmin.specs.Fill.{Flow, is_on, least, fill}
+use Rattle.sg_maxmin.specs.Fixing.{Fixed, unfixed}
 
 -- the sum of the fixed shares on the resource: a share is the level at which it was fixed
 unfoldable pub taken : List Flow → Fixed → ℕ → ℕ

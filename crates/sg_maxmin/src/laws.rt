@@ -5,7 +5,7 @@ ghost use Rattle.sg_maxmin.specs.Numbered.{RowTells};
 ghost use Rattle.sg_maxmin.specs.Relisted.{FillsInAnyOrder};
 ghost use Rattle.sg_maxmin.specs.Unweighted.{FillsEqually};
 ghost use Rattle.sg_maxmin.specs.Worked.{AreWorked};
-ghost use Rattle.sg_maxmin.specs.Laws.{FillsApart, FillsFairly, FixesAll, FixesOnce, IsHeld, KeepsBound, KeepsShare, LevelRises, SharesSame, SumsChange};
+ghost use Rattle.sg_maxmin.specs.Laws.{FillsApart, FillsFairly, FixesAll, FixesOnce, IsHeld, KeepsBound, KeepsShare, LevelIsFixed, LevelRises, SharesSame, SumsChange};
 
 /// Progressive filling is max-min fair in whole units: on each resource the shares add up to at most its capacity,
 /// and each flow has its bound as its share, or uses a resource on which its share is the greatest for its weight
@@ -27,6 +27,11 @@ pub fn keeps_bound()
 /// The max-min solve ends: after as many steps as there are flows each flow is fixed.
 pub fn fixes_all()
     ensures { FixesAll }
+{}
+
+/// The level of a flow is the one at which the steps fix it.
+pub fn level_is_fixed()
+    ensures { LevelIsFixed }
 {}
 
 /// A flow is fixed once: in whichever step it is, at its level.

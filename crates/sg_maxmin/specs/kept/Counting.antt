@@ -3,7 +3,8 @@ use Rattle.std.specs.Prelude.{◌≡◌, ℕ, ◌+◌, ◌-◌, ◌*◌, ◌/◌
 use Rattle.sg_maxmin.specs.declared.flow_row.FlowRow.{FlowRow}
 use Rattle.sg_chains.specs.declared.uses.Use.{Use}
 use Rattle.sg_chains.specs.Chain.{resources}
-use Rattle.sg_maxmin.specs.Fill.{Fixed, is_on, bounded, bound_level, level_of}
+use Rattle.sg_maxmin.specs.Fill.{is_on, bounded, bound_level, level_of}
+use Rattle.sg_maxmin.specs.Fixing.{Fixed}
 use Rattle.sg_maxmin.specs.Sharing.{held}
 use Rattle.sg_maxmin.specs.Step.{IsLeast, IsStepped}
 use Rattle.sg_maxmin.specs.kept.Uses.{AreRows, IsOneChain, flow_of, flows_of, row_uses, share_by_level}

@@ -1,6 +1,6 @@
 use Rattle.std.proofs.Common.{◌*◌, ◌+◌, ◌≤◌, ◌≡◌, ℕ, ◌<◌, length, slice_index}
 use Rattle.sg_base.specs.MarkSet.{is_in}
-use Rattle.sg_maxmin.specs.Fill.{steps_from, unfixed}
+use Rattle.sg_maxmin.specs.Fixing.{steps_from, unfixed}
 use Rattle.sg_filling.specs.Dates.{AreDated}
 use Rattle.sg_maxmin.specs.Numbered.{flow_in}
 use Rattle.sg_filling.specs.Filling.{AreCounted, AreLevels, HasPlaces, IsFloor, KeepsFixed, KeepsHolds, fixed_at, flows_at, unfixed_bounds, unfixed_uses}

@@ -1,5 +1,6 @@
 use Rattle.std.proofs.Common.{◌-◌, ◌*◌, sym, ap, ap₂, ◌∙◌}
-use Rattle.sg_maxmin.specs.Fill.{bounded, share_at, share_of_fixed}
+use Rattle.sg_maxmin.specs.Fill.{bounded, share_at}
+use Rattle.sg_maxmin.specs.Fixing.{share_of_fixed}
 use Rattle.sg_maxmin.specs.Numbered.{flow_in}
 use Rattle.sg_maxmin.proofs.Users.{bound_is, weight_is}
 use Rattle.sg_levels.proofs.hold.with_flow.Goals as goal

@@ -1,5 +1,5 @@
 use Rattle.std.proofs.Common.{◌≡◌, ℕ, ◌+◌, ◌≤◌, ◌<◌, ◌⊎◌, inl, inr, length, mul-le-mul_right, count_by, is_some, sym, ap, subst, ◌∙◌, arith}
-use Rattle.sg_maxmin.specs.Fill.{steps_from, step, unfixed}
+use Rattle.sg_maxmin.specs.Fixing.{steps_from, step, unfixed}
 use Rattle.sg_maxmin.specs.Laws.{HaveLimits}
 use Rattle.sg_maxmin.specs.Sharing.{held}
 use Rattle.sg_maxmin.specs.kept.Uses.{flows_of}

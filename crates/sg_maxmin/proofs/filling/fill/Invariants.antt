@@ -1,5 +1,5 @@
 use Rattle.std.proofs.Common.{◌≡◌, ◌+◌, ◌*◌, ◌<◌, ◌≤◌, length}
-use Rattle.sg_maxmin.specs.Fill.{steps_from, unfixed}
+use Rattle.sg_maxmin.specs.Fixing.{steps_from, unfixed}
 use Rattle.sg_maxmin.specs.Sharing.{held}
 use Rattle.sg_maxmin.specs.kept.Uses.{flows_of}
 use Rattle.sg_maxmin.specs.kept.Counting.{SameRows, AreFixed, count_of}

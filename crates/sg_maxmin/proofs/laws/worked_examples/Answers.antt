@@ -1,5 +1,5 @@
 use Rattle.std.proofs.Common.{◌≡◌, ℕ, ◌<◌, ◌==◌, ◌||◌, true, false, [], ◌∷◌, refl, arith, slice_index, ◌-◌, zero, suc}
-use Rattle.sg_maxmin.specs.Fill.{level_of, steps_from, step, is_at, lowest, least, limits, level, taken, waiting, bound_level, share_at}
+use Rattle.sg_maxmin.specs.Fill.{level_of, level_from, next, is_at, lowest, least, limits, level, bound_level, share_at}
 use Rattle.sg_maxmin.specs.Relisted.{AreRelisted}
 use Rattle.sg_maxmin.specs.Worked.{behind, before}
 use Rattle.std.proofs.lemmas.List.Sorted.{IsPermutation-refl, IsPermutation-reverse}
@@ -24,7 +24,7 @@ moved = record {
 }
 
 pub returns : goal.returns
-unfolding level_of steps_from step is_at lowest least limits level taken waiting bound_level share_at
+unfolding level_of level_from next is_at lowest least limits level bound_level share_at
 returns c = record {
   alike = refl;
   two_links = refl;
