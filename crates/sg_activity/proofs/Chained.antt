@@ -1,9 +1,9 @@
 -- Rows of uses in chains.
 use Rattle.std.proofs.Common.{◌≡◌, ◌≢◌, ℕ, zero, suc, ◌+◌, ◌<◌, ◌≤◌, ◌^◌, inl, inr, cond, eq-eqb, ne_eqb, Option, None, List, [], ◌∷◌, length, length-set, map, set, get_or-set_same, get_or-set_other, refl, sym, ap, ap₂, subst, ◌∙◌, arith}
 use Rattle.std.proofs.lemmas.List.{length-map}
-use Rattle.sg_chains.specs.declared.uses.Use.{Use}
-use Rattle.sg_chains.specs.Chain.{IsChain, IsSameChain, KeepsChains, resources}
-use Rattle.sg_chains.specs.Chained.{Chained, GainsUses, times, users_on}
+use Rattle.sg_maxmin.specs.declared.uses.Use.{Use}
+use Rattle.sg_maxmin.specs.Chain.{IsChain, IsSameChain, KeepsChains, resources}
+use Rattle.sg_maxmin.specs.Chained.{Chained, GainsUses, times, users_on}
 use Rattle.sg_activity.specs.declared.index.Uses.{Uses}
 use Rattle.sg_activity.specs.kept.Rows.{IsIndex, IsRow, IsWider, row_at, things_of, uses_at}
 use Rattle.sg_activity.proofs.Listing.{eq_cases}

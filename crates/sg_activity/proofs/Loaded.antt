@@ -4,7 +4,7 @@ use Rattle.std.specs.List.{cons_option}
 use Rattle.std.proofs.Math.Nat.{mul-le-mul}
 use Rattle.std.proofs.lemmas.List.Sums.{sum_by-cons}
 use Rattle.sg_base.specs.declared.ids.LinkId.{LinkId}
-use Rattle.sg_chains.specs.Chained.{times, users_on}
+use Rattle.sg_maxmin.specs.Chained.{times, users_on}
 use Rattle.sg_activity.specs.declared.activity_state.Kept.{Kept}
 use Rattle.sg_lives.specs.declared.kinds.HostCap.{HostCap}
 use Rattle.sg_lives.specs.declared.kinds.PhaseKind.{PhaseKind}

@@ -3,7 +3,7 @@ use Rattle.std.proofs.Common.{◌≡◌, ℕ, ◌+◌, ◌==◌, ◌<◌, inl, i
 use Rattle.std.proofs.lemmas.List.{get_or_default, set-get_or}
 use Rattle.std.proofs.Math.ListN.{get_or-map}
 use Rattle.sg_base.specs.MarkSet.{is_in, with_mark}
-use Rattle.sg_chains.specs.Chained.{times, users_on}
+use Rattle.sg_maxmin.specs.Chained.{times, users_on}
 use Rattle.sg_maxmin.specs.Fill.{Flow}
 use Rattle.sg_maxmin.specs.Sharing.{HasLimit}
 use Rattle.sg_lazy.specs.Lazily.{Lazily, with_capacity, with_other_capacity}

@@ -1,7 +1,7 @@
 -- Sums over numbers in whatever order, by how often each is there.
 use Rattle.std.proofs.Common.{◌≡◌, ℕ, zero, suc, ◌+◌, ◌*◌, ◌==◌, ◌<◌, Bool, true, false, cond, All, List, [], ◌∷◌, length, get_or, sum_by, refl, sym, ap, ap₂, ◌∙◌, arith}
 use Rattle.std.proofs.lemmas.List.Sums.{sum_by-cons}
-use Rattle.sg_chains.specs.Chained.{times}
+use Rattle.sg_maxmin.specs.Chained.{times}
 
 -- the sum over all numbers below this one
 upto : ℕ → (ℕ → ℕ) → ℕ

@@ -1,7 +1,7 @@
 //! Hosts and links whose capacities change, and what bounds activities then.
 
 ghost use Rattle.std.specs.Prelude.{◌≡◌, ◌≤◌, ◌<◌, ◌^◌, ◌+◌, ◌∷◌, [], All, Some, length};
-ghost use Rattle.sg_chains.specs.Chained.{users_on};
+ghost use Rattle.sg_maxmin.specs.Chained.{users_on};
 ghost use Rattle.sg_activity.specs.Hosts.{IsHost};
 ghost use Rattle.sg_activity.specs.Links.{at_bandwidth, at_speed};
 ghost use Rattle.sg_activity.specs.kept.Bounds.{HasFlows, Rebounds, Resets};

@@ -1,12 +1,12 @@
 //! Which activities use which hosts and links.
 
 ghost use Rattle.std.specs.Prelude.{◌≡◌, ◌≤◌, ◌<◌, ◌+◌, ℕ, [], All, IfOk, IsSome, None, OnOk, Some, length, max, slice_index_or};
-ghost use Rattle.sg_chains.specs.Chained.{times, users_on};
-ghost use Rattle.sg_chains.specs.Walk.{Leads, next_of_flow, next_on, resource_of, user_of};
+ghost use Rattle.sg_maxmin.specs.Chained.{times, users_on};
+ghost use Rattle.sg_maxmin.specs.Walk.{Leads, next_of_flow, next_on, resource_of, user_of};
 ghost use Rattle.sg_activity.specs.kept.Rows.{IsEntered, IsWider, row_at, uses_at};
 
 use sg_base::{Memory, Steps};
-use sg_chains::{Chains, Use};
+use sg_maxmin::{Chains, Use};
 use std::alloc::Global;
 use std::marker::{Brand, Model};
 use std::sync::ledger::{Blank, Ledger};

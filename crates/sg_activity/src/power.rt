@@ -2,7 +2,7 @@
 
 ghost use Rattle.std.specs.Prelude.{◌≡◌, ◌<◌, ◌≤◌, ◌+◌, ◌^◌, ℕ, [], All, IfOk, IfSome, IsTrue, length, slice_set, unwrap_or};
 ghost use Rattle.sg_base.specs.MarkSet.{is_in};
-ghost use Rattle.sg_chains.specs.Chained.{users_on};
+ghost use Rattle.sg_maxmin.specs.Chained.{users_on};
 ghost use Rattle.sg_energy.specs.Meter.{meter_of, with_power};
 ghost use Rattle.sg_activity.specs.Hosts.{IsPower, host_at, offer_of};
 ghost use Rattle.sg_activity.specs.Power.{power_by as power_by_spec};

@@ -3,7 +3,7 @@
 ghost use Rattle.std.specs.Prelude.{◌≡◌, ◌<◌, ◌+◌, ◌||◌, All, length, slice_set};
 ghost use Rattle.std.specs.List.{list_any};
 ghost use Rattle.sg_base.specs.declared.ids.LinkId.{LinkId};
-ghost use Rattle.sg_chains.specs.Chained.{users_on};
+ghost use Rattle.sg_maxmin.specs.Chained.{users_on};
 ghost use Rattle.sg_activity.specs.Links.{is_off};
 ghost use Rattle.sg_activity.specs.Task.{is_cut, uses_off as uses_off_spec};
 ghost use Rattle.sg_activity.specs.kept.Hits.{AreLooked, AreSwitches, hit_in, noted};

@@ -3,7 +3,7 @@ use Rattle.std.proofs.Common.{◌≡◌, ◌≢◌, ℕ, ◌+◌, ◌-◌, ◌<�
 use Rattle.std.proofs.lemmas.List.{ext_get_or, get_or_append_left, take-append-drop}
 use Rattle.std.proofs.Math.Seq.{get_or-append_right, get_or-take}
 use Rattle.sg_base.specs.MarkSet.{is_in}
-use Rattle.sg_chains.specs.Chained.{users_on}
+use Rattle.sg_maxmin.specs.Chained.{users_on}
 use Rattle.sg_maxmin.specs.Sharing.{Sharing, IsSound, uses_at}
 use Rattle.sg_maxmin.proofs.Members.{In-append_left, In-append_right, In-append_cases}
 use Rattle.sg_filling.specs.Component.{Grows, IsClosure}

@@ -2,7 +2,7 @@
 use Rattle.std.proofs.Common.{◌≡◌, ◌≢◌, ℕ, zero, suc, ◌+◌, ◌-◌, ◌*◌, ◌<◌, inl, inr, Bool, true, false, true≢false, cond, is_none, Option, None, Some, IsSome, option_to_list, List, [], ◌∷◌, map, length, get_or, set, sum_by, AllPairs, Contains, get_or-set_same, get_or-set_other, refl, sym, ap, subst, ◌∙◌, arith}
 use Rattle.std.proofs.lemmas.List.Sums.{sum_by-cons}
 use Rattle.sg_base.specs.MarkSet.{is_in}
-use Rattle.sg_chains.specs.Chained.{times, users_on}
+use Rattle.sg_maxmin.specs.Chained.{times, users_on}
 use Rattle.sg_maxmin.specs.Fill.{share_at}
 use Rattle.sg_maxmin.specs.Fixing.{share_of_fixed}
 use Rattle.sg_maxmin.specs.Sharing.{Sharing, uses_at}

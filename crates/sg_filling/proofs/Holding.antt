@@ -1,7 +1,7 @@
 -- What a max-min solve notes is where each resource holds its flows.
 use Rattle.std.proofs.Common.{◌≡◌, ℕ, true, Option, None, Some, option_map, List, [], ◌∷◌, map, get_or, slice_index, suc, zero, refl, sym, ap, subst, ◌∙◌}
 use Rattle.sg_base.specs.MarkSet.{is_in}
-use Rattle.sg_chains.specs.Chained.{users_on}
+use Rattle.sg_maxmin.specs.Chained.{users_on}
 use Rattle.sg_maxmin.specs.Fill.{Flow, level_of}
 use Rattle.sg_maxmin.specs.Sharing.{Sharing, IsSound, held}
 use Rattle.sg_maxmin.specs.Numbered.{below_at, flow_in, level_at, row_level, when_below}

@@ -3,7 +3,7 @@
 use Rattle.std.proofs.Common.{◌≡◌, ◌≢◌, ℕ, ◌-◌, ◌*◌, ◌/◌, inl, inr, Bool, true, false, cond, ◌&&◌, is_none, IsSome, List, length, get_or, sum_by, AllPairs, slice_index, refl, sym, ap, ap₂, subst, ◌∙◌, arith}
 use Rattle.std.proofs.lemmas.List.Elements.{All-get_or}
 use Rattle.sg_base.specs.MarkSet.{is_in}
-use Rattle.sg_chains.specs.Chained.{times, users_on}
+use Rattle.sg_maxmin.specs.Chained.{times, users_on}
 use Rattle.sg_maxmin.specs.Fill.{Flow, is_on, level_of}
 use Rattle.sg_maxmin.specs.Fixing.{Fixed, level, limits, share_of_fixed, taken, waiting}
 use Rattle.sg_maxmin.specs.Sharing.{Sharing, flow_at, held, uses_at}

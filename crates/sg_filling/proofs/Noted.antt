@@ -2,7 +2,7 @@
 use Rattle.std.proofs.Common.{◌≡◌, ℕ, ◌-◌, ◌/◌, ◌<◌, ◌≤◌, ◌⊎◌, inl, inr, true, true≢false, cond, is_none, Option, None, Some, IsSome, List, [], get_or, slice_index, refl, sym, ap, subst, ◌∙◌, arith}
 use Rattle.std.proofs.Math.Nat.{div-zero}
 use Rattle.sg_base.specs.MarkSet.{is_in}
-use Rattle.sg_chains.specs.Chained.{users_on}
+use Rattle.sg_maxmin.specs.Chained.{users_on}
 use Rattle.sg_maxmin.specs.Fill.{Flow}
 use Rattle.sg_maxmin.specs.Fixing.{Fixed, step}
 use Rattle.sg_maxmin.specs.Sharing.{Sharing, uses_at}

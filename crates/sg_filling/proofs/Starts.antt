@@ -7,7 +7,7 @@ use Rattle.sg_base.specs.MarkSet.{is_in}
 use Rattle.sg_maxmin.specs.Fill.{Flow, is_on, share_of}
 use Rattle.sg_maxmin.specs.Fixing.{share_of_fixed}
 use Rattle.sg_maxmin.specs.Laws.{HaveLimits}
-use Rattle.sg_chains.specs.Chained.{times}
+use Rattle.sg_maxmin.specs.Chained.{times}
 use Rattle.sg_maxmin.specs.Sharing.{Sharing, HasLimit, uses_at, flow_at}
 use Rattle.sg_maxmin.proofs.Members.{In, In-map_back, In-from_contains, contains_from_In}
 use Rattle.sg_maxmin.proofs.Sums.{le-sum_by}

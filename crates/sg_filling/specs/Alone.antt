@@ -1,7 +1,7 @@
 -- A flow that is alone on each resource that it uses.
 use Rattle.std.specs.Prelude.{◌≡◌, ℕ, ◌/◌, true, Some, option_to_list, List, [], ◌∷◌, ◌++◌, map, slice_index}
 use Rattle.sg_base.specs.MarkSet.{is_in}
-use Rattle.sg_chains.specs.Chained.{users_on}
+use Rattle.sg_maxmin.specs.Chained.{users_on}
 use Rattle.sg_maxmin.specs.Sharing.{Sharing, uses_at}
 use Rattle.sg_maxmin.specs.Numbered.{weight_at}
 use Rattle.sg_maxmin.specs.Step.{IsLeast}

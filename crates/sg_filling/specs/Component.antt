@@ -1,7 +1,7 @@
 -- What is touched and what is reached: numbers, and a row of numbers under each.
 use Rattle.std.specs.Prelude.{◌≡◌, ℕ, Bool, ◌<◌, ◌+◌, ◌≤◌, List, length, sum_by, slice_index, IsTrue}
 use Rattle.sg_base.specs.MarkSet.{MarkSet, is_in}
-use Rattle.sg_chains.specs.Chained.{users_on}
+use Rattle.sg_maxmin.specs.Chained.{users_on}
 use Rattle.sg_maxmin.specs.Sharing.{Sharing, IsSound, uses_at}
 use Rattle.sg_filling.specs.declared.component.Component.{Component}
 

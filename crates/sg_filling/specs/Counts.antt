@@ -1,6 +1,6 @@
 -- How often the uses of touched flows stand in the rows of reached resources.
 use Rattle.std.specs.Prelude.{◌≡◌, ◌≢◌, ℕ, ◌≤◌, List, AllPairs}
-use Rattle.sg_chains.specs.Chained.{times}
+use Rattle.sg_maxmin.specs.Chained.{times}
 use Rattle.sg_filling.specs.Component.{Covers, lengths}
 
 -- a flow stands in a resource's row as often as the resource in the flow's

@@ -2,11 +2,11 @@
 use Rattle.std.specs.Prelude.{◌≡◌, ◌≢◌, ℕ, ◌+◌, ◌-◌, ◌*◌, ◌/◌, ◌<◌, ◌≤◌, ◌==◌, ◌⊎◌, Bool, true, false, AllPairs, Option, None, Some, IsSome, is_none, option_to_list, if◌then◌else◌, List, [], ◌∷◌, ◌++◌, map, flat_map, length, sum_by, All, Contains, slice_index, slice_index_or, slice_set}
 use Rattle.sg_maxmin.specs.Fill.{Flow, share_at, level_of}
 use Rattle.sg_maxmin.specs.Fixing.{share_of_fixed}
-use Rattle.sg_chains.specs.Chained.{times}
+use Rattle.sg_maxmin.specs.Chained.{times}
 use Rattle.sg_maxmin.specs.Sharing.{Sharing, IsSound, flow_at, uses_at}
 use Rattle.sg_base.specs.MarkSet.{is_in}
 use Rattle.sg_heap.specs.Agenda.{key_at}
-use Rattle.sg_chains.specs.Chained.{users_on}
+use Rattle.sg_maxmin.specs.Chained.{users_on}
 use Rattle.sg_maxmin.specs.Numbered.{bound_of, flow_in, weight_at}
 use Rattle.sg_maxmin.specs.Step.{IsLeast, IsStepped}
 use Rattle.sg_filling.specs.declared.filling.Filling.{Filling}

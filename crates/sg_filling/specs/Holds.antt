@@ -1,7 +1,7 @@
 -- The level at which a max-min solve takes each resource: there it holds its flows.
 use Rattle.std.specs.Prelude.{◌≡◌, ℕ, ◌+◌, ◌*◌, ◌<◌, ◌≤◌, ◌==◌, ◌⊎◌, Bool, true, false, Option, None, Some, IsSome, is_none, if◌then◌else◌, List, Contains, length, sum_by, slice_index, slice_set}
 use Rattle.sg_base.specs.MarkSet.{is_in}
-use Rattle.sg_chains.specs.Chained.{users_on}
+use Rattle.sg_maxmin.specs.Chained.{users_on}
 use Rattle.sg_maxmin.specs.Fill.{Flow}
 use Rattle.sg_maxmin.specs.Sharing.{Sharing}
 use Rattle.sg_maxmin.specs.Numbered.{below_at, row_level}

@@ -1,7 +1,7 @@
 -- What a rate update has solved: a closed set of flows and resources, which grows by closed parts.
 use Rattle.std.specs.Prelude.{◌≡◌, ℕ, ◌+◌, ◌*◌, ◌<◌, ◌≤◌, Bool, true, false, Some, All, List, IsSome, IsTrue, is_some, length, slice_index}
 use Rattle.sg_base.specs.MarkSet.{MarkSet, is_in}
-use Rattle.sg_chains.specs.Chained.{users_on}
+use Rattle.sg_maxmin.specs.Chained.{users_on}
 use Rattle.sg_maxmin.specs.Fill.{level_of}
 use Rattle.sg_maxmin.specs.Sharing.{Sharing, flow_at, held}
 use Rattle.sg_maxmin.specs.Held.{IsHold}

@@ -1,7 +1,7 @@
 //! The max-min solve of a connected component of one flow: its level is the least of its limits.
 ghost use Rattle.std.specs.Prelude.{◌≡◌, ◌<◌, ◌+◌, ◌/◌, ◌==◌, ◌++◌, ℕ, Bool, IsTrue, [], ◌∷◌, None, Some, IfSome, true, false, All, length, slice_index, slice_index_or, if◌then◌else◌};
 ghost use Rattle.sg_base.specs.MarkSet.{is_in};
-ghost use Rattle.sg_chains.specs.Chained.{users_on};
+ghost use Rattle.sg_maxmin.specs.Chained.{users_on};
 ghost use Rattle.sg_maxmin.specs.Sharing.{uses_at};
 ghost use Rattle.sg_maxmin.specs.Numbered.{IsHeld};
 ghost use Rattle.sg_filling.specs.Alone.{IsAlone};
@@ -13,9 +13,8 @@ ghost use Rattle.sg_filling.specs.Holds.{IsEnded};
 use crate::component::Component;
 use crate::filling::Filling;
 use sg_base::{Marks, Steps};
-use sg_chains::Use;
-use sg_maxmin::System;
 use sg_maxmin::rounding::{level_of, level_of_bound, smaller};
+use sg_maxmin::{System, Use};
 use std::sync::ledger::Ledger;
 
 // Returns whether a use is the only one of its resource, if all before were.

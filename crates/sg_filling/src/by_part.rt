@@ -1,7 +1,7 @@
 //! The max-min solve by component: each connected component is solved by itself.
 ghost use Rattle.std.specs.Prelude.{◌≡◌, ◌<◌, false, IsSome, IsTrue, All, length};
 ghost use Rattle.sg_base.specs.MarkSet.{is_in, with_mark};
-ghost use Rattle.sg_chains.specs.Chained.{users_on};
+ghost use Rattle.sg_maxmin.specs.Chained.{users_on};
 ghost use Rattle.sg_maxmin.specs.Sharing.{flow_at};
 ghost use Rattle.sg_filling.specs.Component.{AllPass};
 ghost use Rattle.sg_filling.specs.Parts.{AreHeldUnless, FillsFrom, IsFilled, IsFilledAt, IsFilledBut, RunningPass};

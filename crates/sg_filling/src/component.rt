@@ -1,7 +1,7 @@
 //! The flows and resources in the connected components of what changed.
 ghost use Rattle.std.specs.Prelude.{◌≡◌, ◌≤◌, ◌<◌, ◌+◌, ℕ, Bool, IfOk, IsTrue, All, length, take};
 ghost use Rattle.sg_base.specs.MarkSet.{is_in};
-ghost use Rattle.sg_chains.specs.Chained.{users_on};
+ghost use Rattle.sg_maxmin.specs.Chained.{users_on};
 ghost use Rattle.sg_maxmin.specs.Sharing.{uses_at};
 ghost use Rattle.sg_filling.specs.Component.{AreIn, AreVisited, IsClosedBy, IsOpen, MarksRow, PassAlong, Passes, RowPasses, Spreads, StaysWithin, lengths, touched_uses};
 

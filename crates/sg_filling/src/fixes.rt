@@ -1,7 +1,7 @@
 //! Flows are fixed at a level: what they take is subtracted from what remains of their resources.
 ghost use Rattle.std.specs.Prelude.{◌≡◌, ◌≢◌, ◌<◌, ◌+◌, ◌-◌, ◌^◌, ◌∷◌, ℕ, List, [], None, Some, IsSome, true, false, AllPairs, length, min, slice_index, slice_set};
 ghost use Rattle.sg_base.specs.MarkSet.{with_mark};
-ghost use Rattle.sg_chains.specs.Chained.{users_on};
+ghost use Rattle.sg_maxmin.specs.Chained.{users_on};
 ghost use Rattle.sg_maxmin.specs.Sharing.{uses_at};
 ghost use Rattle.sg_maxmin.specs.Step.{IsLeast};
 ghost use Rattle.sg_filling.specs.Component.{AreIn};

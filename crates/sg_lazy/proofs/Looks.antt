@@ -7,7 +7,7 @@ use Rattle.sg_base.specs.MarkSet.{MarkSet, is_in}
 use Rattle.sg_maxmin.specs.Fill.{Flow, is_on}
 use Rattle.sg_maxmin.specs.Sharing.{Sharing, IsSound, flow_at, slot_part, uses_at}
 use Rattle.sg_maxmin.proofs.Members.{In, In-map, list_any_in}
-use Rattle.sg_chains.specs.Chained.{users_on}
+use Rattle.sg_maxmin.specs.Chained.{users_on}
 use Rattle.sg_levels.specs.declared.levels.Levels.{Levels}
 use Rattle.sg_levels.specs.Joined.{joined_count, joined_part, joined_uses, sum_below}
 use Rattle.sg_levels.specs.Kept.{IsWithin}

@@ -3,7 +3,7 @@ use Rattle.std.proofs.Common.{◌≡◌, ◌≢◌, ℕ, ◌+◌, ◌-◌, ◌<�
 use Rattle.std.proofs.lemmas.List.{get_or_past}
 use Rattle.std.proofs.lemmas.List.Elements.{All-get_or}
 use Rattle.sg_base.specs.MarkSet.{is_in}
-use Rattle.sg_chains.specs.Chained.{users_on}
+use Rattle.sg_maxmin.specs.Chained.{users_on}
 use Rattle.sg_maxmin.specs.Fill.{Flow}
 use Rattle.sg_maxmin.specs.Sharing.{Sharing, IsSound, flow_at}
 use Rattle.sg_levels.specs.declared.allowance.Allowance.{Allowance}

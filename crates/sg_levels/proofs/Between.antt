@@ -1,7 +1,7 @@
 -- What is kept between rate updates.
 use Rattle.std.proofs.Common.{◌≡◌, ◌≢◌, ℕ, ◌+◌, ◌<◌, ◌≤◌, inl, inr, true, false, true≢false, cond, eq-eqb, Option, None, Some, IsSome, List, [], ◌∷◌, length, slice_index, sum_by, refl, sym, ap, ap₂, subst, ◌∙◌, arith}
 use Rattle.sg_base.specs.MarkSet.{MarkSet, is_in, with_mark}
-use Rattle.sg_chains.specs.Chained.{times, users_on}
+use Rattle.sg_maxmin.specs.Chained.{times, users_on}
 use Rattle.sg_maxmin.specs.Fill.{Flow, flow, level_of, share_at}
 use Rattle.sg_maxmin.specs.Sharing.{Sharing, IsSound, Changes, flow_at, held, uses_at, uses_in}
 use Rattle.sg_maxmin.proofs.Sums.{sum_by_same}

@@ -1,7 +1,7 @@
 -- What a change of levels leaves of the holds, and when a resource holds none.
 use Rattle.std.proofs.Common.{◌≡◌, ℕ, ◌+◌, ◌-◌, ◌*◌, ◌/◌, ◌<◌, ◌≤◌, ◌⊎◌, inl, inr, cond, min, lt-ltb, le-ltb, is_none, Option, None, Some, option_map, List, sum_by, slice_index, refl, sym, ap, ◌∙◌, arith, mul-le-mul_right, mul_comm, le-div_iff_mul-le, le_trans}
 use Rattle.std.proofs.lemmas.Grind.{div_ceil_times}
-use Rattle.sg_chains.specs.Chained.{users_on}
+use Rattle.sg_maxmin.specs.Chained.{users_on}
 use Rattle.sg_maxmin.specs.Fill.{Flow, bounded, share_at, bound_level}
 use Rattle.sg_maxmin.specs.Fixing.{share_of_fixed}
 use Rattle.sg_maxmin.proofs.Members.{In}

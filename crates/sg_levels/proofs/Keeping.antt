@@ -1,6 +1,6 @@
 -- What is kept, as a flow's part or the system changes.
 use Rattle.std.proofs.Common.{◌≡◌, ℕ, ◌*◌, ◌^◌, ◌<◌, ◌≤◌, ◌⊎◌, inl, inr, None, IsSome, length, get_or-set_same, get_or-set_other, set, slice_index, sum_by, sym, ap, subst, ◌∙◌, arith}
-use Rattle.sg_chains.specs.Chained.{times, users_on}
+use Rattle.sg_maxmin.specs.Chained.{times, users_on}
 use Rattle.sg_maxmin.specs.Sharing.{Sharing, IsSound, flow_at, uses_at}
 use Rattle.sg_levels.specs.declared.levels.Levels.{Levels}
 use Rattle.sg_levels.specs.Kept.{CanShift, HasPlaces, IsKept, Shifts}

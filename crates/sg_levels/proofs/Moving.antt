@@ -1,7 +1,7 @@
 -- A user of a resource that moves, in all that is kept.
 use Rattle.std.proofs.Common.{◌≡◌, ◌≢◌, ℕ, ◌<◌, ◌||◌, inl, inr, true, false, ne_eqb, Option, None, Some, List, [], ◌∷◌, length, get_or-set_same, get_or-set_other, set, slice_index, refl, sym, ap, subst, ◌∙◌}
 use Rattle.sg_base.specs.MarkSet.{is_in}
-use Rattle.sg_chains.specs.Chained.{users_on}
+use Rattle.sg_maxmin.specs.Chained.{users_on}
 use Rattle.sg_maxmin.specs.Sharing.{Sharing, IsSound, uses_at}
 use Rattle.sg_levels.specs.declared.levels.Levels.{Levels}
 use Rattle.sg_maxmin.specs.Numbered.{bound_of, flow_in, level_at}

@@ -1,6 +1,6 @@
 -- Another pass over the users of a resource, on the way to its hold.
 use Rattle.std.proofs.Common.{◌≡◌, ◌≢◌, ℕ, ◌+◌, ◌-◌, ◌*◌, ◌<◌, ◌≤◌, Option, None, Some, IfSome, List, length, slice_index, refl, sym, ap, subst, ◌∙◌, arith}
-use Rattle.sg_chains.specs.Chained.{users_on}
+use Rattle.sg_maxmin.specs.Chained.{users_on}
 use Rattle.sg_maxmin.specs.Sharing.{Sharing}
 use Rattle.sg_levels.specs.declared.hold.Above.{Above}
 use Rattle.sg_maxmin.specs.Numbered.{below_at, row_level, row_waiting}

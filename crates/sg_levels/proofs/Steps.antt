@@ -1,7 +1,7 @@
 -- The steps of a rate update.
 use Rattle.std.proofs.Common.{◌≡◌, ◌≢◌, ℕ, zero, suc, ◌+◌, ◌<◌, ◌≤◌, ◌⊎◌, inl, inr, true, false, true≢false, Option, None, Some, IsSome, option_map, All, drop, take, List, [], ◌∷◌, length, get_or, set, get_or-set_same, get_or-set_other, slice_index, refl, sym, ap, subst, ◌∙◌, arith}
 use Rattle.sg_base.specs.MarkSet.{is_in}
-use Rattle.sg_chains.specs.Chained.{users_on}
+use Rattle.sg_maxmin.specs.Chained.{users_on}
 use Rattle.sg_maxmin.specs.Fill.{Flow, bound_level}
 use Rattle.sg_maxmin.specs.Sharing.{Sharing, IsSound, flow_at, uses_at}
 use Rattle.sg_maxmin.proofs.Members.{In}

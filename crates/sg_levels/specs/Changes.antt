@@ -1,7 +1,7 @@
 -- What a change of levels leaves of the holds, and when a resource holds none.
 use Rattle.std.specs.Prelude.{◌≡◌, ℕ, ◌+◌, ◌*◌, ◌<◌, ◌≤◌, ◌⊎◌, true, Option, None, Some, option_map, List, sum_by, slice_index}
 use Rattle.sg_base.specs.MarkSet.{is_in}
-use Rattle.sg_chains.specs.Chained.{users_on}
+use Rattle.sg_maxmin.specs.Chained.{users_on}
 use Rattle.sg_maxmin.specs.Fill.{Flow, bound_level}
 use Rattle.sg_maxmin.specs.Sharing.{Sharing, IsSound}
 use Rattle.sg_maxmin.specs.Numbered.{below_at, bound_at, level_at, row_level, row_taken, row_waiting, weight_at}

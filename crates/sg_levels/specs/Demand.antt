@@ -1,6 +1,6 @@
 -- The demand on a resource: a sum over its flows that shows without a visit that a resource holds none.
 use Rattle.std.specs.Prelude.{ℕ, ◌+◌, ◌-◌, ◌*◌, ◌^◌, ◌<◌, min, Option, None, Some, List, sum_by, slice_index}
-use Rattle.sg_chains.specs.Chained.{users_on}
+use Rattle.sg_maxmin.specs.Chained.{users_on}
 use Rattle.sg_maxmin.specs.Fill.{Flow, share_at}
 use Rattle.sg_maxmin.specs.Sharing.{Sharing, IsSound}
 use Rattle.sg_maxmin.specs.Numbered.{flow_in, level_at}

@@ -1,7 +1,7 @@
 -- What a `Levels` keeps, and what a change and the processing of a resource do to it.
 use Rattle.std.specs.Prelude.{◌≡◌, ◌≢◌, ℕ, ◌+◌, ◌-◌, ◌*◌, ◌^◌, ◌<◌, ◌≤◌, Bool, true, false, ◌||◌, is_none, Option, None, Some, IsTrue, IsSome, IfSome, List, [], ◌∷◌, length, sum_by, slice_index, slice_set, ◌==◌, if◌then◌else◌}
 use Rattle.sg_base.specs.MarkSet.{is_in, with_mark}
-use Rattle.sg_chains.specs.Chained.{times, users_on}
+use Rattle.sg_maxmin.specs.Chained.{times, users_on}
 use Rattle.sg_maxmin.specs.Fill.{Flow, level_of, share_of}
 use Rattle.sg_maxmin.specs.Sharing.{Sharing, IsSound, Changes, flow_at, held, uses_at}
 use Rattle.sg_levels.specs.declared.hold.Above.{Above}

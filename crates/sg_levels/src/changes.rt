@@ -1,6 +1,6 @@
 //! What changes between rate updates: flows begin and end or get other bounds, and resources get other capacities.
 ghost use Rattle.std.specs.Prelude.{◌≡◌, ◌≤◌, ◌<◌, ◌+◌, ◌*◌, ◌^◌, ℕ, All, IsSome, IfSome, Some, length, slice_index, slice_set, ◌-◌};
-ghost use Rattle.sg_chains.specs.Chained.{times};
+ghost use Rattle.sg_maxmin.specs.Chained.{times};
 ghost use Rattle.sg_maxmin.specs.Fill.{flow};
 ghost use Rattle.sg_maxmin.specs.Sharing.{IsFlow, IsSound, flow_at, uses_at};
 ghost use Rattle.sg_levels.specs.Kept.{Activates, FlowJoins, HasFlow, HasLeft, IsBetween, IsEnded, IsKept, IsMoved, IsStarted, KeepsLevels, KeepsUp, ResourceJoins, UsesStayWithin};

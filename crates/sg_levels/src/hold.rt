@@ -1,6 +1,6 @@
 //! The level at which a resource holds its flows.
 ghost use Rattle.std.specs.Prelude.{◌≡◌, ◌≤◌, ◌<◌, ◌+◌, ◌-◌, ◌*◌, ◌/◌, ℕ, Option, None, Some, IfSome, is_none, length, slice_index, if◌then◌else◌};
-ghost use Rattle.sg_chains.specs.Chained.{users_on};
+ghost use Rattle.sg_maxmin.specs.Chained.{users_on};
 ghost use Rattle.sg_maxmin.specs.Fill.{bounded};
 ghost use Rattle.sg_maxmin.specs.Fixing.{share_of_fixed};
 ghost use Rattle.sg_maxmin.specs.Held.{IsHold};

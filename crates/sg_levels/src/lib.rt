@@ -1,7 +1,7 @@
 //! Max-min levels that are kept up to date: what each change leaves of levels and holds, and a rate update that makes
 //! all flows held again, one resource at a time.
 //! The type is `Levels`, updated by `Levels::settle`; the law `held_is_filling` of `sg_maxmin` is that on which it rests.
-//! It stands on `sg_base`, on the holds and the `System` of `sg_maxmin`, and on `sg_chains`.
+//! It stands on `sg_base`, and on the holds and the `System` of `sg_maxmin`.
 #![tactic(auto)]
 
 mod allowance;

@@ -1,7 +1,7 @@
 //! A rate update: processes active resources, in any order, until none is active or the visits run out.
 ghost use Rattle.std.specs.Prelude.{◌≡◌, ◌≢◌, ◌≤◌, ◌<◌, ◌+◌, ◌*◌, ◌^◌, ℕ, [], ◌∷◌, true, false, IsTrue, List, Option, None, IfSome, IsSome, AllPairs, length, max, slice_index};
 ghost use Rattle.sg_base.specs.MarkSet.{is_in};
-ghost use Rattle.sg_chains.specs.Chained.{users_on};
+ghost use Rattle.sg_maxmin.specs.Chained.{users_on};
 ghost use Rattle.sg_maxmin.specs.Sharing.{IsSound, flow_at, uses_at};
 ghost use Rattle.sg_maxmin.specs.Held.{AreFilled};
 ghost use Rattle.sg_levels.specs.Kept.{HasFlow, HasHold, HasPlaces, HasResource, IsBetween, IsBetweenBut, IsFirstPass, IsSettling, IsSettlingAt, Moves, NotesChanged, NotesMoved, Settles, StaysWithin};

@@ -1,7 +1,7 @@
 //! A rate update: it makes levels and holds agree, one resource at a time, in any order.
 ghost use Rattle.std.specs.Prelude.{◌≡◌, ◌≤◌, ◌<◌, ◌+◌, ◌-◌, ◌*◌, ◌^◌, ℕ, true, false, IsTrue, Option, None, Some, IfSome, IsSome, [], ◌∷◌, length, slice_index, slice_set, ◌==◌, if◌then◌else◌};
 ghost use Rattle.sg_base.specs.MarkSet.{is_in};
-ghost use Rattle.sg_chains.specs.Chained.{times, users_on};
+ghost use Rattle.sg_maxmin.specs.Chained.{times, users_on};
 ghost use Rattle.sg_maxmin.specs.Sharing.{flow_at, uses_at};
 ghost use Rattle.sg_levels.specs.Demand.{demand_of};
 ghost use Rattle.sg_maxmin.specs.Held.{IsAtMost, IsUnder};

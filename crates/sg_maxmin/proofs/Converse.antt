@@ -1,7 +1,7 @@
 -- The max-min levels are those at which all flows are held.
 use Rattle.std.proofs.Common.{◌≡◌, ℕ, ◌<◌, ◌≤◌, inl, inr, true, IfSome, Option, None, Some, option_map, List, length, slice_index, refl, sym, ap, subst, ◌∙◌, arith}
 use Rattle.sg_base.specs.MarkSet.{is_in}
-use Rattle.sg_chains.specs.Chained.{users_on}
+use Rattle.sg_maxmin.specs.Chained.{users_on}
 use Rattle.sg_maxmin.specs.Fill.{Flow, level_of, bound_level}
 use Rattle.sg_maxmin.specs.Fixing.{level}
 use Rattle.sg_maxmin.specs.Sharing.{Sharing, IsSound, flow_at, held}

@@ -3,12 +3,12 @@ use Rattle.std.proofs.Common.{◌≡◌, ◌≢◌, ℕ, zero, suc, ◌+◌, ◌
 use Rattle.std.proofs.lemmas.List.Sums.{sum_by-cons}
 use Rattle.std.specs.List.{list_any, AllPairs}
 use Rattle.sg_maxmin.specs.declared.flow_row.FlowRow.{FlowRow}
-use Rattle.sg_chains.specs.declared.uses.Use.{Use}
+use Rattle.sg_maxmin.specs.declared.uses.Use.{Use}
 use Rattle.sg_maxmin.specs.Fill.{is_on, bounded}
-use Rattle.sg_chains.specs.Chain.{resources, IsChain}
+use Rattle.sg_maxmin.specs.Chain.{resources, IsChain}
 use Rattle.sg_maxmin.specs.kept.Uses.{flow_of, AreRows, IsOneChain}
 use Rattle.sg_maxmin.specs.Sharing.{IsFlow}
-use Rattle.sg_chains.specs.Chained.{times}
+use Rattle.sg_maxmin.specs.Chained.{times}
 use Rattle.sg_maxmin.specs.kept.Counting.{HasRowPlaces, row_share, with_level, without_share, SameRows, RowSteps}
 use Rattle.sg_maxmin.specs.Step.{IsLeast, least_with, IsStepped}
 use Rattle.sg_maxmin.proofs.Least.{least_push}

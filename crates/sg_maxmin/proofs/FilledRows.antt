@@ -3,14 +3,14 @@ use Rattle.std.proofs.Common.{◌≡◌, ℕ, zero, suc, ◌+◌, ◌-◌, ◌*�
 use Rattle.std.specs.Option.{unwrap_or}
 use Rattle.std.proofs.lemmas.List.Sums.{sum_by-cons, count_by-le-length}
 use Rattle.sg_maxmin.specs.declared.flow_row.FlowRow.{FlowRow}
-use Rattle.sg_chains.specs.declared.uses.Use.{Use}
+use Rattle.sg_maxmin.specs.declared.uses.Use.{Use}
 use Rattle.sg_maxmin.specs.Fill.{Flow, is_on, least, bounded, bound_level, share_at, level_of, share_of}
 use Rattle.sg_maxmin.specs.Fixing.{Fixed, taken, waiting, level, limits, lowest, step, steps_from, unfixed, share_of_fixed}
 use Rattle.sg_maxmin.specs.Laws.{HaveLimits}
 use Rattle.sg_maxmin.specs.Sharing.{Sharing, HasLimit, held, flow_at}
-use Rattle.sg_chains.specs.Chain.{IsChain, resources}
+use Rattle.sg_maxmin.specs.Chain.{IsChain, resources}
 use Rattle.sg_maxmin.specs.kept.Uses.{flow_of, flows_of, share_in, share_by_level, AreRows}
-use Rattle.sg_chains.proofs.ChainLemmas.{length-resources}
+use Rattle.sg_maxmin.proofs.ChainLemmas.{length-resources}
 use Rattle.sg_maxmin.proofs.Rows.{flow_at-flows_of, some_row}
 use Rattle.std.proofs.Math.ListN.{get_or-map}
 use Rattle.sg_maxmin.specs.kept.Counting.{rows_held, row_share, taken_on, waiting_on, AreCounted, row_limits, all_limits, RowSteps, with_level, with_share, without_share, SameRows, AreFixed, AreRowLevels, AreRowShares, row_count, count_of}

@@ -2,7 +2,7 @@
 use Rattle.std.proofs.Common.{◌≡◌, ℕ, zero, suc, ◌+◌, ◌-◌, ◌/◌, ◌<◌, ◌≤◌, ◌⊎◌, inl, inr, cond, lt-ltb, le-ltb, is_none, IfSome, Option, None, Some, option_map, List, [], ◌∷◌, length, slice_index, sum_by, refl, sym, ap, ap₂, subst, ◌∙◌, arith, le_trans}
 use Rattle.std.proofs.lemmas.List.Sums.{sum_by-cons}
 use Rattle.sg_base.specs.MarkSet.{is_in}
-use Rattle.sg_chains.specs.Chained.{users_on}
+use Rattle.sg_maxmin.specs.Chained.{users_on}
 use Rattle.sg_maxmin.specs.Fill.{Flow, level_of, bound_level}
 use Rattle.sg_maxmin.specs.Fixing.{share_of_fixed, level, limits}
 use Rattle.sg_maxmin.specs.Laws.{HaveLimits}

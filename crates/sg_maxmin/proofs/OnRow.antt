@@ -1,7 +1,7 @@
 -- A sum over the flows on a resource, by their numbers, is one over all flows that are held.
 use Rattle.std.proofs.Common.{◌≡◌, ◌≢◌, ℕ, zero, suc, ◌+◌, ◌-◌, ◌*◌, ◌/◌, ◌<◌, ◌≤◌, inl, inr, Bool, true, false, cond, ◌&&◌, eqb, eq-eqb, ne_eqb, is_none, Option, None, Some, List, [], ◌∷◌, length, get_or, sum_by, slice_index, ◌^◌, mul-le-mul_right, lit<, refl, sym, ap, ap₂, subst, ◌∙◌, arith}
 use Rattle.std.proofs.lemmas.List.Sums.{sum_by-cons}
-use Rattle.sg_chains.specs.Chained.{times, users_on}
+use Rattle.sg_maxmin.specs.Chained.{times, users_on}
 use Rattle.sg_maxmin.specs.Fill.{Flow, is_on}
 use Rattle.sg_maxmin.specs.Fixing.{Fixed, share_of_fixed, taken, waiting, level}
 use Rattle.sg_maxmin.specs.Sharing.{Sharing, IsSound, flow_at, held, uses_at}

@@ -2,7 +2,7 @@
 use Rattle.std.proofs.Common.{◌≡◌, ℕ, zero, suc, ◌+◌, ◌-◌, ◌^◌, ◌<◌, true, false, cond, ◌&&◌, is_none, Option, None, Some, option_to_list, List, [], ◌∷◌, ◌++◌, filter, flat_map, length, get_or, take, sum_by, add-one, append-nil, append_assoc, refl, sym, ap, ◌∙◌, arith}
 use Rattle.std.proofs.lemmas.List.Sums.{sum_by-cons, sum_by-append}
 use Rattle.sg_maxmin.specs.declared.flow_row.FlowRow.{FlowRow}
-use Rattle.sg_chains.specs.declared.uses.Use.{Use}
+use Rattle.sg_maxmin.specs.declared.uses.Use.{Use}
 use Rattle.sg_maxmin.specs.Fill.{is_on}
 use Rattle.sg_maxmin.specs.kept.Uses.{flow_of}
 use Rattle.sg_maxmin.specs.kept.Counting.{rows_held, row_share, taken_on, waiting_on, row_taken, row_waiting, row_count, count_of, unfixed_limits, all_limits, row_limits, AreCounted}

@@ -1,16 +1,16 @@
 -- Rows of flows, as one comes or goes.
 use Rattle.std.proofs.Common.{◌≡◌, ◌≢◌, ℕ, zero, suc, ◌+◌, ◌<◌, ◌≤◌, ◌^◌, ◌==◌, true, false, cond, length, length-set, IfSome, ◌⊎◌, inl, inr, Option, None, Some, List, [], ◌∷◌, All, map, get_or, get_or-set_same, get_or-set_other, set, option_map, replicate, refl, sym, ap, subst, ◌∙◌, arith}
-use Rattle.sg_chains.specs.declared.uses.Use.{Use}
-use Rattle.sg_chains.specs.Walk.{Leads, next_of_flow, resource_of, user_of}
-use Rattle.sg_chains.proofs.ChainLemmas.{chain_few, chain_leads, chain_own, length-resources}
+use Rattle.sg_maxmin.specs.declared.uses.Use.{Use}
+use Rattle.sg_maxmin.specs.Walk.{Leads, next_of_flow, resource_of, user_of}
+use Rattle.sg_maxmin.proofs.ChainLemmas.{chain_few, chain_leads, chain_own, length-resources}
 use Rattle.sg_maxmin.specs.declared.flow_row.FlowRow.{FlowRow}
 use Rattle.std.proofs.lemmas.List.{length-map, map-set}
 use Rattle.std.proofs.Math.Seq.{map-set_same}
 use Rattle.sg_maxmin.specs.Fill.{Flow, flow}
 use Rattle.sg_maxmin.proofs.FreeNumbers.{in_rows}
 use Rattle.sg_maxmin.specs.Sharing.{flow_at, IsFlow, Changes, IsExtended, uses_in, uses_at, AreBothWays}
-use Rattle.sg_chains.specs.Chain.{IsChain, IsSameChain, KeepsChains}
-use Rattle.sg_chains.specs.Chained.{Chained, times, users_on, GainsUses}
+use Rattle.sg_maxmin.specs.Chain.{IsChain, IsSameChain, KeepsChains}
+use Rattle.sg_maxmin.specs.Chained.{Chained, times, users_on, GainsUses}
 use Rattle.sg_maxmin.specs.kept.Uses.{flow_of, flows_of, share_in, AreRows, IsKept}
 use Rattle.std.proofs.Math.ListN.{get_or-map}
 

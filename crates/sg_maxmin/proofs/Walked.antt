@@ -1,7 +1,7 @@
 -- A walk along a chain of uses.
 use Rattle.std.proofs.Common.{◌≡◌, ℕ, zero, suc, ◌<◌, ◌≤◌, Option, None, Some, IsSome, List, [], ◌∷◌, length, length-drop, get_or, drop, refl, sym, ap, subst, ◌∙◌, arith}
-use Rattle.sg_chains.specs.declared.uses.Use.{Use}
-use Rattle.sg_chains.specs.Walk.{Leads, next_in, left_from}
+use Rattle.sg_maxmin.specs.declared.uses.Use.{Use}
+use Rattle.sg_maxmin.specs.Walk.{Leads, next_in, left_from}
 
 -- how far it is to the end
 pub left_is : (n : ℕ) (next : Use → Option ℕ) (value : Use → ℕ) (uses : List (Option Use)) (at : Option ℕ) (list : List ℕ) → Leads next value uses at list → length list ≤ n → left_from n next uses at ≡ length list

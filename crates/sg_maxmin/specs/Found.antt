@@ -1,7 +1,7 @@
 -- What a max-min solve of connected components finds.
 use Rattle.std.specs.Prelude.{◌≡◌, ℕ, ◌<◌, ◌≤◌, Bool, true, Option, Some, IsTrue, IsSome, List, All, length, slice_index}
 use Rattle.sg_base.specs.MarkSet.{is_in}
-use Rattle.sg_chains.specs.Chained.{users_on}
+use Rattle.sg_maxmin.specs.Chained.{users_on}
 use Rattle.sg_maxmin.specs.Fill.{Flow, level_of}
 use Rattle.sg_maxmin.specs.Sharing.{Sharing, flow_at, held, uses_at}
 use Rattle.sg_maxmin.specs.Numbered.{level_at}

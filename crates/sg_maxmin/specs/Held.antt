@@ -1,7 +1,7 @@
 -- By number: at which level each resource holds its flows, and levels at which all flows are held.
 use Rattle.std.specs.Prelude.{◌≡◌, ◌≢◌, ℕ, ◌<◌, ◌≤◌, true, Option, None, Some, IfSome, List, length, slice_index}
 use Rattle.sg_base.specs.MarkSet.{is_in}
-use Rattle.sg_chains.specs.Chained.{users_on}
+use Rattle.sg_maxmin.specs.Chained.{users_on}
 use Rattle.sg_maxmin.specs.Fill.{Flow, level_of}
 use Rattle.sg_maxmin.specs.Sharing.{Sharing, IsSound, flow_at, held}
 use Rattle.sg_maxmin.specs.Numbered.{below_at, bound_of, level_at, row_level, row_waiting}

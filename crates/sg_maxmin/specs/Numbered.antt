@@ -1,6 +1,6 @@
 -- Flows and their levels by number, and the flows on a resource as a list of their numbers.
 use Rattle.std.specs.Prelude.{◌≡◌, ℕ, ◌-◌, ◌/◌, ltb, Option, None, Some, IsSome, is_none, option_map, List, length, sum_by, slice_index, slice_index_or, if◌then◌else◌}
-use Rattle.sg_chains.specs.Chained.{users_on}
+use Rattle.sg_maxmin.specs.Chained.{users_on}
 use Rattle.sg_maxmin.specs.Fill.{Flow, flow, bound_level}
 use Rattle.sg_maxmin.specs.Fixing.{Fixed, share_of_fixed, level}
 use Rattle.sg_maxmin.specs.Sharing.{Sharing, IsSound, flow_at, held, uses_at}

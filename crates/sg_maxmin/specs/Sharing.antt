@@ -1,8 +1,8 @@
 -- What contracts see of a `System`.
 use Rattle.std.specs.Prelude.{◌≡◌, ◌≢◌, ℕ, ◌<◌, ◌≤◌, ◌+◌, ◌^◌, Option, None, Some, IsSome, List, [], length, filter_map, slice_index, slice_index_or, All, AllPairs, sum_by, refl}
 use Rattle.std.specs.Coded.{Coded, code_by, coded×, coded_ℕ, coded_list, coded_option}
-use Rattle.sg_chains.specs.declared.uses.Use.{Use}
-use Rattle.sg_chains.specs.Chained.{times, users_on, use_code}
+use Rattle.sg_maxmin.specs.declared.uses.Use.{Use}
+use Rattle.sg_maxmin.specs.Chained.{times, users_on, use_code}
 use Rattle.sg_maxmin.specs.Fill.{Flow, flow, share_of}
 
 -- the capacities, the flow or nothing under each id, the share under each id, the use or nothing under each number of a use, the flows on each resource, and room for so many flows and uses more

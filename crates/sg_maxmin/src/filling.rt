@@ -3,7 +3,7 @@
 //! fixes each flow at that limit.
 
 ghost use Rattle.std.specs.Prelude.{◌≡◌, ◌≢◌, ◌↔◌, IsTrue, IsSomeAnd, ◌≤◌, ◌<◌, ◌+◌, ◌-◌, ◌*◌, ◌^◌, ℕ, List, ◌++◌, length, Some, None, slice_index};
-ghost use Rattle.sg_chains.specs.Chained.{times};
+ghost use Rattle.sg_maxmin.specs.Chained.{times};
 ghost use Rattle.sg_maxmin.specs.kept.Uses.{AreRows, flows_of, row_uses};
 ghost use Rattle.sg_maxmin.specs.Laws.{HaveLimits};
 ghost use Rattle.sg_maxmin.specs.Sharing.{held};
@@ -12,12 +12,12 @@ ghost use Rattle.sg_maxmin.specs.Fill.{bounded};
 ghost use Rattle.sg_maxmin.specs.kept.Numbers.{ChangesRow, ChangesRows, row_at};
 ghost use Rattle.sg_maxmin.specs.kept.Counting.{HasRowPlaces, HavePlaces, LooksUpTo, row_limits, AreCounted, row_taken, row_waiting, row_count, count_of, unfixed_limits, all_limits, with_level, with_share, RowSteps, SameRows, AreRowLevels};
 
+use crate::chains::Chains;
 use crate::flow_row::FlowRow;
 use crate::numbered_rows::Rows;
 use crate::rounding::{level_of, level_of_bound, share_at, smaller};
-use crate::uses::look;
+use crate::visits::look;
 use sg_base::Steps;
-use sg_chains::Chains;
 use std::sync::ledger::Ledger;
 
 // What one count finds at each resource: what the fixed flows leave of it, and the weights of the unfixed ones that

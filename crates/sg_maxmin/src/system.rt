@@ -2,15 +2,16 @@
 ghost use Rattle.std.specs.Prelude.{◌≡◌, ◌≤◌, ◌<◌, ◌+◌, ◌-◌, ℕ, [], length, Some, None, IsSome, IfSome, IfOk, OnOk, replicate, slice_index, slice_index_or, slice_set};
 ghost use Rattle.sg_maxmin.specs.Fair.{IsFair};
 ghost use Rattle.sg_maxmin.specs.Fill.{flow, share_of};
-ghost use Rattle.sg_chains.specs.Chained.{users_on};
-ghost use Rattle.sg_chains.specs.Walk.{Leads, next_of_flow, next_on, resource_of, user_of};
+ghost use Rattle.sg_maxmin.specs.Chained.{users_on};
+ghost use Rattle.sg_maxmin.specs.Walk.{Leads, next_of_flow, next_on, resource_of, user_of};
 ghost use Rattle.sg_maxmin.specs.Sharing.{IsSound, uses_at, flow_at, held, AreShares, Changes, IsExtended, IsFlow, KeepsShares, use_count};
 
+use crate::chains::Chains;
 use crate::filling::{fill, put_shares};
 use crate::flow_row::FlowRow;
 use crate::numbered_rows::Rows;
+use crate::uses::Use;
 use sg_base::{Memory, Steps};
-use sg_chains::{Chains, Use};
 use std::alloc::Global;
 use std::marker::Model;
 use std::sync::ledger::Ledger;

@@ -1,23 +1,11 @@
-//! A flow's chain of uses is read by `look` alone, which counts.
-ghost use Rattle.std.specs.Prelude.{◌≡◌, ◌<◌, ◌+◌};
-ghost use Rattle.sg_maxmin.specs.kept.Uses.{GoesOn, IsOneChain};
+//! What is seen of a use.
 
-use sg_base::Steps;
-use sg_chains::{Chains, Use};
-use std::sync::ledger::Ledger;
-
-/// Returns the first use of a chain of `count` uses.
-pub(crate) fn look<L: Ledger>(
-    chains: &Chains,
-    at: Option<usize>,
-    count: usize,
-    steps: &mut Steps<L>,
-) -> Use
-    requires some { 0 < count }
-    requires chain { IsOneChain count chains.now.uses at }
-    ensures next { GoesOn count chains.now.uses at result }
-    ensures looks { steps.new ≡ steps.old + 1 }
-{
-    let Some(i) = at else { unreachable!() };
-    chains.look(i, steps)
+/// One flow's use of one resource, with the numbers of the next use of the same flow and of the next one on the
+/// same resource, each None at the last.
+#[derive(Clone, Copy)]
+pub struct Use {
+    pub flow: usize,
+    pub resource: usize,
+    pub next_of_flow: Option<usize>,
+    pub next_on: Option<usize>,
 }

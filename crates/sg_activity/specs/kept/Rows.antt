@@ -1,9 +1,9 @@
 -- What is used under each key.
 use Rattle.std.specs.Prelude.{◌≡◌, ◌≢◌, ℕ, ◌+◌, ◌-◌, ◌<◌, ◌≤◌, ◌^◌, Option, None, List, [], All, drop, length, map, slice_index_or}
 use Rattle.sg_base.specs.declared.ids.LinkId.{LinkId}
-use Rattle.sg_chains.specs.declared.uses.Use.{Use}
-use Rattle.sg_chains.specs.Chain.{IsChain, resources}
-use Rattle.sg_chains.specs.Chained.{Chained, times, users_on}
+use Rattle.sg_maxmin.specs.declared.uses.Use.{Use}
+use Rattle.sg_maxmin.specs.Chain.{IsChain, resources}
+use Rattle.sg_maxmin.specs.Chained.{Chained, times, users_on}
 use Rattle.sg_activity.specs.declared.index.Uses.{Uses}
 
 -- By key what is used, the use under each number or nothing, the keys of those that use each thing, and room for so many more uses.

@@ -1,8 +1,8 @@
 -- What one pass over the rows counts.
 use Rattle.std.specs.Prelude.{◌≡◌, ℕ, ◌+◌, ◌-◌, ◌*◌, ◌/◌, ◌<◌, ◌≤◌, ◌&&◌, Option, None, Some, is_none, if◌then◌else◌, List, [], ◌++◌, All, map, filter, filter_map, flat_map, length, slice_index, slice_index_or, sum_by, option_to_list, option_map}
 use Rattle.sg_maxmin.specs.declared.flow_row.FlowRow.{FlowRow}
-use Rattle.sg_chains.specs.declared.uses.Use.{Use}
-use Rattle.sg_chains.specs.Chain.{resources}
+use Rattle.sg_maxmin.specs.declared.uses.Use.{Use}
+use Rattle.sg_maxmin.specs.Chain.{resources}
 use Rattle.sg_maxmin.specs.Fill.{is_on, bounded, bound_level, level_of}
 use Rattle.sg_maxmin.specs.Fixing.{Fixed}
 use Rattle.sg_maxmin.specs.Sharing.{held}

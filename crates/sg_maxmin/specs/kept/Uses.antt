@@ -1,8 +1,8 @@
 -- How a `System` keeps its flows: each has a chain of uses.
 use Rattle.std.specs.Prelude.{◌≡◌, ℕ, ◌-◌, ◌*◌, ◌^◌, ◌<◌, min, IfSome, Option, None, Some, List, ◌∷◌, length, map, slice_index_or, unwrap_or, option_map}
-use Rattle.sg_chains.specs.declared.uses.Use.{Use}
-use Rattle.sg_chains.specs.Chain.{IsChain, resources}
-use Rattle.sg_chains.specs.Chained.{Chained}
+use Rattle.sg_maxmin.specs.declared.uses.Use.{Use}
+use Rattle.sg_maxmin.specs.Chain.{IsChain, resources}
+use Rattle.sg_maxmin.specs.Chained.{Chained}
 use Rattle.sg_maxmin.specs.declared.flow_row.FlowRow.{FlowRow}
 use Rattle.sg_maxmin.specs.Fill.{Flow, flow, bounded}
 use Rattle.sg_maxmin.specs.Sharing.{IsFlow, AreBothWays}

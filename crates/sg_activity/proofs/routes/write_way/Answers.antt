@@ -1,6 +1,6 @@
 use Rattle.std.proofs.Common.{◌≡◌, ◌-◌, ◌^◌, ◌<◌, ◌≤◌, ◌⊎◌, inl, inr, ℕ, zero, suc, [], ◌∷◌, ◌++◌, List, length, take, sym, ap, ap₂, subst, ◌∙◌, refl, arith}
 use Rattle.std.proofs.lemmas.List.{take_all}
-use Rattle.sg_chains.specs.Walk.{next_of_flow, resource_of}
+use Rattle.sg_maxmin.specs.Walk.{next_of_flow, resource_of}
 use Rattle.sg_maxmin.proofs.Walked.{can_look, looked, walk_on, nearer, walked}
 use Rattle.sg_activity.specs.kept.Rows.{link_of, row_at, way_in}
 use Rattle.sg_activity.proofs.Indexing.{behind_at, way_ends, way_few, way_more}

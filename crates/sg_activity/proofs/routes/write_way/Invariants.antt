@@ -1,5 +1,5 @@
 use Rattle.std.proofs.Common.{◌≡◌, ℕ, length, take}
-use Rattle.sg_chains.specs.Walk.{next_of_flow, resource_of, left_from}
+use Rattle.sg_maxmin.specs.Walk.{next_of_flow, resource_of, left_from}
 use Rattle.sg_maxmin.proofs.Walked.{IsWalk}
 use Rattle.sg_activity.specs.kept.Rows.{row_at, way_in}
 use Rattle.sg_activity.proofs.routes.write_way.Given as goal

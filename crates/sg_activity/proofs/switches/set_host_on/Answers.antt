@@ -1,5 +1,5 @@
 use Rattle.std.proofs.Common.{◌≡◌, ◌+◌, length, length-set, set, refl, ap₂, subst, ◌∙◌, arith}
-use Rattle.sg_chains.specs.Chained.{users_on}
+use Rattle.sg_maxmin.specs.Chained.{users_on}
 use Rattle.sg_activity.specs.kept.Hits.{AreLooked}
 use Rattle.sg_activity.specs.kept.State.{state_of, ways_of}
 use Rattle.sg_activity.proofs.Reset.{users_below}

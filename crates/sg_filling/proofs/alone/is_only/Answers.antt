@@ -1,6 +1,6 @@
 use Rattle.std.proofs.Common.{◌≡◌, eqb-true, false, true≢false, is_some, Option, None, Some, refl, sym, ap, ◌∙◌}
-use Rattle.sg_chains.specs.Chained.{users_on}
-use Rattle.sg_chains.specs.Walk.{next_on, user_of}
+use Rattle.sg_maxmin.specs.Chained.{users_on}
+use Rattle.sg_maxmin.specs.Walk.{next_on, user_of}
 use Rattle.sg_maxmin.proofs.Walked.{walk_from}
 use Rattle.sg_filling.proofs.OneFlow.{only_user}
 use Rattle.sg_filling.proofs.alone.is_only.Goals as goal

@@ -1,7 +1,7 @@
 use Rattle.std.proofs.Common.{◌≡◌, ◌+◌, ◌<◌, ◌≤◌, ℕ, Bool, IsTrue, true, [], ◌∷◌, length, take, slice_index}
 use Rattle.sg_base.specs.MarkSet.{is_in}
-use Rattle.sg_chains.specs.Chained.{users_on}
-use Rattle.sg_chains.specs.Walk.{next_of_flow, resource_of, left_from}
+use Rattle.sg_maxmin.specs.Chained.{users_on}
+use Rattle.sg_maxmin.specs.Walk.{next_of_flow, resource_of, left_from}
 use Rattle.sg_maxmin.specs.Sharing.{uses_at}
 use Rattle.sg_maxmin.proofs.Walked.{IsWalk}
 use Rattle.sg_filling.specs.Alone.{alone_limits}

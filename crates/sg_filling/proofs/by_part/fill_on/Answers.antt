@@ -1,7 +1,7 @@
 use Rattle.std.proofs.Common.{◌≡◌, ℕ, true, ap, ◌∙◌, subst, sym}
 use Rattle.sg_base.specs.MarkSet.{MarkSet, is_in}
-use Rattle.sg_chains.specs.Chained.{users_on}
-use Rattle.sg_chains.specs.Walk.{next_on, user_of}
+use Rattle.sg_maxmin.specs.Chained.{users_on}
+use Rattle.sg_maxmin.specs.Walk.{next_on, user_of}
 use Rattle.sg_filling.proofs.Filled.{fills_free, fills_none, marked_pass}
 use Rattle.sg_maxmin.proofs.Walked.{goes, walk_from, walked}
 use Rattle.sg_maxmin.proofs.Listed.{mark_there, none_some}

@@ -1,5 +1,5 @@
 use Rattle.std.proofs.Common.{◌≡◌, ◌<◌, length, get_or, below_more, refl, ap, subst, sym, arith}
-use Rattle.sg_chains.specs.Chained.{users_on}
+use Rattle.sg_maxmin.specs.Chained.{users_on}
 use Rattle.sg_filling.specs.Component.{RowPasses, AreIn}
 use Rattle.sg_filling.proofs.Growing.{all_stay, lengths_more}
 use Rattle.sg_filling.proofs.Spread.{spreads_on}

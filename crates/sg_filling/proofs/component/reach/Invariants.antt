@@ -1,5 +1,5 @@
 use Rattle.std.proofs.Common.{ℕ, Bool, ◌+◌, ◌-◌, ◌<◌, ◌≤◌, length, take, slice_index}
-use Rattle.sg_chains.specs.Chained.{users_on}
+use Rattle.sg_maxmin.specs.Chained.{users_on}
 use Rattle.sg_filling.specs.Component.{AreIn, PassAlong, Spreads, StaysWithin, lengths, touched_uses}
 use Rattle.sg_filling.proofs.component.reach.Given as goal
 

@@ -1,7 +1,7 @@
 use Rattle.std.proofs.Common.{◌≡◌, suc, true, get_or, below_more, sym, subst, arith}
 use Rattle.sg_base.specs.MarkSet.{is_in}
-use Rattle.sg_chains.specs.Chained.{users_on}
-use Rattle.sg_chains.specs.Walk.{next_on, user_of}
+use Rattle.sg_maxmin.specs.Chained.{users_on}
+use Rattle.sg_maxmin.specs.Walk.{next_on, user_of}
 use Rattle.sg_filling.proofs.Growing.{stays}
 use Rattle.sg_maxmin.proofs.Walked.{can_look, looked, walk_on, nearer, walked}
 use Rattle.sg_filling.proofs.Spread.{spreads_on}

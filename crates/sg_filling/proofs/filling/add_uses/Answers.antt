@@ -1,8 +1,8 @@
 use Rattle.std.proofs.Common.{◌+◌, ◌*◌, ◌<◌, ◌≤◌, suc, length, take, get_or, ap, ◌∙◌, arith}
 use Rattle.std.proofs.lemmas.List.Elements.{All-get_or}
-use Rattle.sg_chains.specs.Chained.{times}
+use Rattle.sg_maxmin.specs.Chained.{times}
 use Rattle.sg_maxmin.specs.Sharing.{uses_at}
-use Rattle.sg_chains.specs.Walk.{next_of_flow, resource_of}
+use Rattle.sg_maxmin.specs.Walk.{next_of_flow, resource_of}
 use Rattle.sg_maxmin.proofs.Walked.{can_look, looked, walk_on, nearer, walked}
 use Rattle.sg_filling.proofs.Walked.{add_more, room_more}
 use Rattle.sg_maxmin.proofs.Listed.{take_all}

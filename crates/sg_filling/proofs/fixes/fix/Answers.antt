@@ -1,8 +1,8 @@
 use Rattle.std.proofs.Common.{◌≡◌, ◌-◌, ◌*◌, ◌^◌, ◌<◌, suc, true, min, Some, length, length-set, get_or, take, below_more, refl, sym, ap, subst, ◌∙◌, arith}
 use Rattle.std.proofs.lemmas.List.Elements.{All-get_or}
 use Rattle.sg_base.specs.MarkSet.{MarkSet, is_in, with_mark}
-use Rattle.sg_chains.specs.Chained.{times}
-use Rattle.sg_chains.specs.Walk.{next_of_flow, resource_of}
+use Rattle.sg_maxmin.specs.Chained.{times}
+use Rattle.sg_maxmin.specs.Walk.{next_of_flow, resource_of}
 use Rattle.sg_maxmin.specs.Fill.{bounded, share_at}
 use Rattle.sg_maxmin.specs.Sharing.{uses_at}
 use Rattle.sg_maxmin.specs.Numbered.{flow_in, weight_at}

@@ -1,5 +1,5 @@
 use Rattle.std.proofs.Common.{Some, get_or, refl, arith}
-use Rattle.sg_chains.specs.Chained.{users_on}
+use Rattle.sg_maxmin.specs.Chained.{users_on}
 use Rattle.sg_maxmin.specs.Step.{IsLeast}
 use Rattle.sg_filling.specs.Filling.{fixed_at, limits_at}
 use Rattle.sg_filling.proofs.Fixing.{above_still, all_at, fixed_stay, may_step, partly_on}

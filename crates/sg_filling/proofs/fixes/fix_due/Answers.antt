@@ -1,5 +1,5 @@
 use Rattle.std.proofs.Common.{◌≡◌, ◌<◌, ℕ, true≢false, is_some, IsSome, inl, inr, None, Some, List, Option, length, get_or, set, get_or-set_same, get_or-set_other, refl, sym, ap, subst, ◌∙◌, arith}
-use Rattle.sg_chains.specs.Chained.{users_on}
+use Rattle.sg_maxmin.specs.Chained.{users_on}
 use Rattle.sg_heap.specs.Agenda.{Key, key_at}
 use Rattle.sg_filling.specs.declared.filling.Filling.{Filling}
 use Rattle.sg_base.specs.MarkSet.{is_in}

@@ -1,5 +1,5 @@
 use Rattle.std.proofs.Common.{◌≡◌, ◌⊎◌, ℕ, None, Some, IsSome, slice_index}
-use Rattle.sg_chains.specs.Chained.{users_on}
+use Rattle.sg_maxmin.specs.Chained.{users_on}
 use Rattle.sg_heap.specs.Agenda.{key_at, key_count}
 use Rattle.sg_filling.specs.Filling.{AreFixed, KeepsHolds, StepsPartly, fixed_at}
 use Rattle.sg_filling.specs.Holds.{CountsOnce, MayHold}

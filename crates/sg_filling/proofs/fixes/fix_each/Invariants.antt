@@ -1,5 +1,5 @@
 use Rattle.std.proofs.Common.{◌≡◌, ℕ, ◌<◌, ◌≤◌, Some, length, slice_index}
-use Rattle.sg_chains.specs.Chained.{users_on}
+use Rattle.sg_maxmin.specs.Chained.{users_on}
 use Rattle.sg_filling.specs.Filling.{AreFixed, KeepsHolds, StepsPartly, fixed_at}
 use Rattle.sg_filling.specs.Holds.{CountsOnce, MayHold}
 use Rattle.sg_filling.proofs.fixes.fix_each.Given as goal

@@ -1,5 +1,5 @@
 use Rattle.std.proofs.Common.{◌≡◌, ◌<◌, Some, cond, eq-eqb, length, length-set, get_or, sym, ap, ◌∙◌, arith}
-use Rattle.sg_chains.specs.Chained.{users_on}
+use Rattle.sg_maxmin.specs.Chained.{users_on}
 use Rattle.sg_filling.specs.Holds.{users_at}
 use Rattle.sg_filling.proofs.Rows.{any_default}
 use Rattle.sg_filling.proofs.fixes.fix_on.Goals as goal

@@ -1,7 +1,7 @@
 use Rattle.std.proofs.Common.{◌≡◌, true, suc, IsSome, Some, get_or, below_more, refl, sym, ap, subst, ◌∙◌, arith}
 use Rattle.sg_base.specs.MarkSet.{is_in}
-use Rattle.sg_chains.specs.Chained.{users_on}
-use Rattle.sg_chains.specs.Walk.{next_on, user_of}
+use Rattle.sg_maxmin.specs.Chained.{users_on}
+use Rattle.sg_maxmin.specs.Walk.{next_on, user_of}
 use Rattle.sg_maxmin.specs.Sharing.{uses_at}
 use Rattle.sg_maxmin.specs.Step.{IsLeast}
 use Rattle.sg_filling.specs.Filling.{fixed_at, limits_at}

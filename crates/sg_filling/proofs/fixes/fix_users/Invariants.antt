@@ -1,6 +1,6 @@
 use Rattle.std.proofs.Common.{◌≡◌, ◌≢◌, ◌+◌, ◌<◌, ℕ, List, IsSome, AllPairs, length, slice_index}
-use Rattle.sg_chains.specs.Chained.{users_on}
-use Rattle.sg_chains.specs.Walk.{next_on, user_of, left_from}
+use Rattle.sg_maxmin.specs.Chained.{users_on}
+use Rattle.sg_maxmin.specs.Walk.{next_on, user_of, left_from}
 use Rattle.sg_maxmin.proofs.Walked.{IsWalk}
 use Rattle.sg_filling.specs.Component.{AreIn}
 use Rattle.sg_filling.specs.Filling.{KeepsCount, StepsPartly, fixed_at}

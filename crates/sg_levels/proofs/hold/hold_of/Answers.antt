@@ -1,5 +1,5 @@
 use Rattle.std.proofs.Common.{◌≡◌, ◌+◌, ◌<◌, ◌≤◌, Option, Some, IfSome, length, slice_index, refl, sym, subst, ◌∙◌, arith}
-use Rattle.sg_chains.specs.Chained.{users_on}
+use Rattle.sg_maxmin.specs.Chained.{users_on}
 use Rattle.sg_maxmin.specs.Numbered.{below_at, row_level, row_waiting}
 use Rattle.sg_maxmin.proofs.Walked.{none_of}
 use Rattle.sg_levels.proofs.RowRise.{IsOnWay, way_starts, way_on, way_none, level_le}

@@ -1,5 +1,5 @@
 use Rattle.std.proofs.Common.{◌≡◌, ◌+◌, ◌-◌, length, slice_index}
-use Rattle.sg_chains.specs.Chained.{users_on}
+use Rattle.sg_maxmin.specs.Chained.{users_on}
 use Rattle.sg_levels.proofs.RowRise.{IsOnWay}
 use Rattle.sg_levels.proofs.Passes.{IsNext}
 use Rattle.sg_levels.proofs.hold.hold_of.Given as goal

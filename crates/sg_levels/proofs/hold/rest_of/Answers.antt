@@ -1,6 +1,6 @@
 use Rattle.std.proofs.Common.{◌-◌, suc, cond, is_none, IsSome, slice_index, refl, sym, ap, ap₂, subst, ◌∙◌, arith}
-use Rattle.sg_chains.specs.Chained.{users_on}
-use Rattle.sg_chains.specs.Walk.{next_on, user_of}
+use Rattle.sg_maxmin.specs.Chained.{users_on}
+use Rattle.sg_maxmin.specs.Walk.{next_on, user_of}
 use Rattle.sg_maxmin.specs.Fixing.{share_of_fixed}
 use Rattle.sg_maxmin.specs.Numbered.{below_at, flow_in, row_taken, row_waiting, weight_at}
 use Rattle.sg_maxmin.proofs.Listed.{in_at, take_all}

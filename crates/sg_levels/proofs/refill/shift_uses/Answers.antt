@@ -1,8 +1,8 @@
 use Rattle.std.proofs.Common.{◌≡◌, ◌<◌, ◌*◌, suc, length, length-set, get_or, take, refl, ap, subst, ◌∙◌, arith, ◌+◌, ◌-◌}
 use Rattle.std.proofs.lemmas.List.Elements.{All-get_or}
-use Rattle.sg_chains.specs.Chained.{times}
+use Rattle.sg_maxmin.specs.Chained.{times}
 use Rattle.sg_maxmin.specs.Sharing.{uses_at}
-use Rattle.sg_chains.specs.Walk.{next_of_flow, resource_of}
+use Rattle.sg_maxmin.specs.Walk.{next_of_flow, resource_of}
 use Rattle.sg_levels.specs.Kept.{Shifts}
 use Rattle.sg_maxmin.proofs.Listed.{take_all}
 use Rattle.sg_maxmin.proofs.Users.{rows_exist}

@@ -1,7 +1,7 @@
 use Rattle.std.proofs.Common.{◌<◌, suc, length, get_or, sym, ◌∙◌, arith}
 use Rattle.std.proofs.lemmas.List.Elements.{All-get_or}
 use Rattle.sg_maxmin.specs.Sharing.{uses_at}
-use Rattle.sg_chains.specs.Walk.{next_of_flow, resource_of}
+use Rattle.sg_maxmin.specs.Walk.{next_of_flow, resource_of}
 use Rattle.sg_levels.specs.Settling.{at_hold}
 use Rattle.sg_maxmin.proofs.Listed.{in_at}
 use Rattle.sg_maxmin.proofs.Users.{rows_exist}

@@ -1,6 +1,6 @@
 use Rattle.std.proofs.Common.{◌≡◌, ◌+◌, ℕ, length}
 use Rattle.sg_maxmin.specs.Sharing.{uses_at}
-use Rattle.sg_chains.specs.Walk.{next_of_flow, resource_of, left_from}
+use Rattle.sg_maxmin.specs.Walk.{next_of_flow, resource_of, left_from}
 use Rattle.sg_maxmin.proofs.Walked.{IsWalk}
 use Rattle.sg_levels.proofs.settling.has_cause.Given as goal
 

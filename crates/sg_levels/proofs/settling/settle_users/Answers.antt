@@ -1,6 +1,6 @@
 use Rattle.std.proofs.Common.{◌≡◌, ◌∷◌, ◌+◌, ◌*◌, ◌≤◌, ℕ, mul-le-mul, suc, drop, sym, ap, subst, ◌∙◌, arith}
-use Rattle.sg_chains.specs.Chained.{users_on}
-use Rattle.sg_chains.specs.Walk.{next_on, user_of}
+use Rattle.sg_maxmin.specs.Chained.{users_on}
+use Rattle.sg_maxmin.specs.Walk.{next_on, user_of}
 use Rattle.sg_levels.specs.Kept.{IsSettlingOn}
 use Rattle.sg_maxmin.proofs.Listed.{in_at}
 use Rattle.sg_maxmin.proofs.Walked.{can_look, looked, walk_from, walk_on, nearer, walked}

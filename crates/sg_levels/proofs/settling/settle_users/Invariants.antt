@@ -1,6 +1,6 @@
 use Rattle.std.proofs.Common.{ℕ, ◌+◌, ◌*◌, ◌≤◌, length, drop}
-use Rattle.sg_chains.specs.Chained.{users_on}
-use Rattle.sg_chains.specs.Walk.{next_on, user_of, left_from}
+use Rattle.sg_maxmin.specs.Chained.{users_on}
+use Rattle.sg_maxmin.specs.Walk.{next_on, user_of, left_from}
 use Rattle.sg_levels.specs.Kept.{IsKept, IsSettlingOn, NotesMoved, ResourceStaysWithin}
 use Rattle.sg_maxmin.proofs.Walked.{IsWalk}
 use Rattle.sg_levels.proofs.settling.settle_users.Given as goal

@@ -1,7 +1,7 @@
 use Rattle.std.proofs.Common.{◌≡◌, ◌≢◌, ◌+◌, ◌<◌, ℕ, true, false, length, slice_index, take}
 use Rattle.sg_base.specs.MarkSet.{is_in}
 use Rattle.sg_maxmin.specs.Sharing.{uses_at}
-use Rattle.sg_chains.specs.Walk.{next_of_flow, resource_of, left_from}
+use Rattle.sg_maxmin.specs.Walk.{next_of_flow, resource_of, left_from}
 use Rattle.sg_levels.specs.Settling.{is_active}
 use Rattle.sg_levels.specs.Kept.{KeepsLevels, Lessens, Shifts}
 use Rattle.sg_maxmin.proofs.Walked.{IsWalk}

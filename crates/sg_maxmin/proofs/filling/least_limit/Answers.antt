@@ -1,9 +1,9 @@
 use Rattle.std.proofs.Common.{◌≡◌, ℕ, ◌+◌, ◌-◌, ◌/◌, ◌<◌, ◌≤◌, List, ◌∷◌, ◌++◌, map, length, get_or, drop, take, take_all, Some, option_map, option_to_list, sym, ap, subst, ◌∙◌, arith}
 use Rattle.std.proofs.lemmas.List.Elements.{All-same, All-tail}
 use Rattle.sg_maxmin.specs.Fill.{bound_level}
-use Rattle.sg_chains.specs.Chain.{resources}
+use Rattle.sg_maxmin.specs.Chain.{resources}
 use Rattle.sg_maxmin.specs.Step.{IsLeast, least_with}
-use Rattle.sg_chains.proofs.ChainLemmas.{length-resources}
+use Rattle.sg_maxmin.proofs.ChainLemmas.{length-resources}
 use Rattle.sg_maxmin.proofs.Counts.{limits_more, step_on}
 use Rattle.sg_maxmin.proofs.filling.least_limit.Goals as goal
 

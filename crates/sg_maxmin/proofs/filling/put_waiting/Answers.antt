@@ -1,8 +1,8 @@
 use Rattle.std.proofs.Common.{◌≡◌, ℕ, ◌+◌, ◌-◌, ◌*◌, ◌^◌, ◌<◌, [], ◌∷◌, length, length-set, get_or, sym, ap, ◌∙◌, arith}
 use Rattle.std.proofs.lemmas.List.Elements.{All-same, All-tail, All-head}
-use Rattle.sg_chains.specs.Chain.{resources}
-use Rattle.sg_chains.specs.Chained.{times}
-use Rattle.sg_chains.proofs.ChainLemmas.{resources_none}
+use Rattle.sg_maxmin.specs.Chain.{resources}
+use Rattle.sg_maxmin.specs.Chained.{times}
+use Rattle.sg_maxmin.proofs.ChainLemmas.{resources_none}
 use Rattle.sg_maxmin.proofs.Counts.{put_more, put_fits}
 use Rattle.sg_maxmin.proofs.filling.put_waiting.Goals as goal
 

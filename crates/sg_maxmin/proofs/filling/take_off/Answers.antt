@@ -1,9 +1,9 @@
 use Rattle.std.proofs.Common.{◌≡◌, ℕ, ◌+◌, ◌-◌, ◌*◌, ◌<◌, All, [], ◌∷◌, length, length-set, get_or, refl, sym, ap, subst, ◌∙◌, arith}
 use Rattle.std.proofs.lemmas.List.Elements.{All-same, All-tail, All-head}
 use Rattle.sg_maxmin.specs.Fill.{bounded}
-use Rattle.sg_chains.specs.Chain.{resources}
-use Rattle.sg_chains.specs.Chained.{times}
-use Rattle.sg_chains.proofs.ChainLemmas.{resources_none}
+use Rattle.sg_maxmin.specs.Chain.{resources}
+use Rattle.sg_maxmin.specs.Chained.{times}
+use Rattle.sg_maxmin.proofs.ChainLemmas.{resources_none}
 use Rattle.sg_maxmin.specs.kept.Uses.{IsOneChain}
 use Rattle.sg_maxmin.proofs.Counts.{off_more, cut_times}
 use Rattle.sg_maxmin.proofs.filling.take_off.Goals as goal

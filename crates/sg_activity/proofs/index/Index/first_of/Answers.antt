@@ -1,7 +1,7 @@
 use Rattle.std.proofs.Common.{◌≡◌, ◌<◌, ◌≤◌, length, map, sym, ap, subst, ◌∙◌, arith}
 use Rattle.std.proofs.lemmas.List.{get_or_default, length-map}
-use Rattle.sg_chains.proofs.ChainLemmas.{chain_few, chain_leads, length-resources}
-use Rattle.sg_chains.specs.Walk.{Leads, next_of_flow, resource_of}
+use Rattle.sg_maxmin.proofs.ChainLemmas.{chain_few, chain_leads, length-resources}
+use Rattle.sg_maxmin.specs.Walk.{Leads, next_of_flow, resource_of}
 use Rattle.sg_activity.specs.declared.index.Uses.{Uses}
 use Rattle.sg_activity.specs.kept.Rows.{Indexed, row_at, things_of, uses_at}
 use Rattle.sg_activity.proofs.Chained.{no_uses, row_mapped}

@@ -1,5 +1,5 @@
 use Rattle.std.proofs.Common.{◌≡◌, ℕ, subst, sym, ap, ◌∙◌}
-use Rattle.sg_chains.specs.Chained.{times, users_on}
+use Rattle.sg_maxmin.specs.Chained.{times, users_on}
 use Rattle.sg_activity.specs.kept.Rows.{Indexed, row_at}
 use Rattle.sg_activity.proofs.Chained.{row_mapped}
 use Rattle.sg_activity.proofs.index.Index.is_both_ways.Goals as goal

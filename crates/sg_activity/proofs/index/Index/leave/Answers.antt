@@ -1,7 +1,7 @@
 use Rattle.std.proofs.Common.{◌≡◌, ◌<◌, [], length, map, set, refl, subst, ap, ◌∙◌, arith}
 use Rattle.std.proofs.lemmas.List.{get_or_default, length-map}
-use Rattle.sg_chains.specs.Chained.{GainsUses}
-use Rattle.sg_chains.proofs.ChainLemmas.{length-resources}
+use Rattle.sg_maxmin.specs.Chained.{GainsUses}
+use Rattle.sg_maxmin.proofs.ChainLemmas.{length-resources}
 use Rattle.sg_activity.specs.declared.index.Uses.{Uses}
 use Rattle.sg_activity.specs.kept.Rows.{Indexed, IsRow, row_at, things_of, uses_at}
 use Rattle.sg_activity.proofs.Chained.{leave_indexed, no_uses, nothing_of, put_row, row_mapped}

@@ -1,5 +1,5 @@
 use Rattle.std.proofs.Common.{slice_index, subst, arith}
-use Rattle.sg_chains.specs.Chained.{users_on}
+use Rattle.sg_maxmin.specs.Chained.{users_on}
 use Rattle.sg_maxmin.specs.Held.{IsHold}
 use Rattle.sg_levels.proofs.levels.Levels.look_at.Goals as goal
 

@@ -1,5 +1,5 @@
 use Rattle.std.proofs.Common.{◌≡◌, ◌≢◌, ℕ, ◌+◌, ◌-◌, ◌<◌, ◌≤◌, max, All, AllPairs, List, length, sym, ap, subst, ◌∙◌, arith}
-use Rattle.sg_chains.specs.Chained.{users_on}
+use Rattle.sg_maxmin.specs.Chained.{users_on}
 use Rattle.sg_levels.specs.Joined.{spare_looks}
 use Rattle.sg_levels.specs.Allowed.{SparesLooks}
 use Rattle.sg_maxmin.proofs.Walked.{none_of}

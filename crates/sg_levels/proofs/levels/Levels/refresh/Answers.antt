@@ -1,5 +1,5 @@
 use Rattle.std.proofs.Common.{◌+◌, ◌≤◌, length, max, refl, sym, subst, arith}
-use Rattle.sg_chains.specs.Chained.{users_on}
+use Rattle.sg_maxmin.specs.Chained.{users_on}
 use Rattle.sg_levels.specs.Kept.{IsLevelAbove}
 use Rattle.sg_maxmin.specs.Numbered.{flow_in}
 use Rattle.sg_levels.proofs.Demand.{demand_holds_none_lem, parts_demand}

@@ -1,5 +1,5 @@
 use Rattle.std.proofs.Common.{None, set, sym, subst, arith}
-use Rattle.sg_chains.specs.Chained.{users_on}
+use Rattle.sg_maxmin.specs.Chained.{users_on}
 use Rattle.sg_levels.specs.Settling.{AreSettlingOn}
 use Rattle.sg_levels.proofs.Steps.{any_end, start_keeps}
 use Rattle.sg_levels.proofs.Within.{less_active}

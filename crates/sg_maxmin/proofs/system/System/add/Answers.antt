@@ -2,7 +2,7 @@ use Rattle.std.proofs.Common.{◌≡◌, ◌≢◌, ℕ, ◌<◌, All, option_ma
 use Rattle.sg_maxmin.specs.declared.flow_row.FlowRow.{FlowRow}
 use Rattle.sg_maxmin.specs.Fill.{Flow, flow}
 use Rattle.sg_maxmin.specs.Sharing.{IsFlow, Changes, flow_at}
-use Rattle.sg_chains.specs.Chain.{IsChain, resources}
+use Rattle.sg_maxmin.specs.Chain.{IsChain, resources}
 use Rattle.sg_maxmin.specs.kept.Uses.{flow_of, flows_of, AreRows}
 use Rattle.sg_maxmin.proofs.Rows.{rows_changed, IsNewRow, share_kept, share_none, both_with, flow_at-flows_of, some_row}
 use Rattle.sg_maxmin.proofs.system.System.add.Goals as goal

@@ -1,5 +1,5 @@
 use Rattle.std.proofs.Common.{None, length, replicate, sym, subst, ◌∙◌}
-use Rattle.sg_chains.specs.Walk.{Leads, next_of_flow, user_of}
+use Rattle.sg_maxmin.specs.Walk.{Leads, next_of_flow, user_of}
 use Rattle.sg_maxmin.specs.Sharing.{uses_at}
 use Rattle.sg_maxmin.proofs.Rows.{IsLed, first_leads, first_none, first_own, none_own}
 use Rattle.sg_maxmin.proofs.system.System.first_of.Goals as goal

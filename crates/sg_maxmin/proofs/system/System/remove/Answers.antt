@@ -1,7 +1,7 @@
 use Rattle.std.proofs.Common.{◌≡◌, ◌≢◌, ℕ, None, Some, length, get_or, get_or-set_same, get_or-set_other, slice_index, option_map, ap, subst, ◌∙◌, arith}
 use Rattle.sg_maxmin.specs.Sharing.{Changes, flow_at}
 use Rattle.sg_maxmin.specs.kept.Uses.{flow_of, flows_of, AreRows}
-use Rattle.sg_chains.proofs.ChainLemmas.{length-resources}
+use Rattle.sg_maxmin.proofs.ChainLemmas.{length-resources}
 use Rattle.sg_maxmin.proofs.FreeNumbers.{in_rows}
 use Rattle.sg_maxmin.proofs.Rows.{rows_changed, share_kept, flow_at-flows_of, both_without}
 use Rattle.sg_maxmin.proofs.system.System.remove.Goals as goal

@@ -1,3 +1,0 @@
-pub mod CellLemmas
-pub mod LinkLemmas
-pub mod ChainLemmas

@@ -1,8 +1,0 @@
-use Rattle.std.proofs.Common.{◌≡◌, None, option_map, ap, subst, ◌∙◌}
-use Rattle.slab.specs.Slab.{get}
-use Rattle.sg_chains.specs.kept.Cells.{slot_in}
-use Rattle.sg_chains.proofs.CellLemmas.{slot_at}
-use Rattle.sg_chains.proofs.slots.Slots.are_numbered.Goals as goal
-
-pub returns : goal.returns
-returns c = λ i far. subst (λ s. get s i ≡ None) c.self.view_is (slot_at c.self.inside.slab.slots i ∙ ap (option_map slot_in) (c.self.invariant i far))

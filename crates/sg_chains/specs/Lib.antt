@@ -1,4 +1,0 @@
-pub mod Walk
-pub mod Chain
-pub mod Chained
-pub mod kept

@@ -1,3 +1,0 @@
--- How `Chains` keeps its uses.
-pub mod Cells
-pub mod Linked
