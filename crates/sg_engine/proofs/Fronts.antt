@@ -1,13 +1,15 @@
 -- Fronts of texts that were written.
-use Rattle.std.proofs.Common.{Result, Ok, Err as Error, ◌≡◌, ◌<◌, ◌∙◌, sym, ap, subst, refl, inl, inr, ℕ, List, [], ◌++◌, Option, append_assoc, arith}
+use Rattle.std.proofs.Common.{Result, Ok, Err as Error, ◌≡◌, ◌<◌, ◌∙◌, sym, ap, subst, refl, inl, inr, ℕ, List, [], ◌++◌, Option, append_assoc}
 use Rattle.sg_edge.specs.declared.sinks.Stream.{Stream}
 use Rattle.sg_edge.specs.declared.sinks.Stream.TheVariants.{Out, Err}
+use Rattle.std.specs.Borrow.{MutBor}
+use Rattle.std.specs.Prelude.{OnErr, OnOk}
 use Rattle.std.proofs.lemmas.List.{append-nil}
-use Rattle.sg_edge.specs.Sinks.{gain, IsWritten, GainsFront}
+use Rattle.sg_edge.specs.Sinks.{gain, IsWritten, GainsFront, SameBut}
 use Rattle.sg_edge.proofs.Writing.{gain-gain, gain-nil}
 use Rattle.sg_edge.specs.declared.files.Failed.{Failed}
 use Rattle.sg_engine.specs.Gains.{GainsAll, GainsFronts}
-use Rattle.sg_engine.specs.kept.Writing.{Wrote, Broke, IsPut, Tells}
+use Rattle.sg_engine.specs.kept.Writing.{Wrote, Broke, BrokeOff, IsPut, Tells}
 
 -- what is left begins with a text, of which a prefix was written then
 written_on : (whole text rest left : List ℕ) (old mid new : Option (List ℕ)) → IsWritten whole (text ++ rest) old mid → IsWritten text left mid new → IsWritten whole (left ++ rest) old new
@@ -18,29 +20,32 @@ written_on whole text rest left old mid new first then = record {
 }
 
 -- what waits begins with a text, which is put then
-pub put_on : (whole text rest waiting : List ℕ) (old mid new : Stream → Option (List ℕ)) (z f f' : ℕ) → IsPut whole (text ++ rest) old mid z f → IsPut text waiting mid new f f' → IsPut whole (waiting ++ rest) old new z f'
-put_on whole text rest waiting old mid new z f f' first then = record {
-  written = written_on whole text rest waiting (old Out) (mid Out) (new Out) first.written then.written;
+pub put_on : {O : Type 0} {contents : O → Stream → Option (List ℕ)} {faults : O → ℕ} (whole text rest waiting : List ℕ) (old mid new : MutBor O) → IsPut contents faults whole (text ++ rest) old mid → IsPut contents faults text waiting mid new → IsPut contents faults whole (waiting ++ rest) old new
+put_on whole text rest waiting old mid new first then = record {
+  same = then.same ∙ first.same;
+  written = written_on whole text rest waiting _ _ _ first.written then.written;
   err_held = then.err_held ∙ first.err_held;
   sound = then.sound ∙ first.sound;
 }
 
 -- the same with what waits in other words
-pub put_as : (whole waiting other : List ℕ) (old new : Stream → Option (List ℕ)) (z f : ℕ) → waiting ≡ other → IsPut whole waiting old new z f → IsPut whole other old new z f
-put_as whole waiting other old new z f same put = subst (λ (l : List ℕ). IsPut whole l old new z f) same put
+pub put_as : {O : Type 0} {contents : O → Stream → Option (List ℕ)} {faults : O → ℕ} (whole waiting other : List ℕ) (old new : MutBor O) → waiting ≡ other → IsPut contents faults whole waiting old new → IsPut contents faults whole other old new
+put_as {O} {contents} {faults} whole waiting other old new same put = subst (λ (l : List ℕ). IsPut contents faults whole l old new) same put
 
 -- a write failed at a text that is put then
-pub broke_on : (whole text rest : List ℕ) (old mid new : Stream → Option (List ℕ)) (z f f' : ℕ) → IsPut whole (text ++ rest) old mid z f → Broke text mid new f f' → Broke whole old new z f'
-broke_on whole text rest old mid new z f f' first broke = record {
-  front = (broke.front.0 ++ rest, written_on whole text rest broke.front.0 (old Out) (mid Out) (new Out) first.written broke.front.1);
+pub broke_on : {O : Type 0} {contents : O → Stream → Option (List ℕ)} {faults : O → ℕ} (whole text rest : List ℕ) (old mid new : MutBor O) → IsPut contents faults whole (text ++ rest) old mid → Broke contents faults text mid new → Broke contents faults whole old new
+broke_on whole text rest old mid new first broke = record {
+  same = broke.same ∙ first.same;
+  front = (broke.front.0 ++ rest, written_on whole text rest broke.front.0 _ _ _ first.written broke.front.1);
   err_held = broke.err_held ∙ first.err_held;
-  failed = omega (arith, first.sound, broke.failed);
+  failed = broke.failed;
 }
 
 -- all that waits is written
-pub wrote_all : (whole waiting : List ℕ) (old mid new : Stream → Option (List ℕ)) (z f f' : ℕ) → IsPut whole waiting old mid z f → Wrote waiting mid new f f' → Wrote whole old new z f'
-wrote_all whole waiting old mid new z f f' put wrote = record {
-  out_held = wrote.out_held ∙ ap (λ (h : Option (List ℕ)). gain h waiting) put.written.held ∙ gain-gain (old Out) put.written.done waiting ∙ ap (gain (old Out)) (sym put.written.split);
+pub wrote_all : {O : Type 0} {contents : O → Stream → Option (List ℕ)} {faults : O → ℕ} (whole waiting : List ℕ) (old mid new : MutBor O) → IsPut contents faults whole waiting old mid → Wrote contents faults waiting mid new → Wrote contents faults whole old new
+wrote_all whole waiting old mid new put wrote = record {
+  same = wrote.same ∙ put.same;
+  out_held = wrote.out_held ∙ ap (λ (h : Option (List ℕ)). gain h waiting) put.written.held ∙ gain-gain _ put.written.done waiting ∙ ap (gain _) (sym put.written.split);
   err_held = wrote.err_held ∙ put.err_held;
   sound = wrote.sound ∙ put.sound;
 }
@@ -125,20 +130,31 @@ pub written_whole : (text : List ℕ) (old new : Option (List ℕ)) → new ≡ 
 written_whole text old new held = record { done = text; split = sym (append-nil text); held = held }
 
 -- a line on Err after a text that is written
-pub told_behind : (text err : List ℕ) (result : Result (Unit {0}) Failed) (old mid new : Stream → Option (List ℕ)) (z f f' : ℕ) → Wrote text old mid z f → Tells [] err result mid new f f' → Tells text err result old new z f'
-told_behind text err (Ok done) old mid new z f f' wrote told = (
-  subst (λ (t : List ℕ). GainsAll t err old new) (append-nil text) (all_behind text [] [] err old mid new (written_whole text (old Out) (mid Out) wrote.out_held) wrote.err_held told.0),
-  told.1 ∙ wrote.sound,
-)
-told_behind text err (Error why) old mid new z f f' wrote told = (
-  subst (λ (t : List ℕ). GainsFronts t err old new) (append-nil text) (fronts_behind text [] [] err old mid new (written_whole text (old Out) (mid Out) wrote.out_held) wrote.err_held told.0),
-  omega (arith, wrote.sound, told.1),
-)
+pub told_behind : {O : Type 0} {contents : O → Stream → Option (List ℕ)} {faults : O → ℕ} (text err : List ℕ) (result : Result (Unit {0}) Failed) (old mid new : MutBor O) → Wrote contents faults text old mid → Tells contents faults [] err result mid new → Tells contents faults text err result old new
+told_behind {O} {contents} {faults} text err (Ok done) old mid new wrote told = record {
+  same = told.same ∙ wrote.same;
+  all = subst (λ (t : List ℕ). GainsAll t err (contents old.now) (contents new.now)) (append-nil text) (all_behind text [] [] err _ _ _ (written_whole text _ _ wrote.out_held) wrote.err_held told.all);
+  sound = told.sound ∙ wrote.sound;
+}
+told_behind {O} {contents} {faults} text err (Error why) old mid new wrote told = record {
+  same = told.same ∙ wrote.same;
+  fronts = subst (λ (t : List ℕ). GainsFronts t err (contents old.now) (contents new.now)) (append-nil text) (fronts_behind text [] [] err _ _ _ (written_whole text _ _ wrote.out_held) wrote.err_held told.fronts);
+  failed = told.failed;
+}
 
 -- a text on Out that broke off, so that Err got nothing
-pub told_broke : (text err : List ℕ) (old new : Stream → Option (List ℕ)) (z f : ℕ) → Broke text old new z f → GainsFronts text err old new × (z < f)
-told_broke text err old new z f broke = (fronts_out text err old new broke.front broke.err_held, broke.failed)
+pub told_broke : {O : Type 0} {contents : O → Stream → Option (List ℕ)} {faults : O → ℕ} (text err : List ℕ) (old new : MutBor O) → Broke contents faults text old new → BrokeOff contents faults text err old new
+told_broke text err old new broke = record {
+  same = broke.same;
+  fronts = fronts_out text err _ _ broke.front broke.err_held;
+  failed = broke.failed;
+}
 
 -- a line on Err alone
 pub told_err : (text : List ℕ) (old new : Stream → Option (List ℕ)) → new Err ≡ gain (old Err) text → new Out ≡ old Out → GainsAll [] text old new
 told_err text old new wrote same = record { out_held = same ∙ sym (gain-nil (old Out)); err_held = wrote }
+
+-- a line on Err alone, by what appending it has done
+pub tells_err : {O : Type 0} (contents : O → Stream → Option (List ℕ)) (faults : O → ℕ) (text : List ℕ) (result : Result (Unit {0}) Failed) (old new : MutBor O) → OnOk result (contents new.now Err ≡ gain (contents old.now Err) text) → OnOk result (faults new.now ≡ faults old.now) → OnErr result (GainsFront text (contents old.now Err) (contents new.now Err)) → OnErr result (0 < faults new.now) → SameBut Err (contents old.now) (contents new.now) → new.ghost_name ≡ old.ghost_name → Tells contents faults [] text result old new
+tells_err contents faults text (Ok done) old new wrote sound front failed other same = record { same = same; all = told_err text _ _ wrote (other Out (λ e. cc)); sound = sound }
+tells_err contents faults text (Error why) old new wrote sound front failed other same = record { same = same; fronts = fronts_err text _ _ front (other Out (λ e. cc)); failed = failed }

@@ -1,10 +1,10 @@
 -- Lines that are put one after another.
 use Rattle.std.proofs.Common.{◌≡◌, ◌∙◌, sym, ap, refl, Result, Ok, Err, ℕ, ◌+◌, ◌-◌, ◌*◌, ◌/◌, ◌%◌, ◌^◌, ◌<◌, ◌≤◌, List, [], ◌∷◌, ◌++◌, length, get_or, drop, Option, None, Some, arith, append_assoc}
+use Rattle.std.specs.Borrow.{MutBor}
 use Rattle.std.proofs.lemmas.List.{append-nil, at_drop_more, at_drop_all}
 use Rattle.sg_base.specs.declared.trace_record.Record.{Record}
 use Rattle.sg_edge.specs.declared.files.Failed.{Failed}
 use Rattle.sg_edge.specs.declared.sinks.Stream.{Stream}
-use Rattle.sg_edge.specs.declared.sinks.Stream.TheVariants.{Out}
 use Rattle.sg_states.specs.Actors.{not_suspended}
 use Rattle.sg_states.specs.declared.state.Actor.{Actor}
 use Rattle.sg_states.specs.declared.state.State.TheVariants.{Ended}
@@ -25,64 +25,68 @@ use Rattle.sg_engine.proofs.Waiting.{adds_front, adds_then, front_adds}
 
 -- ---- one line of several
 -- a line that stands first in what is left was put
-pub line_put : (whole buffer line left rest waiting : List ℕ) (old mid new : Stream → Option (List ℕ)) (z f f' : ℕ) → left ≡ line ++ rest → IsPut whole (buffer ++ left) old mid z f → IsPut (buffer ++ line) waiting mid new f f' → IsPut whole (waiting ++ rest) old new z f'
-line_put whole buffer line left rest waiting old mid new z f f' first put then =
-    put_on whole (buffer ++ line) rest waiting old mid new z f f' (put_as whole (buffer ++ left) (buffer ++ line ++ rest) old mid z f (ap (λ (l : List ℕ). buffer ++ l) first ∙ sym (append_assoc buffer line rest)) put) then
+pub line_put : {O : Type 0} {contents : O → Stream → Option (List ℕ)} {faults : O → ℕ} (whole buffer line left rest waiting : List ℕ) (old mid new : MutBor O) → left ≡ line ++ rest → IsPut contents faults whole (buffer ++ left) old mid → IsPut contents faults (buffer ++ line) waiting mid new → IsPut contents faults whole (waiting ++ rest) old new
+line_put whole buffer line left rest waiting old mid new first put then =
+    put_on whole (buffer ++ line) rest waiting old mid new (put_as whole (buffer ++ left) (buffer ++ line ++ rest) old mid (ap (λ (l : List ℕ). buffer ++ l) first ∙ sym (append_assoc buffer line rest)) put) then
 
-pub line_broke : (whole buffer line left rest : List ℕ) (old mid new : Stream → Option (List ℕ)) (z f f' : ℕ) → left ≡ line ++ rest → IsPut whole (buffer ++ left) old mid z f → Broke (buffer ++ line) mid new f f' → Broke whole old new z f'
-line_broke whole buffer line left rest old mid new z f f' first put broke =
-    broke_on whole (buffer ++ line) rest old mid new z f f' (put_as whole (buffer ++ left) (buffer ++ line ++ rest) old mid z f (ap (λ (l : List ℕ). buffer ++ l) first ∙ sym (append_assoc buffer line rest)) put) broke
+pub line_broke : {O : Type 0} {contents : O → Stream → Option (List ℕ)} {faults : O → ℕ} (whole buffer line left rest : List ℕ) (old mid new : MutBor O) → left ≡ line ++ rest → IsPut contents faults whole (buffer ++ left) old mid → Broke contents faults (buffer ++ line) mid new → Broke contents faults whole old new
+line_broke whole buffer line left rest old mid new first put broke =
+    broke_on whole (buffer ++ line) rest old mid new (put_as whole (buffer ++ left) (buffer ++ line ++ rest) old mid (ap (λ (l : List ℕ). buffer ++ l) first ∙ sym (append_assoc buffer line rest)) put) broke
 
 -- no line remains
-pub none_left : (whole buffer left : List ℕ) (old new : Stream → Option (List ℕ)) (z f : ℕ) → left ≡ [] → IsPut whole (buffer ++ left) old new z f → IsPut whole buffer old new z f
-none_left whole buffer left old new z f none put = put_as whole (buffer ++ left) buffer old new z f (ap (λ (l : List ℕ). buffer ++ l) none ∙ append-nil buffer) put
+pub none_left : {O : Type 0} {contents : O → Stream → Option (List ℕ)} {faults : O → ℕ} (whole buffer left : List ℕ) (old new : MutBor O) → left ≡ [] → IsPut contents faults whole (buffer ++ left) old new → IsPut contents faults whole buffer old new
+none_left whole buffer left old new none put = put_as whole (buffer ++ left) buffer old new (ap (λ (l : List ℕ). buffer ++ l) none ∙ append-nil buffer) put
 
 -- a text, and then one more
-pub put_then : (buffer first second waiting left : List ℕ) (old mid new : Stream → Option (List ℕ)) (z f f' : ℕ) → IsPut (buffer ++ first) waiting old mid z f → IsPut (waiting ++ second) left mid new f f' → IsPut (buffer ++ (first ++ second)) left old new z f'
-put_then buffer first second waiting left old mid new z f f' put then = record {
-  written = adds_then first second buffer waiting left (old Out) (mid Out) (new Out) put.written then.written;
+pub put_then : {O : Type 0} {contents : O → Stream → Option (List ℕ)} {faults : O → ℕ} (buffer first second waiting left : List ℕ) (old mid new : MutBor O) → IsPut contents faults (buffer ++ first) waiting old mid → IsPut contents faults (waiting ++ second) left mid new → IsPut contents faults (buffer ++ (first ++ second)) left old new
+put_then buffer first second waiting left old mid new put then = record {
+  same = then.same ∙ put.same;
+  written = adds_then first second buffer waiting left _ _ _ put.written then.written;
   err_held = then.err_held ∙ put.err_held;
   sound = then.sound ∙ put.sound;
 }
 
 -- the second of two texts broke off
-pub put_breaks : (buffer first second waiting : List ℕ) (old mid new : Stream → Option (List ℕ)) (z f f' : ℕ) → IsPut (buffer ++ first) waiting old mid z f → Broke (waiting ++ second) mid new f f' → Broke (buffer ++ (first ++ second)) old new z f'
-put_breaks buffer first second waiting old mid new z f f' put broke = record {
-  front = adds_front first second buffer waiting (old Out) (mid Out) (new Out) put.written broke.front;
+pub put_breaks : {O : Type 0} {contents : O → Stream → Option (List ℕ)} {faults : O → ℕ} (buffer first second waiting : List ℕ) (old mid new : MutBor O) → IsPut contents faults (buffer ++ first) waiting old mid → Broke contents faults (waiting ++ second) mid new → Broke contents faults (buffer ++ (first ++ second)) old new
+put_breaks buffer first second waiting old mid new put broke = record {
+  same = broke.same ∙ put.same;
+  front = adds_front first second buffer waiting _ _ _ put.written broke.front;
   err_held = broke.err_held ∙ put.err_held;
-  failed = omega (arith, put.sound, broke.failed);
+  failed = broke.failed;
 }
 
 -- the two of them, whatever the second has come to
-pub puts_then : (buffer first second waiting left : List ℕ) (result : Result (Unit {0}) Failed) (old mid new : Stream → Option (List ℕ)) (z f f' : ℕ) → IsPut (buffer ++ first) waiting old mid z f → Puts (waiting ++ second) left result mid new f f' → Puts (buffer ++ (first ++ second)) left result old new z f'
-puts_then buffer first second waiting left (Ok done) old mid new z f f' put then = put_then buffer first second waiting left old mid new z f f' put then
-puts_then buffer first second waiting left (Err why) old mid new z f f' put broke = put_breaks buffer first second waiting old mid new z f f' put broke
+pub puts_then : {O : Type 0} {contents : O → Stream → Option (List ℕ)} {faults : O → ℕ} (buffer first second waiting left : List ℕ) (result : Result (Unit {0}) Failed) (old mid new : MutBor O) → IsPut contents faults (buffer ++ first) waiting old mid → Puts contents faults (waiting ++ second) left result mid new → Puts contents faults (buffer ++ (first ++ second)) left result old new
+puts_then buffer first second waiting left (Ok done) old mid new put then = put_then buffer first second waiting left old mid new put then
+puts_then buffer first second waiting left (Err why) old mid new put broke = put_breaks buffer first second waiting old mid new put broke
 
 -- the first of two texts broke off
-pub first_breaks : (buffer first second : List ℕ) (old new : Stream → Option (List ℕ)) (z f : ℕ) → Broke (buffer ++ first) old new z f → Broke (buffer ++ (first ++ second)) old new z f
-first_breaks buffer first second old new z f broke = record {
-  front = front_adds first second buffer (old Out) (new Out) broke.front;
+pub first_breaks : {O : Type 0} {contents : O → Stream → Option (List ℕ)} {faults : O → ℕ} (buffer first second : List ℕ) (old new : MutBor O) → Broke contents faults (buffer ++ first) old new → Broke contents faults (buffer ++ (first ++ second)) old new
+first_breaks buffer first second old new broke = record {
+  same = broke.same;
+  front = front_adds first second buffer _ _ broke.front;
   err_held = broke.err_held;
   failed = broke.failed;
 }
 
 -- a write of what waits failed
-pub put_breaks_off : (whole waiting : List ℕ) (old mid new : Stream → Option (List ℕ)) (z f f' : ℕ) → IsPut whole waiting old mid z f → Broke waiting mid new f f' → Broke whole old new z f'
-put_breaks_off whole waiting old mid new z f f' put broke = broke_on whole waiting [] old mid new z f f' (put_as whole waiting (waiting ++ []) old mid z f (sym (append-nil waiting)) put) broke
+pub put_breaks_off : {O : Type 0} {contents : O → Stream → Option (List ℕ)} {faults : O → ℕ} (whole waiting : List ℕ) (old mid new : MutBor O) → IsPut contents faults whole waiting old mid → Broke contents faults waiting mid new → Broke contents faults whole old new
+put_breaks_off whole waiting old mid new put broke = broke_on whole waiting [] old mid new (put_as whole waiting (waiting ++ []) old mid (sym (append-nil waiting)) put) broke
 
 -- what waits is written, whatever that has come to
-pub put_written : (text waiting : List ℕ) (result : Result (Unit {0}) Failed) (old mid new : Stream → Option (List ℕ)) (z f f' : ℕ) → IsPut text waiting old mid z f → Writes waiting result mid new f f' → Writes text result old new z f'
-put_written text waiting (Ok done) old mid new z f f' put wrote = wrote_all text waiting old mid new z f f' put wrote
-put_written text waiting (Err why) old mid new z f f' put broke = put_breaks_off text waiting old mid new z f f' put broke
+pub put_written : {O : Type 0} {contents : O → Stream → Option (List ℕ)} {faults : O → ℕ} (text waiting : List ℕ) (result : Result (Unit {0}) Failed) (old mid new : MutBor O) → IsPut contents faults text waiting old mid → Writes contents faults waiting result mid new → Writes contents faults text result old new
+put_written text waiting (Ok done) old mid new put wrote = wrote_all text waiting old mid new put wrote
+put_written text waiting (Err why) old mid new put broke = put_breaks_off text waiting old mid new put broke
 
 -- ---- no text
 gain_none : (held : Option (List ℕ)) → held ≡ gain held []
 gain_none None = refl
 gain_none (Some held) = ap Some (sym (append-nil held))
 
-pub none_written : (text : List ℕ) (streams : Stream → Option (List ℕ)) (faults : ℕ) → text ≡ [] → Wrote text streams streams faults faults
-none_written text streams faults none = record {
-  out_held = gain_none (streams Out) ∙ ap (gain (streams Out)) (sym none);
+pub none_written : {O : Type 0} {contents : O → Stream → Option (List ℕ)} {faults : O → ℕ} (text : List ℕ) (out : MutBor O) → text ≡ [] → Wrote contents faults text out out
+none_written text out none = record {
+  same = refl;
+  out_held = gain_none _ ∙ ap (gain _) (sym none);
   err_held = refl;
   sound = refl;
 }

@@ -1,10 +1,11 @@
 -- Ends that don't cut a run off.
 use Rattle.std.proofs.Common.{◌≡◌, ◌∙◌, ap, sym, refl, ℕ, Bool, true, false, Option, None, Some}
-use Rattle.sg_edge.specs.Cause.{HasCause}
+use Rattle.std.specs.Borrow.{MutBor}
 use Rattle.sg_engine.specs.declared.ended.Ended.{Ended}
 use Rattle.sg_engine.specs.declared.ended.Ended.TheVariants as ended
 use Rattle.sg_engine.specs.RunContract.{is_cut}
 use Rattle.sg_engine.specs.kept.Moments.{cuts}
+use Rattle.sg_engine.specs.kept.Writing.{HasReason}
 
 uncut_not : (b : Bool) → b ≡ true → b ≡ false → ⊥
 uncut_not b is isnt = absurd (let e : true ≡ false = sym is ∙ isnt in cc e)
@@ -22,5 +23,5 @@ pub not_memory : (how : Ended) → is_cut how ≡ false → how ≡ ended.Memory
 not_memory how uncut is = uncut_not (is_cut how) (ap is_cut is) uncut
 
 -- running out of memory reports no fault
-pub memory_cause : (faults : ℕ) (broke : Type 0) → HasCause (Some ended.Memory ≡ Some ended.WriteFault) (Some ended.Memory ≡ Some ended.ReadFault) faults faults broke
-memory_cause faults broke = record { write = λ is. cc is; sound = λ isnt. refl; read = λ is. cc is }
+pub memory_cause : {O : Type 0} (faults : O → ℕ) (broke : Type 0) (out : MutBor O) → HasReason faults (Some ended.Memory ≡ Some ended.WriteFault) (Some ended.Memory ≡ Some ended.ReadFault) broke out out
+memory_cause faults broke out = record { same = refl; write = λ is. cc is; sound = λ isnt. refl; read = λ is. cc is }

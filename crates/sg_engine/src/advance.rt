@@ -1,10 +1,11 @@
 //! One part of a run, with its lines.
-ghost use Rattle.std.specs.Prelude.{◌≡◌, ◌+◌, ◌≤◌};
-ghost use Rattle.sg_engine.specs.kept.Moments.{ReadsScript};
+ghost use Rattle.std.specs.Prelude.{◌+◌, ◌≤◌};
+ghost use Rattle.sg_engine.specs.kept.Moments.{OnlyReads};
 ghost use Rattle.sg_engine.specs.kept.Invariant.{snapshot_of, CanAdvance, IsCaused, LeadsPart, StaysKept};
 ghost use Rattle.sg_engine.specs.Run.{next_work};
 
 use crate::ended::Ended;
+use crate::output::Output;
 use crate::plan::Engine;
 use crate::printing::write_trace;
 use crate::rounds::round_or_pass;
@@ -23,23 +24,22 @@ pub fn advance<R: Threads + Sync, F: Files, O: Sinks, L: Ledger>(
     router: &mut Router,
     sim: &mut Simulation,
     files: &mut F,
-    out: &mut O,
+    out: &mut Output<'_, O>,
     steps: &mut Steps<L>,
 ) -> Option<Ended>
-    requires going { CanAdvance (λ b. mind b) engine.now.plan (F.shows files.old) router.old
-        sim.old }
-    requires sound { O.faults out.old ≡ 0 }
+    requires { CanAdvance (λ b. mind b) engine.now.plan (F.shows files.old) router.old sim.old }
     ensures part { LeadsPart engine.now.plan router.old result
-        (snapshot_of (λ b. mind b) engine.now.plan (F.shows files.old) (O.contents out.old) sim.old)
-        (snapshot_of (λ b. mind b) engine.now.plan (F.shows files.new) (O.contents out.new)
-        sim.new) }
+        (snapshot_of (λ b. mind b) engine.now.plan (F.shows files.old)
+        (O.contents out.old.sink.now) sim.old)
+        (snapshot_of (λ b. mind b) engine.now.plan (F.shows files.new)
+        (O.contents out.new.sink.now) sim.new) }
     ensures kept { StaysKept (λ b. mind b) engine.now.plan result (F.shows files.new) sim.old
         sim.new }
-    ensures cause { IsCaused engine.now.plan result (F.shows files.new)
-        (O.faults out.old) (O.faults out.new) }
-    ensures script { ReadsScript F.shows engine.now.plan.script files.old files.new }
+    ensures cause { IsCaused O.faults engine.now.plan result (F.shows files.new)
+        out.old.sink out.new.sink }
+    ensures script { OnlyReads F.shows engine.now.plan.script files.old files.new
+        router.old router.new }
     ensures steps { steps.new ≤ steps.old + next_work sim.old.kernel.core }
-    ensures router { router.new ≡ router.old }
 {
     match sim.kernel.reserve_round(sim.seats.len()) {
         Ok(()) => {}

@@ -2,13 +2,13 @@
 ghost use Rattle.std.specs.Prelude.{◌≡◌, ◌≢◌, ◌+◌, ◌<◌, ◌≤◌, IfOk, None, Ok, Some, length, All, AllPairs, false};
 ghost use Rattle.std.specs.Result.{is_err};
 ghost use Rattle.sg_base.specs.Limits.{IsActorIn, IsCall};
-ghost use Rattle.sg_edge.specs.Files.{Only, PartView};
+ghost use Rattle.sg_edge.specs.Files.{PartView};
 ghost use Rattle.sg_edge.specs.declared.files.Stage.TheVariants.{Fresh};
 ghost use Rattle.sg_calls.specs.World.{MayCall, extent};
 ghost use Rattle.sg_calls.specs.Roads.{AreOver};
 ghost use Rattle.sg_engine.specs.declared.actor_call.ActorCall.{ActorCall};
 ghost use Rattle.sg_engine.specs.kept.Invariant.{at_moment, cast_in, may_be_given, unstarted, CanAnswer, CanCreate, FitsNow, GoesOn, KeepsOthers, LeadsTo};
-ghost use Rattle.sg_engine.specs.kept.Moments.{cuts, script_moment, call_at, calls_at, created_at, FitsScript, IsFree, IsReadFrom, LeavesFree, Leads, LeadsCalls, UsesScript};
+ghost use Rattle.sg_engine.specs.kept.Moments.{cuts, script_moment, call_at, calls_at, created_at, FitsScript, HasFetched, IsFree, LeavesFree, Leads, LeadsCalls, UsesScript};
 ghost use Rattle.sg_engine.specs.Run.{ask_step};
 
 use crate::actor_call::ActorCall;
@@ -38,9 +38,7 @@ fn answer_ask<F: Files>(
         (script_moment (F.shows files.old) script.old kernel.old)
         (script_moment (F.shows files.new) script.new kernel.new) }
     ensures fits { FitsScript plan.now (F.shows files.new) script.new kernel.new }
-    ensures uncut { IfOk result (λ how. cuts how ≡ false) }
-    ensures read { IsReadFrom result (F.shows files.new Part.Script) }
-    ensures others { Only Part.Script (F.shows files.old) (F.shows files.new) }
+    ensures script { HasFetched result (F.shows files.old) (F.shows files.new) }
     ensures setup { kernel.new.setup ≡ kernel.old.setup }
     ensures room { kernel.old.room ≤ kernel.new.room + 1 }
     ensures free { LeavesFree actor.0 kernel.old.core kernel.new.core }

@@ -1,15 +1,15 @@
 //! Lines that wait to be written together.
 ghost use Rattle.std.specs.Prelude.{◌≡◌, ◌≤◌, ◌+◌, ◌++◌, [], List, ℕ, length, IfOk, OnOk};
-ghost use Rattle.sg_rows.specs.Deployment.{IsDeployedOn};
 ghost use Rattle.sg_trace.specs.Ending.{IsLastOf, ending_of};
 ghost use Rattle.sg_trace.specs.Line.{IsOfDeployment, line_of};
 ghost use Rattle.sg_engine.specs.declared.buffer.TheConstants.{LINE, ROOM};
 ghost use Rattle.sg_engine.specs.kept.Writing.{Writes, Puts};
 
+use crate::output::Output;
+use crate::plan::Plan;
 use arrayvec::ArrayString;
 use sg_base::{Memory, Record};
-use sg_edge::{Failed, Sinks, Stream, write_all};
-use sg_rows::{Deployment, PlatformText};
+use sg_edge::{Failed, Sinks, Stream};
 use sg_trace::{Last, push_ending, push_line};
 use std::alloc::Global;
 use std::marker::Model;
@@ -45,80 +45,67 @@ impl Buffer {
         Ok(Buffer { lines })
     }
 
+    // Writes what waits if there may be no room for a line.
+    fn make_room<O: Sinks>(&mut self, out: &mut Output<'_, O>) -> Result<(), Failed>
+        ensures puts { Puts O.contents O.faults self.old self.new result out.old.sink
+            out.new.sink }
+        ensures room { OnOk result (length self.new + LINE ≤ ROOM) }
+    {
+        if self.lines.len() + LINE > ROOM {
+            self.flush(out)
+        } else {
+            Ok(())
+        }
+    }
+
     /// Adds the trace line of a record. If there may be no room for it, what waits is written first.
     pub fn put_line<O: Sinks>(
         &mut self,
         answered: &Record,
-        platform: &PlatformText,
-        deployment: &Deployment,
-        out: &mut O,
+        plan: &Plan<'_>,
+        out: &mut Output<'_, O>,
     ) -> Result<(), Failed>
-        requires answered { IsOfDeployment deployment.now answered.now }
-        requires deployed { IsDeployedOn platform.now deployment.now }
-        requires sound { O.faults out.old ≡ 0 }
-        ensures { Puts (self.old ++ line_of answered.now platform.now deployment.now) self.new
-            result (O.contents out.old) (O.contents out.new) (O.faults out.old) (O.faults out.new) }
+        requires { IsOfDeployment plan.now.deployment.now answered.now }
+        ensures { Puts O.contents O.faults
+            (self.old ++ line_of answered.now plan.now.platform.now plan.now.deployment.now)
+            self.new result out.old.sink out.new.sink }
     {
-        if self.lines.len() + LINE > ROOM {
-            match self.flush(out) {
-                Ok(()) => {}
-                Err(Failed) => return Err(Failed),
+        match self.make_room(out) {
+            Ok(()) => {
+                push_line(&mut *self.lines, answered, plan.platform, plan.deployment);
+                Ok(())
             }
+            Err(Failed) => Err(Failed),
         }
-        self.add_line(answered, platform, deployment);
-        Ok(())
-    }
-
-    fn add_line(&mut self, answered: &Record, platform: &PlatformText, deployment: &Deployment)
-        requires answered { IsOfDeployment deployment.now answered.now }
-        requires deployed { IsDeployedOn platform.now deployment.now }
-        requires room { length self.old + LINE ≤ ROOM }
-        ensures { self.new ≡ self.old ++ line_of answered.now platform.now deployment.now }
-    {
-        push_line(&mut *self.lines, answered, platform, deployment);
     }
 
     /// Adds a line that reports how the run ended. If there may be no room for it, what waits is written first.
     pub fn put_ending<O: Sinks>(
         &mut self,
         last: &Last,
-        platform: &PlatformText,
-        deployment: &Deployment,
-        out: &mut O,
+        plan: &Plan<'_>,
+        out: &mut Output<'_, O>,
     ) -> Result<(), Failed>
-        requires last { IsLastOf platform.now deployment.now last.now }
-        requires deployed { IsDeployedOn platform.now deployment.now }
-        requires sound { O.faults out.old ≡ 0 }
-        ensures { Puts (self.old ++ ending_of last.now platform.now deployment.now) self.new result
-            (O.contents out.old) (O.contents out.new) (O.faults out.old) (O.faults out.new) }
+        requires { IsLastOf plan.now.platform.now plan.now.deployment.now last.now }
+        ensures { Puts O.contents O.faults (self.old
+            ++ ending_of last.now plan.now.platform.now plan.now.deployment.now) self.new
+            result out.old.sink out.new.sink }
     {
-        if self.lines.len() + LINE > ROOM {
-            match self.flush(out) {
-                Ok(()) => {}
-                Err(Failed) => return Err(Failed),
+        match self.make_room(out) {
+            Ok(()) => {
+                push_ending(&mut *self.lines, last, plan.platform, plan.deployment);
+                Ok(())
             }
+            Err(Failed) => Err(Failed),
         }
-        self.add_ending(last, platform, deployment);
-        Ok(())
-    }
-
-    fn add_ending(&mut self, last: &Last, platform: &PlatformText, deployment: &Deployment)
-        requires last { IsLastOf platform.now deployment.now last.now }
-        requires deployed { IsDeployedOn platform.now deployment.now }
-        requires room { length self.old + LINE ≤ ROOM }
-        ensures { self.new ≡ self.old ++ ending_of last.now platform.now deployment.now }
-    {
-        push_ending(&mut *self.lines, last, platform, deployment);
     }
 
     /// Writes what waits.
-    pub fn flush<O: Sinks>(&mut self, out: &mut O) -> Result<(), Failed>
-        requires sound { O.faults out.old ≡ 0 }
-        ensures writes { Writes self.old result
-            (O.contents out.old) (O.contents out.new) (O.faults out.old) (O.faults out.new) }
+    pub fn flush<O: Sinks>(&mut self, out: &mut Output<'_, O>) -> Result<(), Failed>
+        ensures writes { Writes O.contents O.faults self.old result out.old.sink out.new.sink }
         ensures empty { OnOk result (self.new ≡ []) }
     {
-        match write_all(out, Stream::Out, self.lines.as_str().as_bytes()) {
+        match out.append(Stream::Out, self.lines.as_str().as_bytes()) {
             Ok(()) => {
                 self.lines.clear();
                 Ok(())

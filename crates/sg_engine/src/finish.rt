@@ -1,8 +1,7 @@
 //! The lines at the end of a run.
 ghost use Rattle.std.specs.Prelude.{◌≡◌, ◌≢◌, ◌++◌, [], false};
-ghost use Rattle.sg_edge.specs.Cause.{HasCause};
 ghost use Rattle.sg_engine.specs.RunContract.{is_cut, Ends};
-ghost use Rattle.sg_engine.specs.kept.Writing.{Puts, Tells};
+ghost use Rattle.sg_engine.specs.kept.Writing.{HasReason, Puts, Tells};
 ghost use Rattle.sg_engine.specs.kept.Stretches.{how_in, last_in};
 ghost use Rattle.sg_engine.specs.kept.Listed.{tells_energy as tells_energy_spec};
 ghost use Rattle.sg_engine.specs.Output.{fault_line};
@@ -11,22 +10,22 @@ use crate::buffer::Buffer;
 use crate::ended::Ended;
 use crate::fault_lines::{no_route_line, script_fault_line, too_long_line};
 use crate::final_state::Final;
+use crate::output::Output;
 use crate::plan::Plan;
 use crate::printing::{put_energy, put_last, put_stuck, put_two};
 use crate::show::Show;
-use sg_edge::{Failed, Sinks, Stream, write_all};
+use sg_edge::{Failed, Sinks, Stream};
 use sg_trace::Last;
 
 // Puts the last lines of a run that was completed into the buffer: if a summary is shown, it stands before the date.
 fn put_completed<O: Sinks>(
     end: &Final<'_, '_>,
     buffer: &mut Buffer,
-    out: &mut O,
+    out: &mut Output<'_, O>,
 ) -> Result<(), Failed>
-    requires sound { O.faults out.old ≡ 0 }
-    ensures { Puts (buffer.old ++ how_in end.now.plan end.now.kernel.now.core Ended.Completed)
-        buffer.new result
-        (O.contents out.old) (O.contents out.new) (O.faults out.old) (O.faults out.new) }
+    ensures { Puts O.contents O.faults
+        (buffer.old ++ how_in end.now.plan end.now.kernel.now.core Ended.Completed) buffer.new
+        result out.old.sink out.new.sink }
 {
     let time = Last::Time(end.kernel.date());
     match end.plan.terms.show {
@@ -44,11 +43,11 @@ fn put_how<O: Sinks>(
     end: &Final<'_, '_>,
     how: Ended,
     buffer: &mut Buffer,
-    out: &mut O,
+    out: &mut Output<'_, O>,
 ) -> Result<(), Failed>
-    requires sound { O.faults out.old ≡ 0 }
-    ensures { Puts (buffer.old ++ how_in end.now.plan end.now.kernel.now.core how) buffer.new result
-        (O.contents out.old) (O.contents out.new) (O.faults out.old) (O.faults out.new) }
+    ensures { Puts O.contents O.faults
+        (buffer.old ++ how_in end.now.plan end.now.kernel.now.core how) buffer.new result
+        out.old.sink out.new.sink }
 {
     let date = end.kernel.date();
     match how {
@@ -88,12 +87,11 @@ fn put_end<O: Sinks>(
     end: &Final<'_, '_>,
     how: Ended,
     buffer: &mut Buffer,
-    out: &mut O,
+    out: &mut Output<'_, O>,
 ) -> Result<(), Failed>
-    requires sound { O.faults out.old ≡ 0 }
-    ensures { Puts (buffer.old ++ last_in end.now.plan end.now.kernel.now.core how)
-        buffer.new result
-        (O.contents out.old) (O.contents out.new) (O.faults out.old) (O.faults out.new) }
+    ensures { Puts O.contents O.faults
+        (buffer.old ++ last_in end.now.plan end.now.kernel.now.core how) buffer.new result
+        out.old.sink out.new.sink }
 {
     match put_how(end, how, buffer, out) {
         Ok(()) => {}
@@ -107,22 +105,16 @@ fn put_end<O: Sinks>(
 }
 
 // Writes a line on Err.
-fn write_fault<O: Sinks>(line: &str, out: &mut O) -> Result<(), Failed>
-    requires sound { O.faults out.old ≡ 0 }
-    ensures { Tells [] line.now result
-        (O.contents out.old) (O.contents out.new) (O.faults out.old) (O.faults out.new) }
+fn write_fault<O: Sinks>(line: &str, out: &mut Output<'_, O>) -> Result<(), Failed>
+    ensures { Tells O.contents O.faults [] line.now result out.old.sink out.new.sink }
 {
-    match write_all(out, Stream::Err, line.as_bytes()) {
-        Ok(()) => Ok(()),
-        Err(Failed) => Err(Failed),
-    }
+    out.append(Stream::Err, line.as_bytes())
 }
 
 // Writes the line on Err of a run that ended so, if there is one.
-fn print_fault<O: Sinks>(plan: &Plan<'_>, how: Ended, out: &mut O) -> Result<(), Failed>
-    requires sound { O.faults out.old ≡ 0 }
-    ensures { Tells [] (fault_line plan.now.platform.now how) result
-        (O.contents out.old) (O.contents out.new) (O.faults out.old) (O.faults out.new) }
+fn print_fault<O: Sinks>(plan: &Plan<'_>, how: Ended, out: &mut Output<'_, O>) -> Result<(), Failed>
+    ensures { Tells O.contents O.faults [] (fault_line plan.now.platform.now how) result
+        out.old.sink out.new.sink }
 {
     match how {
         Ended::Script(number, kind) => write_fault(script_fault_line(number, kind).as_str(), out),
@@ -154,12 +146,11 @@ fn print_end<O: Sinks>(
     end: &Final<'_, '_>,
     how: Ended,
     buffer: &mut Buffer,
-    out: &mut O,
+    out: &mut Output<'_, O>,
 ) -> Result<(), Failed>
-    requires sound { O.faults out.old ≡ 0 }
-    ensures { Tells (buffer.old ++ last_in end.now.plan end.now.kernel.now.core how)
-        (fault_line end.now.plan.platform.now how) result
-        (O.contents out.old) (O.contents out.new) (O.faults out.old) (O.faults out.new) }
+    ensures { Tells O.contents O.faults
+        (buffer.old ++ last_in end.now.plan end.now.kernel.now.core how)
+        (fault_line end.now.plan.platform.now how) result out.old.sink out.new.sink }
 {
     match put_end(end, how, buffer, out) {
         Ok(()) => {}
@@ -174,14 +165,18 @@ fn print_end<O: Sinks>(
 
 /// Writes what follows the trace lines of a run that ended so and wasn't cut off. It takes no memory, so that an end
 /// that was reached is reported.
-pub fn finish<O: Sinks>(end: &Final<'_, '_>, how: Ended, buffer: &mut Buffer, out: &mut O) -> Ended
+pub fn finish<O: Sinks>(
+    end: &Final<'_, '_>,
+    how: Ended,
+    buffer: &mut Buffer,
+    out: &mut Output<'_, O>,
+) -> Ended
     requires uncut { is_cut how ≡ false }
-    requires sound { O.faults out.old ≡ 0 }
     ensures ends { Ends (buffer.old ++ last_in end.now.plan end.now.kernel.now.core how)
         (fault_line end.now.plan.platform.now how) how result
-        (O.contents out.old) (O.contents out.new) }
-    ensures cause { HasCause (result ≡ Ended.WriteFault) (result ≡ Ended.ReadFault)
-        (O.faults out.old) (O.faults out.new) (how ≡ Ended.ReadFault) }
+        (O.contents out.old.sink.now) (O.contents out.new.sink.now) }
+    ensures cause { HasReason O.faults (result ≡ Ended.WriteFault) (result ≡ Ended.ReadFault)
+        (how ≡ Ended.ReadFault) out.old.sink out.new.sink }
     ensures memory { result ≢ Ended.Memory }
 {
     match print_end(end, how, buffer, out) {

@@ -14,6 +14,7 @@ mod fault_lines;
 mod final_state;
 mod finish;
 mod laws;
+mod output;
 mod plan;
 mod printing;
 mod roles;

@@ -14,6 +14,7 @@ ghost use Rattle.sg_engine.specs.kept.Stretches.{ending_in, energy_in, stuck_in,
 
 use crate::buffer::Buffer;
 use crate::final_state::Final;
+use crate::output::Output;
 use crate::plan::Plan;
 use crate::show::Show;
 use sg_base::{ActorId, PointId, Record};
@@ -27,16 +28,14 @@ fn put_record<O: Sinks>(
     plan: &Plan<'_>,
     answered: &Record,
     buffer: &mut Buffer,
-    out: &mut O,
+    out: &mut Output<'_, O>,
 ) -> Result<(), Failed>
-    requires answered { IsRecord (extent_of plan.now.deployment.now) answered.now }
-    requires sound { O.faults out.old ≡ 0 }
-    ensures { Puts
+    requires { IsRecord (extent_of plan.now.deployment.now) answered.now }
+    ensures { Puts O.contents O.faults
         (buffer.old ++ line_of answered.now plan.now.platform.now plan.now.deployment.now)
-        buffer.new result
-        (O.contents out.old) (O.contents out.new) (O.faults out.old) (O.faults out.new) }
+        buffer.new result out.old.sink out.new.sink }
 {
-    buffer.put_line(answered, plan.platform, plan.deployment, out)
+    buffer.put_line(answered, plan, out)
 }
 
 // Puts a trace line for each record into the buffer.
@@ -44,14 +43,12 @@ fn put_records<O: Sinks>(
     plan: &Plan<'_>,
     records: &[Record],
     buffer: &mut Buffer,
-    out: &mut O,
+    out: &mut Output<'_, O>,
 ) -> Result<(), Failed>
-    requires records { AreRecords (extent_of plan.now.deployment.now) records.now }
-    requires sound { O.faults out.old ≡ 0 }
-    ensures { Puts (buffer.old
-        ++ trace_of Show.All plan.now.platform.now plan.now.deployment.now records.now)
-        buffer.new result
-        (O.contents out.old) (O.contents out.new) (O.faults out.old) (O.faults out.new) }
+    requires { AreRecords (extent_of plan.now.deployment.now) records.now }
+    ensures { Puts O.contents O.faults
+        (buffer.old ++ trace_of Show.All plan.now.platform.now plan.now.deployment.now records.now)
+        buffer.new result out.old.sink out.new.sink }
 {
     for answered in records {
         match put_record(plan, answered, buffer, out) {
@@ -67,14 +64,13 @@ fn write_lines<O: Sinks>(
     plan: &Plan<'_>,
     records: &[Record],
     buffer: &mut Buffer,
-    out: &mut O,
+    out: &mut Output<'_, O>,
 ) -> Result<(), Failed>
     requires records { AreRecords (extent_of plan.now.deployment.now) records.now }
     requires empty { buffer.old ≡ [] }
-    requires sound { O.faults out.old ≡ 0 }
-    ensures writes { Writes
+    ensures writes { Writes O.contents O.faults
         (trace_of Show.All plan.now.platform.now plan.now.deployment.now records.now) result
-        (O.contents out.old) (O.contents out.new) (O.faults out.old) (O.faults out.new) }
+        out.old.sink out.new.sink }
     ensures empty { OnOk result (buffer.new ≡ []) }
 {
     match put_records(plan, records, buffer, out) {
@@ -89,13 +85,12 @@ pub fn write_trace<O: Sinks>(
     plan: &Plan<'_>,
     records: &[Record],
     buffer: &mut Buffer,
-    out: &mut O,
+    out: &mut Output<'_, O>,
 ) -> Result<(), Failed>
     requires records { AreRecords (extent_of plan.now.deployment.now) records.now }
     requires empty { buffer.old ≡ [] }
-    requires sound { O.faults out.old ≡ 0 }
-    ensures writes { Writes (trace_in plan.now records.now) result
-        (O.contents out.old) (O.contents out.new) (O.faults out.old) (O.faults out.new) }
+    ensures writes { Writes O.contents O.faults (trace_in plan.now records.now) result out.old.sink
+        out.new.sink }
     ensures empty { OnOk result (buffer.new ≡ []) }
 {
     // The script answers most scheduling rounds, and then there is no record.
@@ -113,14 +108,13 @@ pub fn put_last<O: Sinks>(
     plan: &Plan<'_>,
     last: Last,
     buffer: &mut Buffer,
-    out: &mut O,
+    out: &mut Output<'_, O>,
 ) -> Result<(), Failed>
-    requires last { IsLastOf plan.now.platform.now plan.now.deployment.now last }
-    requires sound { O.faults out.old ≡ 0 }
-    ensures { Puts (buffer.old ++ ending_in plan.now last) buffer.new result
-        (O.contents out.old) (O.contents out.new) (O.faults out.old) (O.faults out.new) }
+    requires { IsLastOf plan.now.platform.now plan.now.deployment.now last }
+    ensures { Puts O.contents O.faults (buffer.old ++ ending_in plan.now last) buffer.new result
+        out.old.sink out.new.sink }
 {
-    buffer.put_ending(&last, plan.platform, plan.deployment, out)
+    buffer.put_ending(&last, plan, out)
 }
 
 /// Puts two last lines into the buffer.
@@ -129,14 +123,13 @@ pub fn put_two<O: Sinks>(
     first: Last,
     second: Last,
     buffer: &mut Buffer,
-    out: &mut O,
+    out: &mut Output<'_, O>,
 ) -> Result<(), Failed>
     requires first { IsLastOf plan.now.platform.now plan.now.deployment.now first }
     requires second { IsLastOf plan.now.platform.now plan.now.deployment.now second }
-    requires sound { O.faults out.old ≡ 0 }
-    ensures { Puts (buffer.old ++ (ending_in plan.now first ++ ending_in plan.now second))
-        buffer.new result
-        (O.contents out.old) (O.contents out.new) (O.faults out.old) (O.faults out.new) }
+    ensures { Puts O.contents O.faults
+        (buffer.old ++ (ending_in plan.now first ++ ending_in plan.now second)) buffer.new result
+        out.old.sink out.new.sink }
 {
     match put_last(plan, first, buffer, out) {
         Ok(()) => {}
@@ -167,13 +160,12 @@ fn put_if<O: Sinks>(
     plan: &Plan<'_>,
     told: Option<Last>,
     buffer: &mut Buffer,
-    out: &mut O,
+    out: &mut Output<'_, O>,
 ) -> Result<(), Failed>
-    requires told { IfSome told (IsLastOf plan.now.platform.now plan.now.deployment.now) }
-    requires sound { O.faults out.old ≡ 0 }
-    ensures { Puts (buffer.old ++ line_if plan.now.platform.now plan.now.deployment.now told)
-        buffer.new result
-        (O.contents out.old) (O.contents out.new) (O.faults out.old) (O.faults out.new) }
+    requires { IfSome told (IsLastOf plan.now.platform.now plan.now.deployment.now) }
+    ensures { Puts O.contents O.faults
+        (buffer.old ++ line_if plan.now.platform.now plan.now.deployment.now told) buffer.new
+        result out.old.sink out.new.sink }
 {
     match told {
         Some(last) => put_last(plan, last, buffer, out),
@@ -185,11 +177,11 @@ fn put_if<O: Sinks>(
 fn put_all_stuck<O: Sinks>(
     end: &Final<'_, '_>,
     buffer: &mut Buffer,
-    out: &mut O,
+    out: &mut Output<'_, O>,
 ) -> Result<(), Failed>
-    requires sound { O.faults out.old ≡ 0 }
-    ensures { Puts (buffer.old ++ stuck_in end.now.plan end.now.kernel.now.core) buffer.new result
-        (O.contents out.old) (O.contents out.new) (O.faults out.old) (O.faults out.new) }
+    ensures { Puts O.contents O.faults
+        (buffer.old ++ stuck_in end.now.plan end.now.kernel.now.core) buffer.new result
+        out.old.sink out.new.sink }
 {
     for i in 0..end.kernel.actors() {
         let told = stuck(end, ActorId(i as u32 + 1));
@@ -206,13 +198,12 @@ pub fn put_stuck<O: Sinks>(
     end: &Final<'_, '_>,
     last: Last,
     buffer: &mut Buffer,
-    out: &mut O,
+    out: &mut Output<'_, O>,
 ) -> Result<(), Failed>
-    requires last { IsLastOf end.now.plan.platform.now end.now.plan.deployment.now last }
-    requires sound { O.faults out.old ≡ 0 }
-    ensures { Puts (buffer.old ++ (ending_in end.now.plan last
-        ++ stuck_in end.now.plan end.now.kernel.now.core)) buffer.new result
-        (O.contents out.old) (O.contents out.new) (O.faults out.old) (O.faults out.new) }
+    requires { IsLastOf end.now.plan.platform.now end.now.plan.deployment.now last }
+    ensures { Puts O.contents O.faults (buffer.old
+        ++ (ending_in end.now.plan last ++ stuck_in end.now.plan end.now.kernel.now.core))
+        buffer.new result out.old.sink out.new.sink }
 {
     match put_last(&end.plan, last, buffer, out) {
         Ok(()) => {}
@@ -240,11 +231,11 @@ fn energy(kernel: &Kernel, host: PointId, row: &HostRow) -> Option<Last>
 pub fn put_energy<O: Sinks>(
     end: &Final<'_, '_>,
     buffer: &mut Buffer,
-    out: &mut O,
+    out: &mut Output<'_, O>,
 ) -> Result<(), Failed>
-    requires sound { O.faults out.old ≡ 0 }
-    ensures { Puts (buffer.old ++ energy_in end.now.plan end.now.kernel.now.core) buffer.new result
-        (O.contents out.old) (O.contents out.new) (O.faults out.old) (O.faults out.new) }
+    ensures { Puts O.contents O.faults
+        (buffer.old ++ energy_in end.now.plan end.now.kernel.now.core) buffer.new result
+        out.old.sink out.new.sink }
 {
     let rows = end.plan.platform.hosts();
     for (i, row) in rows.iter().enumerate() {

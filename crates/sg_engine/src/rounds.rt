@@ -30,9 +30,8 @@ fn round<R: Threads + Sync, F: Files>(
     ensures goes { GoesOn (λ b. mind b) engine.now.plan F.shows result files.old files.new
         router.old router.new sim.old sim.new }
 {
-    let workers = engine.plan.terms.workers;
     let seats = sim.seats.as_mut_slice();
-    take_turns(engine.rt, &sim.kernel, seats, &mut sim.calls, workers);
+    take_turns(engine, &sim.kernel, seats, &mut sim.calls);
     answer_calls(&engine.plan, router, sim, files)
 }
 

@@ -9,6 +9,7 @@ ghost use Rattle.sg_engine.specs.kept.Turns.{CanTakeTurns, TakesTurns};
 ghost use Rattle.sg_engine.specs.Run.{zip_with, inboxes};
 
 use crate::actor_call::ActorCall;
+use crate::plan::Engine;
 use sg_actor::{Actor, Seat, run_round, seats_keep_limits};
 use sg_base::{ActorId, Answer};
 use sg_kernel::Kernel;
@@ -54,8 +55,12 @@ fn offer<A: Actor>(kernel: &Kernel, seats: &mut [Seat<A>])
 }
 
 // Makes the turns of the slots from one place to another.
-fn turn_some<R: Threads + Sync>(rt: &R, seats: &mut [Seat], from: usize, to: usize, workers: u32)
-    requires workers { 0 < workers }
+fn turn_some<R: Threads + Sync>(
+    engine: &Engine<'_, '_, R>,
+    seats: &mut [Seat],
+    from: usize,
+    to: usize,
+)
     requires range { (from ≤ to) × (to ≤ length seats.old) }
     requires ready { All CanTurn (seat_views (λ b. mind b) seats.old) }
     ensures { let places = seat_views (λ b. mind b) seats.old in seat_views (λ b. mind b) seats.new
@@ -63,7 +68,7 @@ fn turn_some<R: Threads + Sync>(rt: &R, seats: &mut [Seat], from: usize, to: usi
 {
     let (_, rest) = seats.split_at_mut(from);
     let (some, _) = rest.split_at_mut(to - from);
-    run_round(rt, some, workers);
+    run_round(engine.rt, some, engine.plan.terms.workers);
 }
 
 // Returns where the run of neighbours ends that begins at this place of a queue.
@@ -94,8 +99,7 @@ fn end_of_turns(queue: &[ActorId], from: usize, workers: u32) -> usize
 // Makes the turns of all ready actors. One worker is lent each run of neighbours in the queue, one run after the other,
 // so that the slots between cost nothing; more workers are lent all slots from the first in the queue to the last, so
 // that turns can run side by side.
-fn turn_all<R: Threads + Sync>(rt: &R, kernel: &Kernel, seats: &mut [Seat], workers: u32)
-    requires workers { 0 < workers }
+fn turn_all<R: Threads + Sync>(engine: &Engine<'_, '_, R>, kernel: &Kernel, seats: &mut [Seat])
     requires number { length seats.old ≡ length kernel.now.core.actors }
     requires queued { AreQueued (seat_views (λ b. mind b) seats.old) kernel.now.core.actors }
     requires can { All CanTurn (seat_views (λ b. mind b) seats.old) }
@@ -104,10 +108,10 @@ fn turn_all<R: Threads + Sync>(rt: &R, kernel: &Kernel, seats: &mut [Seat], work
     let queue = kernel.run_queue();
     let mut from = 0;
     while from < queue.len() {
-        let to = end_of_turns(queue, from, workers);
+        let to = end_of_turns(queue, from, engine.plan.terms.workers);
         let first = queue[from].0 as usize - 1;
         let end = queue[to - 1].0 as usize;
-        turn_some(rt, seats, first, end, workers);
+        turn_some(engine, seats, first, end);
         from = to;
     }
 }
@@ -147,18 +151,16 @@ fn collect<A: Actor>(kernel: &Kernel, seats: &mut [Seat<A>], calls: &mut Vec<Act
 /// answers are put into the slots first, then turns are taken there, and then the calls are collected. The cost grows
 /// with the actors in the kernel's queue, and with one worker not with the others.
 pub fn take_turns<R: Threads + Sync>(
-    rt: &R,
+    engine: &Engine<'_, '_, R>,
     kernel: &Kernel,
     seats: &mut [Seat],
     calls: &mut Vec<ActorCall>,
-    workers: u32,
 )
-    requires workers { 0 < workers }
-    requires can { CanTakeTurns (λ b. mind b) kernel.now seats.old calls.old }
+    requires { CanTakeTurns (λ b. mind b) kernel.now seats.old calls.old }
     ensures { TakesTurns (λ b. mind b) kernel.now seats.old seats.new calls.old calls.new }
 {
     seats_keep_limits();
     offer(kernel, seats);
-    turn_all(rt, kernel, seats, workers);
+    turn_all(engine, kernel, seats);
     collect(kernel, seats, calls);
 }

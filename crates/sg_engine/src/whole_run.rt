@@ -1,17 +1,18 @@
 //! The whole run.
 ghost use Rattle.std.specs.Prelude.{◌≡◌, ◌≢◌, ◌+◌, ◌<◌, ◌≤◌, ⊤, length, IsTrue, MatchBool};
 ghost use Rattle.sg_edge.specs.declared.files.Stage.TheVariants.{Fresh, Broken};
-ghost use Rattle.sg_edge.specs.Cause.{HasCause};
 ghost use Rattle.sg_engine.specs.RunContract.{is_cut as is_cut_spec, HasContexts, IsEnding, RunsAs, StandsAsBefore, TakesFirst, output_of};
-ghost use Rattle.sg_engine.specs.kept.Invariant.{crew_in, AreRoadsOf, Holds, IsBeginning, TakesInAll, TakesLast};
-ghost use Rattle.sg_engine.specs.kept.Moments.{script_in, ReadsScript};
+ghost use Rattle.sg_engine.specs.kept.Invariant.{crew_in, AreRoadsOf, HasEnded, Holds, IsBeginning, TakesInAll, TakesLast};
+ghost use Rattle.sg_engine.specs.kept.Moments.{script_in, OnlyReads};
 ghost use Rattle.sg_engine.specs.Pace.{KeepsPace, pace_in};
 ghost use Rattle.sg_engine.specs.kept.Stretches.{planned_output, planned_pace, Simulates};
+ghost use Rattle.sg_engine.specs.kept.Writing.{HasReason};
 
 use crate::advance::advance;
 use crate::ended::Ended;
 use crate::final_state::Final;
 use crate::finish::finish;
+use crate::output::Output;
 use crate::plan::{Engine, Plan, Terms};
 use crate::setup::Setup;
 use crate::show::Show;
@@ -32,23 +33,21 @@ fn simulate<R: Threads + Sync, F: Files, O: Sinks, L: Ledger>(
     router: &mut Router,
     sim: &mut Simulation,
     files: &mut F,
-    out: &mut O,
+    out: &mut Output<'_, O>,
     steps: &mut Steps<L>,
 ) -> Ended
-    requires beginning { IsBeginning (λ b. mind b) engine.now.plan (F.shows files.old) router.old
-        sim.old }
-    requires sound { O.faults out.old ≡ 0 }
+    requires { IsBeginning (λ b. mind b) engine.now.plan (F.shows files.old) router.old sim.old }
     ensures run { Simulates engine.now.plan (crew_in engine.now.plan sim.old) result sim.new
         steps.old steps.new (F.shows files.old) (F.shows files.new)
-        (O.contents out.old) (O.contents out.new) }
+        (O.contents out.old.sink.now) (O.contents out.new.sink.now) }
     ensures kept { MatchBool (is_cut_spec result) ⊤
         (Holds (λ b. mind b) engine.now.plan (F.shows files.new) sim.new) }
     ensures crew { TakesInAll sim.old sim.new }
-    ensures cause { HasCause (result ≡ Ended.WriteFault) (result ≡ Ended.ReadFault)
-        (O.faults out.old) (O.faults out.new)
-        ((script_in engine.now.plan (F.shows files.new)).stage ≡ Broken) }
-    ensures script { ReadsScript F.shows engine.now.plan.script files.old files.new }
-    ensures router { router.new ≡ router.old }
+    ensures cause { HasReason O.faults (result ≡ Ended.WriteFault) (result ≡ Ended.ReadFault)
+        ((script_in engine.now.plan (F.shows files.new)).stage ≡ Broken)
+        out.old.sink out.new.sink }
+    ensures script { OnlyReads F.shows engine.now.plan.script files.old files.new
+        router.old router.new }
 {
     for _turn in 0..engine.plan.terms.budget + 1 {
         if sim.kernel.ending() {
@@ -84,23 +83,22 @@ fn run_from<R: Threads + Sync, F: Files, O: Sinks, L: Ledger>(
     router: &mut Router,
     sim: &mut Simulation,
     files: &mut F,
-    out: &mut O,
+    out: &mut Output<'_, O>,
     steps: &mut Steps<L>,
 ) -> Ended
-    requires beginning { IsBeginning (λ b. mind b) engine.now.plan (F.shows files.old) router.old
-        sim.old }
-    requires sound { O.faults out.old ≡ 0 }
+    requires { IsBeginning (λ b. mind b) engine.now.plan (F.shows files.old) router.old sim.old }
     ensures output { RunsAs engine.now.plan.script
         (planned_output engine.now.plan (crew_in engine.now.plan sim.old)) result
-        (O.contents out.old) (O.contents out.new) (crew_in engine.now.plan sim.old)
-        (length sim.new.crew.items) steps.old steps.new (F.shows files.old) (F.shows files.new) }
+        (O.contents out.old.sink.now) (O.contents out.new.sink.now)
+        (crew_in engine.now.plan sim.old) (length sim.new.crew.items) steps.old steps.new
+        (F.shows files.old) (F.shows files.new) }
     ensures pace { KeepsPace engine.now.plan.script
         (planned_pace engine.now.plan (crew_in engine.now.plan sim.old))
-        (O.contents out.old) (O.contents out.new) (F.shows files.old) (F.shows files.new) }
+        (O.contents out.old.sink.now) (O.contents out.new.sink.now)
+        (F.shows files.old) (F.shows files.new) }
     ensures crew { TakesInAll sim.old sim.new }
-    ensures ending { IsEnding F.shows engine.now.plan.script result files.old files.new
-        (O.contents out.old) (O.contents out.new) (O.faults out.old) (O.faults out.new) }
-    ensures router { router.new ≡ router.old }
+    ensures ending { HasEnded O.contents O.faults F.shows engine.now.plan.script result
+        files.old files.new out.old.sink out.new.sink router.old router.new }
 {
     let how = simulate(engine, router, sim, files, out, steps);
     if is_cut(how) {
@@ -120,24 +118,23 @@ fn run_plan<R: Threads + Sync, F: Files, O: Sinks, L: Ledger>(
     router: &mut Router,
     crew: &mut Vec<Box<dyn Actor + Send>>,
     files: &mut F,
-    out: &mut O,
+    out: &mut Output<'_, O>,
     steps: &mut Steps<L>,
 ) -> Ended
     requires begun { IsTrue engine.now.plan.script → (F.shows files.old Part.Script).stage ≢ Fresh }
     requires crew { HasContexts (λ b. mind b) crew.old.items engine.now.plan.deployment.now }
     requires roads { AreRoadsOf engine.now.plan.platform.now router.old }
-    requires sound { O.faults out.old ≡ 0 }
     ensures output { RunsAs engine.now.plan.script
-        (planned_output engine.now.plan (length crew.old.items)) result (O.contents out.old)
-        (O.contents out.new) (length crew.old.items) (length crew.new.items) steps.old steps.new
-        (F.shows files.old) (F.shows files.new) }
+        (planned_output engine.now.plan (length crew.old.items)) result
+        (O.contents out.old.sink.now) (O.contents out.new.sink.now) (length crew.old.items)
+        (length crew.new.items) steps.old steps.new (F.shows files.old) (F.shows files.new) }
     ensures pace { KeepsPace engine.now.plan.script
         (planned_pace engine.now.plan (length crew.old.items))
-        (O.contents out.old) (O.contents out.new) (F.shows files.old) (F.shows files.new) }
+        (O.contents out.old.sink.now) (O.contents out.new.sink.now)
+        (F.shows files.old) (F.shows files.new) }
     ensures crew { TakesLast engine.now.plan.deployment.now result crew.old.items crew.new.items }
-    ensures ending { IsEnding F.shows engine.now.plan.script result files.old files.new
-        (O.contents out.old) (O.contents out.new) (O.faults out.old) (O.faults out.new) }
-    ensures router { router.new ≡ router.old }
+    ensures ending { HasEnded O.contents O.faults F.shows engine.now.plan.script result
+        files.old files.new out.old.sink out.new.sink router.old router.new }
 {
     match start(&engine.plan, crew) {
         Ok(mut sim) => {
@@ -206,7 +203,11 @@ pub fn run<R: Threads + Sync, F: Files, O: Sinks, L: Ledger>(
     let engine = Engine { rt, plan };
     // The next context is the last one during the run.
     crew.reverse();
-    let how = run_plan(&engine, &mut setup.router, crew, files, out, steps);
+    let mut output = Output {
+        sink: out,
+        broken: false,
+    };
+    let how = run_plan(&engine, &mut setup.router, crew, files, &mut output, steps);
     crew.reverse();
     how
 }

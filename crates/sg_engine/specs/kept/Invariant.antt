@@ -1,15 +1,16 @@
 -- What holds of a simulation between the parts of a run.
 use Rattle.std.specs.Prelude.{◌≡◌, ◌≢◌, ◌+◌, ◌<◌, ◌≤◌, ◌&&◌, nat_lt, ℕ, ⊤, Bool, List, [], length, take, All, Option, None, Some, Result, MatchBool, IsTrue, true, false, vec_capacity}
 use Rattle.std.specs.List.{count_by}
+use Rattle.std.specs.Borrow.{MutBor}
 use Rattle.std.specs.Result.{is_err}
 use Rattle.sg_base.specs.declared.ids.ActorId.{ActorId}
 use Rattle.sg_base.specs.Limits.{IsActorIn}
 use Rattle.sg_base.specs.Mind.{Mind}
 use Rattle.sg_base.specs.declared.memory.Memory.{Memory}
 use Rattle.sg_actor.specs.Seats.{SeatView, seat_views}
-use Rattle.sg_edge.specs.Cause.{HasCause}
 use Rattle.sg_edge.specs.Files.{PartView}
 use Rattle.sg_edge.specs.declared.files.Part.{Part}
+use Rattle.sg_edge.specs.declared.files.Part.TheVariants.{Script}
 use Rattle.sg_edge.specs.declared.files.Stage.TheVariants.{Broken}
 use Rattle.sg_edge.specs.declared.sinks.Stream.{Stream}
 use Rattle.sg_edge.specs.declared.sinks.Stream.TheVariants.{Out, Err}
@@ -29,10 +30,12 @@ use Rattle.sg_states.specs.Actors.{is_unstarted}
 use Rattle.sg_states.specs.declared.state.Actor.{Actor}
 use Rattle.sg_engine.specs.World.{World}
 use Rattle.sg_engine.specs.Output.{first_of}
+use Rattle.sg_engine.specs.RunContract.{IsBroken, TakesScript}
 use Rattle.sg_engine.specs.kept.Moments.{Cast, Moment, moment, moment_in, names_of, part_at, script_in, cuts, Fits, Leads, LeavesFree, StandsFor, UsesScript}
 use Rattle.sg_engine.specs.kept.SeatRules.{IsSeated, minds_of}
 use Rattle.sg_engine.specs.Run.{Answering, Progress, are_completed, work_behind}
 use Rattle.sg_engine.specs.kept.Stretches.{Trace, trace_in, Advances, CutsOff}
+use Rattle.sg_engine.specs.kept.Writing.{HasReason}
 use Rattle.sg_route.specs.Roads.{Roads, roads_of}
 use Rattle.sg_calls.specs.Roads.{AreOver}
 
@@ -245,8 +248,16 @@ pub record StaysKept {A : Type 0} (mind : A → Option Mind) (plan : Plan) (how 
   pub kept : MatchBool (cuts how) ⊤ (Holds mind plan shows new)
 
 -- a part that ended a run by a failed write or read has its cause
-abbrev pub IsCaused : Plan → Option Ended → (Part → PartView) → ℕ → ℕ → Type 0
-IsCaused plan how shows had faults = HasCause (how ≡ Some ended.WriteFault) (how ≡ Some ended.ReadFault) had faults ((script_in plan shows).stage ≡ Broken)
+abbrev pub IsCaused : {O : Type 0} → (O → ℕ) → Plan → Option Ended → (Part → PartView) → MutBor O → MutBor O → Type 0
+IsCaused faults plan how shows old new = HasReason faults (how ≡ Some ended.WriteFault) (how ≡ Some ended.ReadFault) ((script_in plan shows).stage ≡ Broken) old new
+
+-- How the run of a plan has ended: the cause of a failed write or read, that running out of memory leaves Err as it was,
+-- that of all files only the script's part was read, and that the roads stay.
+pub record HasEnded {O F : Type 0} (contents : O → Stream → Option (List ℕ)) (faults : O → ℕ) (shows : F → Part → PartView) (script : Bool) (how : Ended) (before after : F) (old new : MutBor O) (had has : Roads) : Type 0 where
+  pub cause : HasReason faults (how ≡ ended.WriteFault) (how ≡ ended.ReadFault) (IsBroken (shows before Script) (shows after Script)) old new
+  pub memory : how ≡ ended.Memory → contents new.now Err ≡ contents old.now Err
+  pub reads : TakesScript shows script before after
+  pub roads : has ≡ had
 
 -- ---- with what is written
 -- a moment of a run, its `Cast`, and what the streams hold

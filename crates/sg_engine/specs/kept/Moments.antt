@@ -179,6 +179,13 @@ FitsScript plan shows reader kernel = Fits plan.deployment.now (script_moment sh
 abbrev pub IsReadFrom : Result (Option Ended) Memory → PartView → Type 0
 IsReadFrom result part = result ≡ Ok (Some ended.ReadFault) → part.stage ≡ Broken
 
+-- What a fetch has to do with the script: nothing else was read, it cuts the run off only if memory runs out, and a read
+-- fault is of a part that is broken.
+pub record HasFetched (result : Result (Option Ended) Memory) (old new : Part → PartView) : Type 0 where
+  pub others : Only Script old new
+  pub uncut : IfOk result (λ how. cuts how ≡ false)
+  pub cause : IsReadFrom result (new Script)
+
 -- How a stretch leads from one moment to another, with this cast in the one and that in the other: of each world for
 -- which the first moment stands, with so much work spent in all. Without memory it was cut off.
 abbrev pub Leads : Plan → (World → ℕ) → (Answering → World → Progress) → Result (Option Ended) Memory → Cast → Cast → Moment → Moment → Type 0
@@ -193,6 +200,11 @@ LeadsCalls plan whole result old new = (cast : Cast) → Leads plan (λ world. w
 pub record ReadsScript {F : Type 0} (shows : F → Part → PartView) (script : Bool) (old new : F) : Type 0 where
   pub others : Only Script (shows old) (shows new)
   pub unscripted : script ≡ false → new ≡ old
+
+-- nothing else was read, and the roads stay
+pub record OnlyReads {F : Type 0} (shows : F → Part → PartView) (script : Bool) (old new : F) (had has : Roads) : Type 0 where
+  pub reads : ReadsScript shows script old new
+  pub roads : has ≡ had
 
 -- What a stretch has to do with the script and the roads: nothing else was read, the roads stay, it cuts the run off
 -- only if memory runs out, and a read fault is only of a part that is broken.

@@ -46,7 +46,7 @@ returns-in-Err-clause-part g c = (
   refl,
   λ taken world stands.
       cuts_off_by _ _ _ taken _ _ _ _ _
-      (lacks_room _ (scene c.args.router.now c.args.sim.now.kernel.setup (firsts_of c.args.engine.now.plan.deployment.now) c.args.engine.now.plan.script) taken _ _ world c.requires.going.kept.fits.begun stands) refl,
+      (lacks_room _ (scene c.args.router.now c.args.sim.now.kernel.setup (firsts_of c.args.engine.now.plan.deployment.now) c.args.engine.now.plan.script) taken _ _ world c.requires.kept.fits.begun stands) refl,
 )
 
 pub returns-in-Err-round_or_pass-clause-part : goal.returns-in-Err-round_or_pass-clause-part
@@ -74,13 +74,13 @@ returns-in-Err-write_trace-clause-part g c = (
       let kept' = kept_of c.round_or_pass.new.sim.script in
       let same : mid ≡ record old { room = mid.room } = c.in-Ok.ensures.kept in
       let reached = c.in-Ok-round_or_pass.ensures.step taken world (record { script = stands.script; core = ap (λ (k : Known). k.core) same ∙ stands.core; cast = stands.cast }) in
-      let before = g.O.Sinks.contents c.args.out.now Out in
-      let after = g.O.Sinks.contents c.write_trace.new.out Out in
+      let before = g.O.Sinks.contents c.args.out.now.sink.now Out in
+      let after = g.O.Sinks.contents c.write_trace.new.out.sink.now Out in
       let front : GainsFront (trace new.records) before after =
       subst (λ (l : List Record). GainsFront (trace l) before after) c.records.ensures.are c.in-Err-write_trace.ensures.writes.front in
       cuts_off_at names trace (λ answers. round_or_pass (scene c.args.router.now old.setup (firsts_of c.args.engine.now.plan.deployment.now) c.args.engine.now.plan.script) answers world) c.in-Ok-round_or_pass.how taken _ part part' kept kept' mid new before after
       (scene_as names c.args.router.now (firsts_of c.args.engine.now.plan.deployment.now) c.args.engine.now.plan.script old.setup mid.setup c.in-Ok-round_or_pass.how taken _ world (moment part kept mid) (moment part' kept' new) (ap (λ (k : Known). k.setup) same) reached)
-      (ap (λ (k : Known). k.records) same ∙ c.requires.going.kept.cleared) front,
+      (ap (λ (k : Known). k.records) same ∙ c.requires.kept.cleared) front,
 )
 
 pub returns-clause-part : goal.returns-clause-part
@@ -100,15 +100,15 @@ returns-clause-part g c = (
       let kept' = kept_of c.round_or_pass.new.sim.script in
       let same : mid ≡ record old { room = mid.room } = c.in-Ok.ensures.kept in
       let reached = c.in-Ok-round_or_pass.ensures.step taken world (record { script = stands.script; core = ap (λ (k : Known). k.core) same ∙ stands.core; cast = stands.cast }) in
-      let before = g.O.Sinks.contents c.args.out.now Out in
-      let after = g.O.Sinks.contents c.write_trace.new.out Out in
+      let before = g.O.Sinks.contents c.args.out.now.sink.now Out in
+      let after = g.O.Sinks.contents c.write_trace.new.out.sink.now Out in
       let printed : after ≡ gain before (trace new.records) =
       subst (λ (l : List Record). after ≡ gain before (trace l)) c.records.ensures.are c.in-Ok-write_trace.ensures.writes.out_held in
       part_is names trace _ how taken _ _ _ before after c.in-Ok-round_or_pass.ensures.goes.script.uncut
       (advances names trace (λ answers. round_or_pass (scene c.args.router.now old.setup (firsts_of c.args.engine.now.plan.deployment.now) c.args.engine.now.plan.script) answers world) how taken _ part part' kept kept' old mid new before after
       (scene_as names c.args.router.now (firsts_of c.args.engine.now.plan.deployment.now) c.args.engine.now.plan.script old.setup mid.setup how taken _ world (moment part kept mid) (moment part' kept' new) (ap (λ (k : Known). k.setup) same) reached)
-      (ap (λ (k : Known). k.records) same ∙ c.requires.going.kept.cleared)
-      c.requires.going.kept.cleared
+      (ap (λ (k : Known). k.records) same ∙ c.requires.kept.cleared)
+      c.requires.kept.cleared
       (ap (λ (k : Known). k.setup) same)
       printed
       new'
@@ -117,16 +117,16 @@ returns-clause-part g c = (
 )
 
 pub returns-in-Err-clause-cause : goal.returns-in-Err-clause-cause
-returns-in-Err-clause-cause g c = memory_cause _ _
+returns-in-Err-clause-cause g c = memory_cause _ _ _
 
 pub returns-in-Err-clause-kept : goal.returns-in-Err-clause-kept
 returns-in-Err-clause-kept g c = short_kept _ _ ended.Memory _ _ _ refl (crew_cut false c.args.sim.now _ (crew_same c.args.sim.now _ refl (unstarted_as c.args.sim.now.kernel c.reserve_round.new.self c.in-Err.ensures.kept))) (ap (λ (k : Known). k.setup) c.in-Err.ensures.kept)
 
 pub returns-in-Err-clause-script : goal.returns-in-Err-clause-script
-returns-in-Err-clause-script g c = script_unread g.F.Files.shows c.args.engine.now.plan.script c.args.files.now
+returns-in-Err-clause-script g c = record { reads = script_unread g.F.Files.shows c.args.engine.now.plan.script c.args.files.now; roads = refl }
 
 pub returns-in-Err-round_or_pass-clause-cause : goal.returns-in-Err-round_or_pass-clause-cause
-returns-in-Err-round_or_pass-clause-cause g c = memory_cause _ _
+returns-in-Err-round_or_pass-clause-cause g c = memory_cause _ _ _
 
 pub returns-in-Err-round_or_pass-clause-kept : goal.returns-in-Err-round_or_pass-clause-kept
 returns-in-Err-round_or_pass-clause-kept g c =
@@ -135,7 +135,7 @@ returns-in-Err-round_or_pass-clause-kept g c =
     (c.round_or_pass.ensures.goes.seats.setup ∙ ap (λ (k : Known). k.setup) c.in-Ok.ensures.kept)
 
 pub returns-in-Err-write_trace-clause-cause : goal.returns-in-Err-write_trace-clause-cause
-returns-in-Err-write_trace-clause-cause g c = record { write = λ is. c.in-Err-write_trace.ensures.writes.failed; sound = λ isnt. absurd (isnt refl); read = λ is. cc is }
+returns-in-Err-write_trace-clause-cause g c = record { same = c.in-Err-write_trace.ensures.writes.same; write = λ is. c.in-Err-write_trace.ensures.writes.failed; sound = λ isnt. absurd (isnt refl); read = λ is. cc is }
 
 pub returns-in-Err-write_trace-clause-kept : goal.returns-in-Err-write_trace-clause-kept
 returns-in-Err-write_trace-clause-kept g c = record {
@@ -146,6 +146,7 @@ returns-in-Err-write_trace-clause-kept g c = record {
 
 pub returns-clause-cause : goal.returns-clause-cause
 returns-clause-cause g c = record {
+  same = c.in-Ok-write_trace.ensures.writes.same;
   write = λ is. absurd (uncut_write c.in-Ok-round_or_pass.how c.in-Ok-round_or_pass.ensures.goes.script.uncut is);
   sound = λ isnt. c.in-Ok-write_trace.ensures.writes.sound;
   read = λ is. c.in-Ok-round_or_pass.ensures.goes.script.cause (ap (λ (h : Option Ended). Ok h) is);
@@ -153,7 +154,7 @@ returns-clause-cause g c = record {
 
 pub returns-clause-kept : goal.returns-clause-kept
 returns-clause-kept g c =
-    let kept = c.requires.going.kept in
+    let kept = c.requires.kept in
     let seats = c.in-Ok-round_or_pass.ensures.goes.seats in
     let setup = seats.setup ∙ ap (λ (k : Known). k.setup) c.in-Ok.ensures.kept in
     let sim = record c.round_or_pass.new.sim { kernel = c.clear_records.new.self; buffer = c.write_trace.new.buffer } in
@@ -173,21 +174,27 @@ pub returns-in-Err-write_trace-clause-steps : goal.returns-in-Err-write_trace-cl
 returns-in-Err-write_trace-clause-steps g c = next_as c.args.sim.now.kernel c.reserve_round.new.self c.args.steps.now c.round_or_pass.new.steps c.in-Ok.ensures.kept c.round_or_pass.ensures.steps
 
 pub returns-in-Err-round_or_pass-clause-script : goal.returns-in-Err-round_or_pass-clause-script
-returns-in-Err-round_or_pass-clause-script g c = c.in-Err-round_or_pass.ensures.goes.script.reads
+returns-in-Err-round_or_pass-clause-script g c =
+    let script = c.in-Err-round_or_pass.ensures.goes.script in
+    record { reads = script.reads; roads = script.roads }
 
 pub returns-in-Err-write_trace-clause-script : goal.returns-in-Err-write_trace-clause-script
-returns-in-Err-write_trace-clause-script g c = c.in-Ok-round_or_pass.ensures.goes.script.reads
+returns-in-Err-write_trace-clause-script g c =
+    let script = c.in-Ok-round_or_pass.ensures.goes.script in
+    record { reads = script.reads; roads = script.roads }
 
 pub returns-clause-script : goal.returns-clause-script
-returns-clause-script g c = c.in-Ok-round_or_pass.ensures.goes.script.reads
+returns-clause-script g c =
+    let script = c.in-Ok-round_or_pass.ensures.goes.script in
+    record { reads = script.reads; roads = script.roads }
 
 pub round_or_pass-requires-clause-can : goal.round_or_pass-requires-clause-can
 round_or_pass-requires-clause-can g c κs within =
     let same = c.in-Ok.ensures.kept in
-    let kept = c.requires.going.kept in
+    let kept = c.requires.kept in
     let number : c.len.result ≡ length c.args.sim.now.seats.items = search rules in
     record {
-      roads = subst (λ (s : Setup). AreOver s.links c.args.router.now) (sym (ap (λ (k : Known). k.setup) same)) c.requires.going.roads;
+      roads = subst (λ (s : Setup). AreOver s.links c.args.router.now) (sym (ap (λ (k : Known). k.setup) same)) c.requires.roads;
       fits = record {
         actors = ap (λ (k : Known). length k.core.actors) same ∙ kept.fits.actors;
         queues = kept.fits.queues;
@@ -198,14 +205,5 @@ round_or_pass-requires-clause-can g c κs within =
       room = room_for c.reserve_round.new.self kept same (omega (arith, number, c.in-Ok.ensures.room));
     }
 
-pub returns-in-Err-round_or_pass-clause-router : goal.returns-in-Err-round_or_pass-clause-router
-returns-in-Err-round_or_pass-clause-router g c = c.in-Err-round_or_pass.ensures.goes.script.roads
-
-pub returns-in-Err-write_trace-clause-router : goal.returns-in-Err-write_trace-clause-router
-returns-in-Err-write_trace-clause-router g c = c.in-Ok-round_or_pass.ensures.goes.script.roads
-
-pub returns-clause-router : goal.returns-clause-router
-returns-clause-router g c = c.in-Ok-round_or_pass.ensures.goes.script.roads
-
 pub write_trace-requires-clause-empty : goal.write_trace-requires-clause-empty
-write_trace-requires-clause-empty g c = c.in-Ok-round_or_pass.ensures.goes.seats.buffer ∙ c.requires.going.kept.empty
+write_trace-requires-clause-empty g c = c.in-Ok-round_or_pass.ensures.goes.seats.buffer ∙ c.requires.kept.empty

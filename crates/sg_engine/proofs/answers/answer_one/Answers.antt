@@ -42,10 +42,10 @@ returns-in-Ask-clause-fits g c = fits_scripted c.args.plan.now.script _ _ c.answ
 
 pub returns-in-Ask-clause-script : goal.returns-in-Ask-clause-script
 returns-in-Ask-clause-script g c = record {
-  reads = record { others = c.answer_ask.ensures.others; unscripted = λ isnt. not_unscripted c.args.plan.now.script c.if-plan.true isnt };
+  reads = record { others = c.answer_ask.ensures.script.others; unscripted = λ isnt. not_unscripted c.args.plan.now.script c.if-plan.true isnt };
   roads = refl;
-  uncut = c.answer_ask.ensures.uncut;
-  cause = λ is. broken_scripted c.args.plan.now.script _ c.if-plan.true (c.answer_ask.ensures.read is);
+  uncut = c.answer_ask.ensures.script.uncut;
+  cause = λ is. broken_scripted c.args.plan.now.script _ c.if-plan.true (c.answer_ask.ensures.script.cause is);
 }
 
 -- ---- the kernel answers

@@ -1,8 +1,7 @@
-use Rattle.sg_engine.proofs.Fronts.{fronts_err, told_err}
+use Rattle.sg_engine.proofs.Fronts.{tells_err}
 use Rattle.sg_engine.proofs.finish.write_fault.Goals as goal
 
-pub returns-in-Ok : goal.returns-in-Ok
-returns-in-Ok g c = (told_err _ _ _ (rw c.as_bytes.ensures.value at c.in-Ok.ensures.wrote) (c.in-Ok.ensures.other _ (λ e. cc)), c.in-Ok.ensures.sound)
-
-pub returns-in-Err : goal.returns-in-Err
-returns-in-Err g c = (fronts_err _ _ _ (rw c.as_bytes.ensures.value at c.in-Err.ensures.front) (c.in-Err.ensures.other _ (λ e. cc)), c.in-Err.ensures.failed)
+pub returns : goal.returns
+returns g c =
+    let done = c.append.ensures in
+    rw (← c.as_bytes.ensures.value) (tells_err _ _ _ c.append.result _ _ done.wrote done.sound done.front done.failed done.other done.same)

@@ -5,5 +5,5 @@ use Rattle.sg_engine.proofs.printing.put_all_stuck.Given as goal
 
 abbrev pub invariant-loop-i : goal.invariant-loop-i
 invariant-loop-i g l =
-    IsPut (l.fn.buffer ++ stuck_lines l.end.plan.platform.now l.end.plan.deployment.now 1 l.end.kernel.now.core.actors) (l.buffer ++ stuck_lines l.end.plan.platform.now l.end.plan.deployment.now (l.i + 1) (drop l.i l.end.kernel.now.core.actors))
-    (g.O.Sinks.contents l.fn.out) (g.O.Sinks.contents l.out) (g.O.Sinks.faults l.fn.out) (g.O.Sinks.faults l.out)
+    IsPut g.O.Sinks.contents g.O.Sinks.faults (l.fn.buffer ++ stuck_lines l.end.plan.platform.now l.end.plan.deployment.now 1 l.end.kernel.now.core.actors) (l.buffer ++ stuck_lines l.end.plan.platform.now l.end.plan.deployment.now (l.i + 1) (drop l.i l.end.kernel.now.core.actors))
+    l.fn.out.sink l.out.sink

@@ -7,7 +7,7 @@ loop-i-preserved g c =
     let hosts = c.args.end.now.plan.platform.now.hosts in
     let row = c.index-rows-i.result in
     let rows = c.hosts-rows.ensures.rows in
-    line_put _ c.loop-i.buffer _ _ _ _ _ _ _ _ _ _
+    line_put _ c.loop-i.buffer _ _ _ _ _ _ _
     (energy_more c.args.end.now.plan.platform.now c.args.end.now.plan.deployment.now c.args.end.now.kernel.now.core.under.energy hosts c.loop-i.i row (omega (arith, c.loop-i-test.true, ap length rows)) (c.index-rows-i.is ∙ ap (λ l. get_or l c.loop-i.i row) rows)) c.loop-i.invariant
     (rw c.energy-told.ensures at c.in-Ok.ensures)
 
@@ -16,10 +16,10 @@ returns-in-Err g c =
     let hosts = c.args.end.now.plan.platform.now.hosts in
     let row = c.index-rows-i.result in
     let rows = c.hosts-rows.ensures.rows in
-    line_broke _ c.loop-i.buffer _ _ _ _ _ _ _ _ _
+    line_broke _ c.loop-i.buffer _ _ _ _ _ _
     (energy_more c.args.end.now.plan.platform.now c.args.end.now.plan.deployment.now c.args.end.now.kernel.now.core.under.energy hosts c.loop-i.i row (omega (arith, c.loop-i-test.true, ap length rows)) (c.index-rows-i.is ∙ ap (λ l. get_or l c.loop-i.i row) rows)) c.loop-i.invariant
     (rw c.energy-told.ensures at c.in-Err.ensures)
 
 pub returns : goal.returns
 returns g c =
-    none_left _ c.loop-i.buffer _ _ _ _ _ (energy_none c.args.end.now.plan.platform.now c.args.end.now.plan.deployment.now c.args.end.now.kernel.now.core.under.energy c.args.end.now.plan.platform.now.hosts c.loop-i.i (omega (arith, c.loop-i-test.false, ap length c.hosts-rows.ensures.rows))) c.loop-i.invariant
+    none_left _ c.loop-i.buffer _ _ _ (energy_none c.args.end.now.plan.platform.now c.args.end.now.plan.deployment.now c.args.end.now.kernel.now.core.under.energy c.args.end.now.plan.platform.now.hosts c.loop-i.i (omega (arith, c.loop-i-test.false, ap length c.hosts-rows.ensures.rows))) c.loop-i.invariant

@@ -6,5 +6,5 @@ use Rattle.sg_engine.proofs.printing.put_energy.Given as goal
 abbrev pub invariant-loop-i : goal.invariant-loop-i
 invariant-loop-i g l =
     let energies = l.end.kernel.now.core.under.energy in
-    IsPut (l.fn.buffer ++ energy_lines l.end.plan.platform.now l.end.plan.deployment.now energies 0 l.end.plan.platform.now.hosts) (l.buffer ++ energy_lines l.end.plan.platform.now l.end.plan.deployment.now energies l.i (drop l.i l.end.plan.platform.now.hosts))
-    (g.O.Sinks.contents l.fn.out) (g.O.Sinks.contents l.out) (g.O.Sinks.faults l.fn.out) (g.O.Sinks.faults l.out)
+    IsPut g.O.Sinks.contents g.O.Sinks.faults (l.fn.buffer ++ energy_lines l.end.plan.platform.now l.end.plan.deployment.now energies 0 l.end.plan.platform.now.hosts) (l.buffer ++ energy_lines l.end.plan.platform.now l.end.plan.deployment.now energies l.i (drop l.i l.end.plan.platform.now.hosts))
+    l.fn.out.sink l.out.sink

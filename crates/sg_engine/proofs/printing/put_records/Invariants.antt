@@ -6,5 +6,5 @@ use Rattle.sg_engine.proofs.printing.put_records.Given as goal
 
 abbrev pub invariant-loop-answered : goal.invariant-loop-answered
 invariant-loop-answered g l =
-    IsPut (l.fn.buffer ++ trace_of All l.plan.platform.now l.plan.deployment.now l.records) (l.buffer ++ trace_of All l.plan.platform.now l.plan.deployment.now (drop l.answered-index l.records))
-    (g.O.Sinks.contents l.fn.out) (g.O.Sinks.contents l.out) (g.O.Sinks.faults l.fn.out) (g.O.Sinks.faults l.out)
+    IsPut g.O.Sinks.contents g.O.Sinks.faults (l.fn.buffer ++ trace_of All l.plan.platform.now l.plan.deployment.now l.records) (l.buffer ++ trace_of All l.plan.platform.now l.plan.deployment.now (drop l.answered-index l.records))
+    l.fn.out.sink l.out.sink

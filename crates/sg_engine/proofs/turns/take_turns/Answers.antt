@@ -10,18 +10,18 @@ use Rattle.sg_engine.proofs.SeatSteps.{calls_made, can_offered, limited_turned, 
 use Rattle.sg_engine.proofs.turns.take_turns.Goals as goal
 
 pub offer-requires-clause-limited : goal.offer-requires-clause-limited
-offer-requires-clause-limited g c = λ k d within. (c.requires.can.seated k d within).limited
+offer-requires-clause-limited g c = λ k d within. (c.requires.seated k d within).limited
 
 pub turn_all-requires-clause-queued : goal.turn_all-requires-clause-queued
-turn_all-requires-clause-queued g c κs within = queued_offered (extent c.args.kernel.now.setup) _ _ c.args.kernel.now.core.actors c.offer.ensures.with_answer (sym c.requires.can.number ∙ sym (length-map c.args.seats.now _)) c.requires.can.seated
+turn_all-requires-clause-queued g c κs within = queued_offered (extent c.args.kernel.now.setup) _ _ c.args.kernel.now.core.actors c.offer.ensures.with_answer (sym c.requires.number ∙ sym (length-map c.args.seats.now _)) c.requires.seated
 
 pub turn_all-requires-clause-can : goal.turn_all-requires-clause-can
-turn_all-requires-clause-can g c κs within = can_offered (extent c.args.kernel.now.setup) _ _ _ c.offer.ensures.with_answer c.requires.can.seated
+turn_all-requires-clause-can g c κs within = can_offered (extent c.args.kernel.now.setup) _ _ _ c.offer.ensures.with_answer c.requires.seated
 
 pub collect-requires-clause-queued : goal.collect-requires-clause-queued
 collect-requires-clause-queued g c =
     queued_turned _ _ c.args.kernel.now.core.actors c.turn_all.ensures
-    (queued_offered (extent c.args.kernel.now.setup) _ _ c.args.kernel.now.core.actors c.offer.ensures.with_answer (sym c.requires.can.number ∙ sym (length-map c.args.seats.now _)) c.requires.can.seated)
+    (queued_offered (extent c.args.kernel.now.setup) _ _ c.args.kernel.now.core.actors c.offer.ensures.with_answer (sym c.requires.number ∙ sym (length-map c.args.seats.now _)) c.requires.seated)
 
 pub returns : goal.returns
 returns g c =
@@ -29,8 +29,8 @@ returns g c =
     let turned = limited_turned extent _ _ c.turn_all.ensures (c.seats_keep_limits.ensures extent) c.offer.ensures.limited in
     record {
       seated = seated_again extent _ _ c.collect.ensures.seats turned;
-      minds = minds_turned extent _ _ _ _ _ c.offer.ensures.with_answer c.turn_all.ensures c.collect.ensures.seats c.requires.can.seated;
-      calls = c.collect.ensures.calls ∙ ap (call_list 1) (calls_made extent _ _ _ _ c.offer.ensures.with_answer c.turn_all.ensures c.requires.can.seated);
+      minds = minds_turned extent _ _ _ _ _ c.offer.ensures.with_answer c.turn_all.ensures c.collect.ensures.seats c.requires.seated;
+      calls = c.collect.ensures.calls ∙ ap (call_list 1) (calls_made extent _ _ _ _ c.offer.ensures.with_answer c.turn_all.ensures c.requires.seated);
       limited = subst (All (λ (made : ActorCall). IsCall extent made.call)) (sym c.collect.ensures.calls) (calls_limited extent 1 _ turned);
       room = c.collect.ensures.room;
     }

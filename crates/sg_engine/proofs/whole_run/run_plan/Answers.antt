@@ -1,4 +1,4 @@
-use Rattle.std.proofs.Common.{ap, arith, length, refl, sym}
+use Rattle.std.proofs.Common.{ap, arith, length, refl, rules, sym}
 use Rattle.sg_edge.specs.declared.files.Part.TheVariants.{Script}
 use Rattle.sg_engine.specs.kept.Invariant.{crew_in}
 use Rattle.sg_engine.specs.kept.Moments.{script_in}
@@ -8,12 +8,14 @@ use Rattle.sg_engine.proofs.Paces.{none_paced}
 use Rattle.sg_engine.proofs.Starting.{begins_with, first_taken_in_all, same_pace, same_run}
 use Rattle.sg_engine.proofs.whole_run.run_plan.Goals as goal
 
-pub run_from-how-requires-clause-beginning : goal.run_from-how-requires-clause-beginning
-run_from-how-requires-clause-beginning g c κs within =
+pub run_from-how-requires : goal.run_from-how-requires
+run_from-how-requires g c =
     let plan = c.args.engine.now.plan in
-    let shows = g.F.Files.shows c.args.files.now in
-    begins_with _ plan shows c.args.router.now c.args.crew.now.items c.in-Ok.sim
-    (c.in-Ok.ensures.first (script_in plan shows) (is_begun plan.script (shows Script) c.requires.begun)) c.in-Ok.ensures.crew c.requires.roads
+    let shows = g.F.Files.shows c.args.files.now in (
+      search rules,
+      begins_with _ plan shows c.args.router.now c.args.crew.now.items c.in-Ok.sim
+          (c.in-Ok.ensures.first (script_in plan shows) (is_begun plan.script (shows Script) c.requires.begun)) c.in-Ok.ensures.crew c.requires.roads,
+    )
 
 pub returns-in-Ok-clause-output : goal.returns-in-Ok-clause-output
 returns-in-Ok-clause-output g c = λ source gives.

@@ -1,4 +1,4 @@
-use Rattle.std.proofs.Common.{◌≡◌, ◌≤◌, ◌∙◌, ◌+◌, ◌-◌, suc, sym, ap, ap₂, refl, arith, false, None, Some, subst}
+use Rattle.std.proofs.Common.{◌≡◌, ◌≤◌, ◌∙◌, ◌+◌, ◌-◌, suc, sym, ap, ap₂, refl, arith, rules, false, None, Some, subst}
 use Rattle.sg_edge.specs.declared.files.Part.TheVariants.{Script}
 use Rattle.sg_edge.specs.declared.sinks.Stream.TheVariants.{Out}
 use Rattle.sg_calls.specs.Roads.{AreOver}
@@ -28,10 +28,10 @@ loop-turn-init g c =
     let deployed = c.args.engine.now.plan.deployment.now in
     let origin = first_of platform deployed c.args.engine.now.plan.terms.budget (crew_in c.args.engine.now.plan c.args.sim.now) in
     let at = scene_of platform deployed c.args.engine.now.plan.script c.args.engine.now.plan.terms.budget in
-    let first = c.requires.beginning.first in
+    let first = c.requires.first in
     let none : c.args.engine.now.plan.terms.budget + 1 - 0 ≡ c.args.engine.now.plan.terms.budget + 1 = omega arith in
     record {
-      far = far_first c.args.steps.now (known_in deployed) (trace_of c.args.engine.now.plan.terms.show platform deployed) (run_of at origin) (rest_of (c.args.engine.now.plan.terms.budget + 1 - 0) at) (λ answers. parts_from 0 at answers origin) _ (script_part c.args.engine.now.plan.script (g.F.Files.shows c.args.files.now Script)) (kept_of c.args.sim.now.script) c.args.sim.now.kernel (g.O.Sinks.contents c.args.out.now Out)
+      far = far_first c.args.steps.now (known_in deployed) (trace_of c.args.engine.now.plan.terms.show platform deployed) (run_of at origin) (rest_of (c.args.engine.now.plan.terms.budget + 1 - 0) at) (λ answers. parts_from 0 at answers origin) _ (script_part c.args.engine.now.plan.script (g.F.Files.shows c.args.files.now Script)) (kept_of c.args.sim.now.script) c.args.sim.now.kernel (g.O.Sinks.contents c.args.out.now.sink.now Out)
           origin first.kept.fits.begun first.stands
           (λ answers. sym (ap (λ n. run_from n at answers origin) none))
           (λ answers. parts_none 0 at answers origin refl)
@@ -40,18 +40,22 @@ loop-turn-init g c =
       crew = crew_same c.args.sim.now c.args.sim.now refl (omega arith);
       router = refl;
       same = first.setup;
+      sink = refl;
       err = refl;
       sound = refl;
       script = script_unread g.F.Files.shows c.args.engine.now.plan.script c.args.files.now;
     }
 
-pub advance-requires-clause-going : goal.advance-requires-clause-going
-advance-requires-clause-going g c κs within = record {
-  kept = c.loop-turn.invariant.kept;
-  roads = subst (λ (roads : Roads). AreOver c.loop-turn.sim.kernel.setup.links roads) (sym c.loop-turn.invariant.router)
-      (subst (λ (s : Setup). AreOver s.links c.args.router.now) (sym c.loop-turn.invariant.same) c.requires.beginning.roads.over);
-  going = sym c.ending.ensures.is ∙ c.if-ending.false;
-}
+pub advance-requires : goal.advance-requires
+advance-requires g c = (
+  search rules,
+  record {
+    kept = c.loop-turn.invariant.kept;
+    roads = subst (λ (roads : Roads). AreOver c.loop-turn.sim.kernel.setup.links roads) (sym c.loop-turn.invariant.router)
+        (subst (λ (s : Setup). AreOver s.links c.args.router.now) (sym c.loop-turn.invariant.same) c.requires.roads.over);
+    going = sym c.ending.ensures.is ∙ c.if-ending.false;
+  },
+)
 
 pub returns-then-ending-clause-run : goal.returns-then-ending-clause-run
 returns-then-ending-clause-run g c =
@@ -83,20 +87,20 @@ returns-in-Some-clause-run g c =
     let how = c.in-Some.how in
     let old = at_moment (script_part c.args.engine.now.plan.script (g.F.Files.shows c.loop-turn.files Script)) c.loop-turn.sim in
     let new = at_moment (script_part c.args.engine.now.plan.script (g.F.Files.shows c.advance.new.files Script)) c.advance.new.sim in
-    let before = g.O.Sinks.contents c.loop-turn.out Out in
-    let after = g.O.Sinks.contents c.advance.new.out Out in
+    let before = g.O.Sinks.contents c.loop-turn.out.sink.now Out in
+    let after = g.O.Sinks.contents c.advance.new.out.sink.now Out in
     let leads = rw inv.router at c.in-Some.ensures.part in
     let part = leads.1 far.reached.piece far.reached.world (record { script = far.reached.stands.script; core = far.reached.stands.core; cast = far.reached.stands.cast }) in
     let next = far.reached.world.work + next_work far.reached.world.core in
-    let same : scene c.args.router.now c.loop-turn.sim.kernel.setup (firsts_of deployed) c.args.engine.now.plan.script ≡ at = ap₂ (λ (r : Roads) (t : Setup). scene r t (firsts_of deployed) c.args.engine.now.plan.script) c.requires.beginning.roads.are inv.same in
+    let same : scene c.args.router.now c.loop-turn.sim.kernel.setup (firsts_of deployed) c.args.engine.now.plan.script ≡ at = ap₂ (λ (r : Roads) (t : Setup). scene r t (firsts_of deployed) c.args.engine.now.plan.script) c.requires.roads.are inv.same in
     let part' = part_as next names trace _ at (Some how) far.reached.piece _ far.reached.world old new before after same part in
     let worked : c.advance.new.steps ≤ c.args.steps.now + next =
     work_more c.args.steps.now c.loop-turn.steps c.advance.new.steps far.spent far.reached.world.work (next_work c.loop-turn.sim.kernel.core) (next_work far.reached.world.core) far.worked far.reached.work
     (ap next_work far.reached.stands.core) c.in-Some.ensures.steps in
     record {
       run = far_ends c.args.steps.now c.loop-turn.steps c.advance.new.steps names trace (trace_appends c.args.engine.now.plan.terms.show platform deployed) (run_of at origin) how (is_cut how) n m at _ _ _
-          _ _ _ _ _ _ c.args.sim.now.kernel c.loop-turn.sim.kernel c.advance.new.sim.kernel (g.O.Sinks.contents c.args.out.now Out) before after far more (sym c.ending.ensures.is ∙ c.if-ending.false) c.requires.beginning.first.kept.cleared inv.kept.cleared part' worked;
-      pace = paced_ends next (is_cut how) names trace (run_of at origin) _ c.loop-turn._turn at origin (Some how) _ _ _ _ _ _ _ _ c.args.sim.now.kernel c.loop-turn.sim.kernel c.advance.new.sim.kernel (g.O.Sinks.contents c.args.out.now Out) before after far (sym c.ending.ensures.is ∙ c.if-ending.false) part';
+          _ _ _ _ _ _ c.args.sim.now.kernel c.loop-turn.sim.kernel c.advance.new.sim.kernel (g.O.Sinks.contents c.args.out.now.sink.now Out) before after far more (sym c.ending.ensures.is ∙ c.if-ending.false) c.requires.first.kept.cleared inv.kept.cleared part' worked;
+      pace = paced_ends next (is_cut how) names trace (run_of at origin) _ c.loop-turn._turn at origin (Some how) _ _ _ _ _ _ _ _ c.args.sim.now.kernel c.loop-turn.sim.kernel c.advance.new.sim.kernel (g.O.Sinks.contents c.args.out.now.sink.now Out) before after far (sym c.ending.ensures.is ∙ c.if-ending.false) part';
       err = c.in-Some.ensures.part.0 ∙ inv.err;
     }
 
@@ -115,28 +119,29 @@ loop-turn-preserved g c =
     let more : n ≡ suc m = omega (arith, c.loop-turn-test.true) in
     let old = at_moment (script_part c.args.engine.now.plan.script (g.F.Files.shows c.loop-turn.files Script)) c.loop-turn.sim in
     let new = at_moment (script_part c.args.engine.now.plan.script (g.F.Files.shows c.advance.new.files Script)) c.advance.new.sim in
-    let before = g.O.Sinks.contents c.loop-turn.out Out in
-    let after = g.O.Sinks.contents c.advance.new.out Out in
+    let before = g.O.Sinks.contents c.loop-turn.out.sink.now Out in
+    let after = g.O.Sinks.contents c.advance.new.out.sink.now Out in
     let leads = rw inv.router at c.in-None.ensures.part in
     let part = leads.1 far.reached.piece far.reached.world (record { script = far.reached.stands.script; core = far.reached.stands.core; cast = far.reached.stands.cast }) in
     let next = far.reached.world.work + next_work far.reached.world.core in
-    let same : scene c.args.router.now c.loop-turn.sim.kernel.setup (firsts_of deployed) c.args.engine.now.plan.script ≡ at = ap₂ (λ (r : Roads) (t : Setup). scene r t (firsts_of deployed) c.args.engine.now.plan.script) c.requires.beginning.roads.are inv.same in
+    let same : scene c.args.router.now c.loop-turn.sim.kernel.setup (firsts_of deployed) c.args.engine.now.plan.script ≡ at = ap₂ (λ (r : Roads) (t : Setup). scene r t (firsts_of deployed) c.args.engine.now.plan.script) c.requires.roads.are inv.same in
     let part' = part_as next names trace _ at None far.reached.piece _ far.reached.world old new before after same part in
     let worked : c.advance.new.steps ≤ c.args.steps.now + next =
     work_more c.args.steps.now c.loop-turn.steps c.advance.new.steps far.spent far.reached.world.work (next_work c.loop-turn.sim.kernel.core) (next_work far.reached.world.core) far.worked far.reached.work
     (ap next_work far.reached.stands.core) c.in-None.ensures.steps in
     record {
       far = far_on c.args.steps.now c.loop-turn.steps c.advance.new.steps names trace (trace_appends c.args.engine.now.plan.terms.show platform deployed) (run_of at origin) n m at (λ answers. parts_from c.loop-turn._turn at answers origin) (λ answers. parts_from (c.loop-turn._turn + 1) at answers origin) _ _
-          _ _ _ _ _ _ c.args.sim.now.kernel c.loop-turn.sim.kernel c.advance.new.sim.kernel (g.O.Sinks.contents c.args.out.now Out) before after far more (sym c.ending.ensures.is ∙ c.if-ending.false) c.requires.beginning.first.kept.cleared inv.kept.cleared part' worked
+          _ _ _ _ _ _ c.args.sim.now.kernel c.loop-turn.sim.kernel c.advance.new.sim.kernel (g.O.Sinks.contents c.args.out.now.sink.now Out) before after far more (sym c.ending.ensures.is ∙ c.if-ending.false) c.requires.first.kept.cleared inv.kept.cleared part' worked
           (λ some answers here. part_next c.loop-turn._turn (c.loop-turn._turn + 1) at answers origin far.reached.world far.reached.made (omega arith) some here)
           (λ answers. part_rises c.loop-turn._turn (c.loop-turn._turn + 1) at answers origin (omega arith));
       kept = c.in-None.ensures.kept.kept;
       crew = crew_then false c.args.sim.now c.loop-turn.sim c.advance.new.sim inv.crew c.in-None.ensures.kept.crew;
-      router = c.in-None.ensures.router ∙ inv.router;
+      router = c.in-None.ensures.script.roads ∙ inv.router;
       same = c.in-None.ensures.kept.setup ∙ inv.same;
+      sink = c.in-None.ensures.cause.same ∙ inv.sink;
       err = c.in-None.ensures.part.0 ∙ inv.err;
       sound = c.in-None.ensures.cause.sound (none_not ended.WriteFault) ∙ inv.sound;
-      script = script_then _ _ _ _ _ inv.script c.in-None.ensures.script;
+      script = script_then _ _ _ _ _ inv.script c.in-None.ensures.script.reads;
     }
 
 pub returns-clause-run : goal.returns-clause-run
@@ -153,32 +158,35 @@ returns-clause-run g c =
     }
 
 pub returns-then-ending-clause-cause : goal.returns-then-ending-clause-cause
-returns-then-ending-clause-cause g c = record { write = λ is. cc is; sound = λ isnt. c.loop-turn.invariant.sound; read = λ is. cc is }
+returns-then-ending-clause-cause g c = record { same = c.loop-turn.invariant.sink; write = λ is. cc is; sound = λ isnt. c.loop-turn.invariant.sound; read = λ is. cc is }
 
 pub returns-in-Some-clause-cause : goal.returns-in-Some-clause-cause
 returns-in-Some-clause-cause g c =
     let cause = c.in-Some.ensures.cause in
     record {
-      write = λ is. let failed = cause.write (ap (λ (h : Ended). Some h) is) in omega (arith, failed, c.loop-turn.invariant.sound);
+      same = cause.same ∙ c.loop-turn.invariant.sink;
+      write = λ is. cause.write (ap (λ (h : Ended). Some h) is);
       sound = λ isnt. cause.sound (λ is. isnt (cc is)) ∙ c.loop-turn.invariant.sound;
       read = λ is. cause.read (ap (λ (h : Ended). Some h) is);
     }
 
 pub returns-in-Some-clause-script : goal.returns-in-Some-clause-script
-returns-in-Some-clause-script g c = script_then _ _ _ _ _ c.loop-turn.invariant.script c.in-Some.ensures.script
+returns-in-Some-clause-script g c =
+    let script = c.in-Some.ensures.script in
+    record { reads = script_then _ _ _ _ _ c.loop-turn.invariant.script script.reads; roads = script.roads ∙ c.loop-turn.invariant.router }
 
 pub returns-clause-cause : goal.returns-clause-cause
-returns-clause-cause g c = record { write = λ is. cc is; sound = λ isnt. c.loop-turn.invariant.sound; read = λ is. cc is }
+returns-clause-cause g c = record { same = c.loop-turn.invariant.sink; write = λ is. cc is; sound = λ isnt. c.loop-turn.invariant.sound; read = λ is. cc is }
 
 pub returns-in-Some-clause-kept : goal.returns-in-Some-clause-kept
 returns-in-Some-clause-kept g c = c.in-Some.ensures.kept.kept
 
 pub returns-then-ending-clause-crew : goal.returns-then-ending-clause-crew
-returns-then-ending-clause-crew g c = crew_all false c.args.sim.now c.loop-turn.sim (c.loop-turn.invariant.same ∙ sym c.requires.beginning.first.setup) c.loop-turn.invariant.crew
+returns-then-ending-clause-crew g c = crew_all false c.args.sim.now c.loop-turn.sim (c.loop-turn.invariant.same ∙ sym c.requires.first.setup) c.loop-turn.invariant.crew
 
 pub returns-in-Some-clause-crew : goal.returns-in-Some-clause-crew
 returns-in-Some-clause-crew g c =
-    crew_all (is_cut c.in-Some.how) c.args.sim.now c.advance.new.sim (c.in-Some.ensures.kept.setup ∙ c.loop-turn.invariant.same ∙ sym c.requires.beginning.first.setup) (crew_then (is_cut c.in-Some.how) c.args.sim.now c.loop-turn.sim c.advance.new.sim c.loop-turn.invariant.crew c.in-Some.ensures.kept.crew)
+    crew_all (is_cut c.in-Some.how) c.args.sim.now c.advance.new.sim (c.in-Some.ensures.kept.setup ∙ c.loop-turn.invariant.same ∙ sym c.requires.first.setup) (crew_then (is_cut c.in-Some.how) c.args.sim.now c.loop-turn.sim c.advance.new.sim c.loop-turn.invariant.crew c.in-Some.ensures.kept.crew)
 
 pub returns-clause-crew : goal.returns-clause-crew
-returns-clause-crew g c = crew_all false c.args.sim.now c.loop-turn.sim (c.loop-turn.invariant.same ∙ sym c.requires.beginning.first.setup) c.loop-turn.invariant.crew
+returns-clause-crew g c = crew_all false c.args.sim.now c.loop-turn.sim (c.loop-turn.invariant.same ∙ sym c.requires.first.setup) c.loop-turn.invariant.crew

@@ -5,4 +5,4 @@ use Rattle.sg_engine.proofs.buffer.Buffer.put_line.Goals as goal
 
 pub returns-in-Err : goal.returns-in-Err
 returns-in-Err g c =
-    first_breaks [] c.args.self.now (line_of c.args.answered.now c.args.platform.now c.args.deployment.now) _ _ _ _ c.in-Err.ensures.writes
+    first_breaks [] c.args.self.now (line_of c.args.answered.now c.args.plan.now.platform.now c.args.plan.now.deployment.now) _ _ c.in-Err.ensures.puts
