@@ -3,10 +3,10 @@ ghost use Rattle.std.specs.Prelude.{◌≡◌, ◌≤◌, false, true, IfOk, IfE
 ghost use Rattle.sg_churn.specs.Generated.{deployed_of_seed, platform_of_seed};
 ghost use Rattle.sg_words.specs.Ranges.{AreChurnNumbers};
 ghost use Rattle.simgrid_replay.specs.kept.Reading.{IsOfDeployment};
-ghost use Rattle.simgrid_replay.specs.Settings.{fitting, on_platform};
+ghost use Rattle.simgrid_replay.specs.Settings.{fitting as fitting_spec, on_platform};
 ghost use Rattle.simgrid_replay.specs.kept.Setups.{IsSetupOf, IsSetupFor};
 
-use crate::fitting::with_contexts;
+use crate::fitting::fitting;
 use crate::refusal::Refusal;
 use crate::routed_platform::RoutedPlatform;
 use sg_base::Memory;
@@ -45,7 +45,7 @@ pub fn churn_setup(
 ) -> Result<Setup, Refusal>
     requires { AreChurnNumbers seed actors steps }
     ensures given { IsSetupOf (on_platform (platform_of_seed seed actors)
-        (fitting true contexts (deployed_of_seed seed actors steps))) result }
+        (fitting_spec true contexts (deployed_of_seed seed actors steps))) result }
     ensures fits { IfOk result (IsSetupFor false contexts) }
     ensures refusal { IfErr result IsOfDeployment }
 {
@@ -55,7 +55,7 @@ pub fn churn_setup(
     let Ok(deployment) = churn_deployment(alloc, seed, actors, steps, &platform) else {
         return Err(Refusal::Memory);
     };
-    let deployment = with_contexts(deployment, contexts)?;
+    let deployment = fitting(deployment, true, contexts)?;
     match routed(alloc, platform, seed, actors) {
         Ok(platform) => Ok(platform.with(deployment, false)),
         Err(Memory) => Err(Refusal::Memory),

@@ -1,10 +1,9 @@
 //! The exit status of the whole program.
-ghost use Rattle.std.specs.Prelude.{◌≡◌, map, All, None, OnErr, OnOk, string_bytes};
+ghost use Rattle.std.specs.Prelude.{◌≡◌, map, OnErr, OnOk, string_bytes};
 ghost use Rattle.std.specs.Process.{exit_status};
 ghost use Rattle.sg_base.specs.Status.{status_code};
-ghost use Rattle.sg_edge.specs.declared.files.Part.{Part};
-ghost use Rattle.sg_edge.specs.declared.files.Stage.TheVariants.{Fresh};
 ghost use Rattle.simgrid_replay.specs.Exit.{DoesCall, Exits};
+ghost use Rattle.simgrid_replay.specs.kept.Reading.{IsStart};
 
 use crate::host::Host;
 use crate::whole_call::simgrid;
@@ -44,9 +43,7 @@ pub fn exit_of<R: Threads + Sync, F: Files, O: Sinks, L: Ledger>(
     crew: &mut Vec<Box<dyn Actor + Send>>,
     steps: &mut Steps<L>,
 ) -> ExitCode
-    requires fresh { (part : Part) → (F.shows files.old part).stage ≡ Fresh }
-    requires blank { All (λ b. mind b ≡ None) crew.old.items }
-    requires sound { O.faults out.old ≡ 0 }
+    requires { IsStart (F.shows files.old) (λ b. mind b) crew.old.items (O.faults out.old) }
     ensures { Exits (exit_status result) (DoesCall F.shows (map string_bytes words.now)
         files.old files.new (O.contents out.old) (O.contents out.new)
         (O.faults out.old) (O.faults out.new) crew.old.items crew.new.items

@@ -1,5 +1,5 @@
 //! Whether a deployment suits a run.
-ghost use Rattle.std.specs.Prelude.{◌≡◌, ◌≤◌, count_by, position, true, IfOk, IfErr};
+ghost use Rattle.std.specs.Prelude.{◌≡◌, ◌<◌, ◌≤◌, if◌then◌else◌, count_by, length, position, None, IfOk, IfErr, IfSome};
 ghost use Rattle.sg_calls.specs.Setup.{replays};
 ghost use Rattle.sg_rows.specs.Deployment.{is_replay as is_replay_spec, starts, started_number};
 ghost use Rattle.simgrid_replay.specs.kept.Reading.{IsOfDeployment};
@@ -16,9 +16,18 @@ fn is_replay(function: &Function) -> bool
 
 // Returns the place of the first actor that replays, from 0 on.
 fn first_replay(actors: &[ActorRow]) -> Option<usize>
-    ensures { result ≡ position replays actors.now }
+    ensures is { result ≡ position replays actors.now }
+    ensures within { IfSome result (λ place. place < length actors.now) }
 {
     actors.iter().position(|actor| is_replay(&actor.function))
+}
+
+// Returns the place of the first actor that replays, unless there is a script.
+fn unscripted_replay(actors: &[ActorRow], script: bool) -> Option<usize>
+    ensures is { result ≡ if script then None else position replays actors.now }
+    ensures within { IfSome result (λ place. place < length actors.now) }
+{
+    if script { None } else { first_replay(actors) }
 }
 
 // Returns how many actors begin with the run.
@@ -28,31 +37,21 @@ fn started(actors: &[ActorRow]) -> usize
     actors.iter().filter(|actor| actor.start).count()
 }
 
-/// Returns the deployment, if there is a context for each actor that begins with the run.
-pub fn with_contexts(deployment: Deployment, contexts: usize) -> Result<Deployment, Refusal>
-    ensures given { result ≡ fitting_spec true contexts deployment }
-    ensures same { IfOk result (λ d. (d ≡ deployment) × (started_number d ≤ contexts)) }
-    ensures refusal { IfErr result IsOfDeployment }
-{
-    let actors = started(deployment.actors());
-    if contexts < actors {
-        Err(Refusal::TooFewContexts(actors, contexts))
-    } else {
-        Ok(deployment)
-    }
-}
-
 /// Returns the deployment, if it suits a run with a script or without, and so many contexts.
 pub fn fitting(deployment: Deployment, script: bool, contexts: usize) -> Result<Deployment, Refusal>
     ensures given { result ≡ fitting_spec script contexts deployment }
     ensures same { IfOk result (λ d. (d ≡ deployment) × (started_number d ≤ contexts)) }
     ensures refusal { IfErr result IsOfDeployment }
 {
-    if script {
-        return with_contexts(deployment, contexts);
-    }
-    match first_replay(deployment.actors()) {
+    match unscripted_replay(deployment.actors(), script) {
         Some(place) => Err(Refusal::ReplayUnderRun(place as u32 + 1)),
-        None => with_contexts(deployment, contexts),
+        None => {
+            let actors = started(deployment.actors());
+            if contexts < actors {
+                Err(Refusal::TooFewContexts(actors, contexts))
+            } else {
+                Ok(deployment)
+            }
+        }
     }
 }

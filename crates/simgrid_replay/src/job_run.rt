@@ -1,11 +1,10 @@
 //! The run of a job whose platform and deployment are there.
 ghost use Rattle.std.specs.Prelude.{◌≡◌, ◌≢◌, ◌<◌, ◌≤◌, length, All, None, Ok, false, IsTrue};
 ghost use Rattle.sg_edge.specs.declared.files.Stage.TheVariants.{Fresh, Broken, Over};
-ghost use Rattle.sg_edge.specs.Files.{Only};
 ghost use Rattle.sg_edge.specs.Sources.{Source};
 ghost use Rattle.sg_words.specs.Views.{job_view};
 ghost use Rattle.simgrid_replay.specs.Contexts.{TakesFirst};
-ghost use Rattle.simgrid_replay.specs.PartSources.{request_of, IsNamedBy, ScriptGives};
+ghost use Rattle.simgrid_replay.specs.PartSources.{request_of, ScriptGives};
 ghost use Rattle.simgrid_replay.specs.kept.Reading.{BeginsScript, Broke, ComesTo, IsCallCause};
 ghost use Rattle.simgrid_replay.specs.Outcome.{is_refusal, or_refused};
 ghost use Rattle.simgrid_replay.specs.kept.Setups.{setting_in, IsSetupOfJob};
@@ -52,13 +51,11 @@ fn begin_script<F: Files>(job: &Job, files: &mut F)
         → (F.shows files.new Part.Script).stage ≢ Fresh }
     ensures unread { (F.shows files.new Part.Script).stage ≢ Over }
     ensures left { (F.shows files.new Part.Script).left ≡ (F.shows files.old Part.Script).left }
-    ensures unscripted { has_script (request_of job.now) ≡ false → files.new ≡ files.old }
     ensures faults { (F.shows files.old Part.Script).faults
         ≤ (F.shows files.new Part.Script).faults }
     ensures cause { (F.shows files.new Part.Script).stage ≡ Broken
         → (F.shows files.old Part.Script).faults < (F.shows files.new Part.Script).faults }
-    ensures named { IsNamedBy (request_of job.now) Part.Script (F.shows files.new Part.Script) }
-    ensures others { Only Part.Script (F.shows files.old) (F.shows files.new) }
+    ensures script { BeginsScript F.shows (request_of job.now) files.old files.new }
 {
     match &job.command {
         Command::Replay { script, .. } => {

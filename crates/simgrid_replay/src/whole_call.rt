@@ -37,8 +37,7 @@ fn do_job<R: Threads + Sync, F: Files, O: Sinks, L: Ledger>(
     crew: &mut Vec<Box<dyn Actor + Send>>,
     steps: &mut Steps<L>,
 ) -> Status
-    requires start { IsStart (F.shows files.old) (λ b. mind b) crew.old.items }
-    requires sound { O.faults out.old ≡ 0 }
+    requires { IsStart (F.shows files.old) (λ b. mind b) crew.old.items (O.faults out.old) }
     ensures output { (p d s : Source)
         → PartsGive (request_of job.now) (F.shows files.old) (F.shows files.new) p d s
         → ComesTo (outcome (job_view job.now) (length crew.old.items) p d) s result

@@ -22,10 +22,11 @@ use Rattle.simgrid_replay.specs.declared.refusal.Refusal.{Refusal}
 use Rattle.simgrid_replay.specs.declared.refusal.Refusal.TheVariants as refusal
 use Rattle.sg_engine.specs.declared.setup.Setup.{Setup}
 
--- Nothing was done yet: no part is begun, and all contexts are blank.
-pub record IsStart {A : Type 0} (shows : Part → PartView) (mind : A → Option Mind) (crew : List A) : Type 0 where
+-- Nothing was done yet: no part is begun, all contexts are blank, and no write has failed.
+pub record IsStart {A : Type 0} (shows : Part → PartView) (mind : A → Option Mind) (crew : List A) (faults : ℕ) : Type 0 where
   pub fresh : (which : Part) → (shows which).stage ≡ Fresh
   pub blank : All (λ context. mind context ≡ None) crew
+  pub sound : faults ≡ 0
 
 -- why a call ended by a failed write, or by a failed read of what broke
 abbrev pub IsCallCause : Status → ℕ → ℕ → Type 0 → Type 0

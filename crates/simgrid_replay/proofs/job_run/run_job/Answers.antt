@@ -39,8 +39,8 @@ pub returns-clause-script : goal.returns-clause-script
 returns-clause-script g c =
     let script = c.run-ended.ensures.ending.reads in
     record {
-      others = λ q away. script.others q away ∙ c.begin_script.ensures.others q away;
-      unscripted = λ none. script.unscripted (c.requires.setup.script ∙ none) ∙ c.begin_script.ensures.unscripted none;
-      named = named_on (request_of c.args.on.job.now) Script (g.F.Files.shows c.begin_script.new.files Script) (g.F.Files.shows c.run-ended.new.files Script) script.name c.begin_script.ensures.named;
+      others = λ q away. script.others q away ∙ c.begin_script.ensures.script.others q away;
+      unscripted = λ none. script.unscripted (c.requires.setup.script ∙ none) ∙ c.begin_script.ensures.script.unscripted none;
+      named = named_on (request_of c.args.on.job.now) Script (g.F.Files.shows c.begin_script.new.files Script) (g.F.Files.shows c.run-ended.new.files Script) script.name c.begin_script.ensures.script.named;
       telling = λ told. script.telling (subst (λ (left : Option (List ℕ)). IsSome left) (sym c.begin_script.ensures.left) told);
     }

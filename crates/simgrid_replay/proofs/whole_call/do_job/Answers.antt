@@ -48,7 +48,7 @@ returns-in-Err-clause-output g c = λ p d s gives.
           c.in-Err.why c.refuse.result (length c.args.crew.now.items) (λ r. refl)
           (λ told. sym (ap (λ (n : ℕ). setting (request_of c.args.job.now) n p d) (sym contexts) ∙ c.in-Err.ensures.given p d gives.texts (λ e. told (cc)))) c.refuse.ensures.memory;
       needed = takes_none _ _ _ c.in-Err.ensures.read.unbegun;
-      last = none_stops _ _ _ (c.requires.start.fresh Script) c.in-Err.ensures.read.unbegun;
+      last = none_stops _ _ _ (c.requires.fresh Script) c.in-Err.ensures.read.unbegun;
     }
 
 pub returns-in-Ok-clause-crew : goal.returns-in-Ok-clause-crew
@@ -114,7 +114,7 @@ pub returns-in-Err-clause-parts : goal.returns-in-Err-clause-parts
 returns-in-Err-clause-parts g c =
     let request = request_of c.args.job.now in
     let read = c.in-Err.ensures.read in
-    let fresh = g.met.F.Files.unnamed c.args.files.now Script (c.requires.start.fresh Script) in
+    let fresh = g.met.F.Files.unnamed c.args.files.now Script (c.requires.fresh Script) in
     record {
       named = named_parts request (g.F.Files.shows c.prepare.new.files) c.in-Err.ensures.platform c.in-Err.ensures.deployment
           (nameless_by request Script (g.F.Files.shows c.prepare.new.files Script) (ap (λ (v : PartView). v.name) read.unbegun ∙ fresh));

@@ -1,4 +1,4 @@
-use Rattle.std.proofs.Common.{◌≡◌, ◌∙◌, sym, ap, subst, refl, length, map, true, false, arith}
+use Rattle.std.proofs.Common.{◌≡◌, ◌∙◌, sym, ap, subst, refl, length, map, true, false, arith, rules}
 use Rattle.std.specs.Prelude.{string_bytes}
 use Rattle.sg_edge.specs.declared.files.Part.TheVariants.{Script}
 use Rattle.sg_words.specs.CommandLine.{Asked, asked_of, refusals}
@@ -136,8 +136,8 @@ returns-in-Ok-clause-broken_text g c = c.do_job.ensures.crew.broken
 pub returns-in-Err-clause-rest : goal.returns-in-Err-clause-rest
 returns-in-Err-clause-rest g c = record { platform = λ is. absurd (c.report_words.ensures.platform is); deployment = λ is. absurd (c.report_words.ensures.deployment is) }
 
-pub do_job-requires-clause-start : goal.do_job-requires-clause-start
-do_job-requires-clause-start g c κs within = record { fresh = c.requires.fresh; blank = c.requires.blank }
+pub do_job-requires : goal.do_job-requires
+do_job-requires g c = (search rules, record { fresh = c.requires.fresh; blank = c.requires.blank; sound = c.requires.sound })
 
 pub returns-in-Ok-clause-front : goal.returns-in-Ok-clause-front
 returns-in-Ok-clause-front g c = c.do_job.ensures.crew.front
