@@ -40,8 +40,9 @@ class Done:
             environment = {**os.environ, "PYTHONPATH": f"{TOP}/python:{os.environ.get('PYTHONPATH', '')}", "SIMGRID_REPLAY": program, MARK: mark,
                            "SIMGRID_REPLAY_WORKERS": workers, "PYTHONDONTWRITEBYTECODE": "1"}
             words = [PYTHON, "-u", "-m", "simgrid_replay.s4u", *options, str(path)] if script is None else [PYTHON, "-u", str(path)]
+            # (a shell starts what it runs in the background with interrupts ignored)
             process = subprocess.Popen(words, env=environment, stdout=subprocess.PIPE, stderr=subprocess.PIPE, text=True,
-                                       start_new_session=True)
+                                       start_new_session=True, preexec_fn=lambda: signal.signal(signal.SIGINT, signal.SIG_DFL))
             if interrupt:
                 assert process.stdout.readline() == "ready\n"
                 time.sleep(0.2)
