@@ -2,7 +2,7 @@
 //! To use it, copy it, and put your own texts in the place of these, or your own `Files` and `Sinks` in the place of
 //! `MemFiles` and `MemSinks`.
 //! It is entered by `main`; `simulate` calls `run` of `sg_engine`.
-//! It stands on `sg_platform`, `sg_rows`, `sg_zones` and `sg_route` for the platform and the deployment, on `sg_edge`
+//! It stands on `sg_platform`, `sg_platform_rows`, `sg_zones` and `sg_route` for the platform and the deployment, on `sg_edge`
 //! for what is read and written, on `sg_actor` for the contexts, on `sg_base` for the counter of steps, on `sg_engine`
 //! for the run, and on `anyhow` for errors.
 #![tactic(auto)]
@@ -11,7 +11,7 @@ ghost use Rattle.std.specs.Prelude.{◌≡◌, ◌≢◌, ◌<◌, ◌≤◌, If
 ghost use Rattle.sg_edge.specs.declared.files.Stage.TheVariants.{Fresh};
 ghost use Rattle.sg_edge.specs.MemFiles.{mem_view};
 ghost use Rattle.sg_edge.specs.MemSinks.{mem_faults};
-ghost use Rattle.sg_rows.specs.Deployment.{started_number};
+ghost use Rattle.sg_platform_rows.specs.Deployment.{started_number};
 
 use anyhow::{Result, bail, ensure};
 use sg_actor::{Actor, PlainContext, all_blank};
@@ -19,8 +19,8 @@ use sg_base::Steps;
 use sg_edge::{Files, MemFiles, MemSinks, Part, Stream};
 use sg_engine::{Ended, Setup, Show, run};
 use sg_platform::{read_deployment, read_platform};
+use sg_platform_rows::Deployment;
 use sg_route::Router;
-use sg_rows::Deployment;
 use sg_zones::Zones;
 use std::alloc::Global;
 use std::marker::Brand;

@@ -6,9 +6,9 @@ use Rattle.sg_base.specs.MarkSet.{is_in}
 use Rattle.sg_lazy.specs.Lazily.{Lazily, with_bound, with_other_bound}
 use Rattle.sg_lazy.specs.RunningFlow.{RunningFlow, bounded_by, has_bound, is_same_bound, running_at}
 use Rattle.sg_activity.specs.declared.activity_state.Kept.{Kept}
-use Rattle.sg_lives.specs.declared.lives.Live.{Live}
-use Rattle.sg_lives.specs.Kinds.{takes_share}
-use Rattle.sg_lives.specs.Pool.{slot_at}
+use Rattle.sg_activity_table.specs.declared.lives.Live.{Live}
+use Rattle.sg_activity_table.specs.Kinds.{takes_share}
+use Rattle.sg_activity_table.specs.Pool.{slot_at}
 use Rattle.sg_activity.specs.kept.Bounds.{HasFlows, Rebounds, rebound_by, rebound_to}
 use Rattle.sg_activity.specs.kept.State.{asked_by, state_of}
 use Rattle.sg_activity.proofs.Listing.{eq_cases, some_same}

@@ -1,7 +1,7 @@
 -- An activity id is drawn.
 use Rattle.std.proofs.Common.{◌≡◌, ℕ, ◌+◌, false, cond, None, [], ◌∷◌, ◌++◌, map, refl, ap, ap₂, ◌∙◌, arith}
 use Rattle.std.proofs.lemmas.List.{map-append}
-use Rattle.sg_lives.specs.Slots.{passes, serials}
+use Rattle.sg_activity_table.specs.Slots.{passes, serials}
 use Rattle.sg_activity.specs.Underway.{with_next_serial}
 use Rattle.sg_activity.specs.Doing.{drawn_in}
 use Rattle.sg_activity.specs.kept.State.{State, task_of, stamp_of, is_now, is_so, told_at, told_by, changed_at, changed_by, under_of, doing_of}

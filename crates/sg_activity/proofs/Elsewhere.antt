@@ -2,13 +2,13 @@
 use Rattle.std.proofs.Common.{◌≡◌, ◌≢◌, ℕ, zero, suc, ◌-◌, ◌==◌, Bool, true, false, cond, not, ◌&&◌, Option, None, Some, option_map, List, [], ◌∷◌, ◌++◌, map, set, get_or, get_or-set_other, filter_map, refl, sym, ap, ap₂, ◌∙◌, arith}
 use Rattle.std.specs.List.{cons_option}
 use Rattle.sg_maxmin.specs.Fill.{flow}
-use Rattle.sg_lives.specs.declared.kinds.HostCap.{HostCap}
+use Rattle.sg_activity_table.specs.declared.kinds.HostCap.{HostCap}
 use Rattle.sg_activity.specs.Hosts.{host_at}
 use Rattle.sg_activity.specs.Laws.{IsSameHost, asked_of, asked_on}
 use Rattle.sg_activity.specs.Links.{Capacities}
 use Rattle.sg_activity.specs.Power.{is_there, loads}
-use Rattle.sg_lives.specs.Slots.{passes, sooner}
-use Rattle.sg_lives.specs.Kinds.{takes_share}
+use Rattle.sg_activity_table.specs.Slots.{passes, sooner}
+use Rattle.sg_activity_table.specs.Kinds.{takes_share}
 use Rattle.sg_activity.specs.Task.{Place, nowhere, on_host, over, Task, flow_at, flow_of, task_at}
 use Rattle.sg_activity.specs.Underway.{Underway, with_next_serial, later, passed, with_rates_updated, started, with_bandwidth, with_host_on, with_link_on, with_speed, with_task}
 

@@ -3,13 +3,13 @@ use Rattle.std.proofs.Common.{◌≡◌, ℕ, ◌-◌, ◌<◌, false, Option, N
 use Rattle.sg_heap.specs.Agenda.{Key}
 use Rattle.sg_lazy.specs.Lazily.{Lazily}
 use Rattle.sg_activity.specs.declared.activity_state.Kept.{Kept}
-use Rattle.sg_lives.specs.declared.lives.Live.{Live}
+use Rattle.sg_activity_table.specs.declared.lives.Live.{Live}
 use Rattle.sg_activity.specs.Task.{flow_in}
-use Rattle.sg_lives.specs.Pool.{Pool, slot_at, uses_ahead}
+use Rattle.sg_activity_table.specs.Pool.{Pool, slot_at, uses_ahead}
 use Rattle.sg_activity.specs.kept.Rows.{Indexed, IsRow, way_in}
 use Rattle.sg_activity.specs.kept.State.{State, state_of, task_of, under_of, ways_of}
 use Rattle.sg_activity.specs.kept.Sound.{IsKept, IsSound, slot_ahead, slot_uses}
-use Rattle.sg_lives.specs.Kinds.{flows_ahead}
+use Rattle.sg_activity_table.specs.Kinds.{flows_ahead}
 use Rattle.sg_activity.specs.kept.Ends.{Ends}
 use Rattle.sg_activity.specs.kept.Turns.{Turns}
 use Rattle.sg_activity.proofs.Pairing.{there_within}

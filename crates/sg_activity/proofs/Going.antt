@@ -4,16 +4,16 @@ use Rattle.std.specs.Option.{IfSome}
 use Rattle.std.proofs.Math.Nat.{mul-le-mul_left}
 use Rattle.sg_base.specs.MarkSet.{is_in}
 use Rattle.sg_heap.specs.Agenda.{Key, IsLeast, IsNoLater, key_at}
-use Rattle.sg_lives.specs.declared.lives.Live.{Live}
-use Rattle.sg_lives.specs.Slots.{listed, passes, serials, is_over_after}
+use Rattle.sg_activity_table.specs.declared.lives.Live.{Live}
+use Rattle.sg_activity_table.specs.Slots.{listed, passes, serials, is_over_after}
 use Rattle.sg_activity.specs.Task.{Task}
 use Rattle.sg_activity.specs.Underway.{rate, wait, wait_in, next_in, due_in, passed, later}
 use Rattle.sg_activity.specs.Doing.{later_in, IsNext, IsUpTo}
 use Rattle.sg_activity.specs.kept.Stamps.{left_at}
-use Rattle.sg_lives.specs.Pool.{IsMissing, slot_at}
+use Rattle.sg_activity_table.specs.Pool.{IsMissing, slot_at}
 use Rattle.sg_activity.specs.kept.State.{State, task_of, stamp_of, date_of, dated, due_at, is_dated, is_now, is_so, told_at, told_by, under_of, doing_of}
 use Rattle.sg_activity.specs.kept.Sound.{IsKept}
-use Rattle.sg_lives.proofs.Listed.{length-listed, at_listed, past_listed, same_listed}
+use Rattle.sg_activity_table.proofs.Listed.{length-listed, at_listed, past_listed, same_listed}
 use Rattle.sg_activity.proofs.Listing.{eq_cases, some_same, serials_alike, soonest_none, soonest_is, up_to_each, map_listed}
 use Rattle.sg_activity.proofs.Lookup.{Sought, sought, told_found, told_missed, told_from}
 use Rattle.sg_activity.proofs.Pairing.{there_within}

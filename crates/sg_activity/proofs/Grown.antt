@@ -6,18 +6,18 @@ use Rattle.sg_base.specs.MarkSet.{is_in}
 use Rattle.sg_heap.specs.Agenda.{Key, key_at}
 use Rattle.sg_maxmin.specs.Fill.{share_of}
 use Rattle.sg_lazy.specs.RunningFlow.{RunningFlow, running_at, flows_in}
-use Rattle.sg_lives.specs.declared.lives.Live.{Live}
+use Rattle.sg_activity_table.specs.declared.lives.Live.{Live}
 use Rattle.std.proofs.lemmas.List.Sums.{sum_by-cons}
 use Rattle.sg_activity.specs.declared.activity_state.Kept.{Kept}
 use Rattle.sg_activity.specs.Links.{capacities_of, machines}
 use Rattle.sg_activity.specs.kept.Grows.{Grows}
-use Rattle.sg_lives.specs.Kinds.{takes_share}
-use Rattle.sg_lives.specs.Slots.{passes, serials}
-use Rattle.sg_lives.specs.Pool.{slot_at}
+use Rattle.sg_activity_table.specs.Kinds.{takes_share}
+use Rattle.sg_activity_table.specs.Slots.{passes, serials}
+use Rattle.sg_activity_table.specs.Pool.{slot_at}
 use Rattle.sg_activity.specs.kept.State.{State, state_of, links_at, task_from, task_of, stamp_of, is_now, is_dated, is_so, told_at, told_by, is_marked, changed_at, changed_by, under_of, doing_of, ways_of}
 use Rattle.sg_activity.specs.kept.Sound.{AreApart, IsKept, IsSound, slot_ahead, slot_uses}
 use Rattle.sg_activity.proofs.Indexing.{ways_grown}
-use Rattle.sg_lives.proofs.Listed.{same_listed}
+use Rattle.sg_activity_table.proofs.Listed.{same_listed}
 use Rattle.sg_activity.proofs.Lookup.{told_alike}
 use Rattle.sg_activity.proofs.Told.{doing_same, made_same}
 use Rattle.sg_activity.proofs.Turned.{held_still}

@@ -5,13 +5,13 @@ use Rattle.sg_heap.specs.Agenda.{Key, key_at, with_slots}
 use Rattle.sg_lazy.specs.Lazily.{Lazily}
 use Rattle.sg_lazy.specs.RunningFlow.{RunningFlow, running_at}
 use Rattle.sg_activity.specs.declared.activity_state.Kept.{Kept}
-use Rattle.sg_lives.specs.declared.kinds.PhaseKind.TheVariants as phase
-use Rattle.sg_lives.specs.declared.lives.Live.{Live}
+use Rattle.sg_activity_table.specs.declared.kinds.PhaseKind.TheVariants as phase
+use Rattle.sg_activity_table.specs.declared.lives.Live.{Live}
 use Rattle.sg_activity.specs.Links.{Switches}
 use Rattle.sg_activity.specs.Task.{uses_off}
 use Rattle.sg_activity.specs.kept.Grows.{Grows}
 use Rattle.sg_activity.specs.kept.Hits.{AreHit, AreHits, hit_in, noted}
-use Rattle.sg_lives.specs.Pool.{slot_at}
+use Rattle.sg_activity_table.specs.Pool.{slot_at}
 use Rattle.sg_activity.specs.kept.Rows.{Indexed, IsRow, way_in}
 use Rattle.sg_activity.specs.kept.Renewal.{is_among, rate_in, restamped}
 use Rattle.sg_activity.specs.kept.Stamps.{left_at}

@@ -1,15 +1,15 @@
 -- Executions that are suspended and resumed.
 use Rattle.std.proofs.Common.{◌≡◌, ℕ, ◌-◌, ◌<◌, Bool, true, false, true≢false, cond, Option, Some, option_map, [], refl, sym, ap, ap₂, ◌∙◌}
-use Rattle.sg_lives.specs.declared.kinds.PhaseKind.{PhaseKind}
-use Rattle.sg_lives.specs.declared.kinds.PhaseKind.TheVariants as phase
-use Rattle.sg_lives.specs.declared.lives.Live.{Live}
-use Rattle.sg_lives.specs.Slots.{passes, serials}
+use Rattle.sg_activity_table.specs.declared.kinds.PhaseKind.{PhaseKind}
+use Rattle.sg_activity_table.specs.declared.kinds.PhaseKind.TheVariants as phase
+use Rattle.sg_activity_table.specs.declared.lives.Live.{Live}
+use Rattle.sg_activity_table.specs.Slots.{passes, serials}
 use Rattle.sg_activity.specs.Task.{of_kind, rekinded, task_at}
-use Rattle.sg_lives.specs.Kinds.{is_exec, is_held}
+use Rattle.sg_activity_table.specs.Kinds.{is_exec, is_held}
 use Rattle.sg_activity.specs.Underway.{gone_on, with_task}
 use Rattle.sg_activity.specs.Stamp.{anew}
 use Rattle.sg_activity.specs.Doing.{held_in, went_on_in}
-use Rattle.sg_lives.specs.Pool.{IsFound, IsMissing, slot_at}
+use Rattle.sg_activity_table.specs.Pool.{IsFound, IsMissing, slot_at}
 use Rattle.sg_activity.specs.kept.State.{State, task_of, stamp_of, is_dated, is_now, is_so, told_at, told_by, under_of, doing_of}
 use Rattle.sg_activity.specs.kept.Sound.{IsKept}
 use Rattle.sg_activity.specs.kept.Turns.{Turns}

@@ -6,9 +6,9 @@ use Rattle.sg_base.specs.declared.ids.LinkId.{LinkId}
 use Rattle.sg_lazy.specs.Lazily.{Lazily}
 use Rattle.sg_lazy.specs.RunningFlow.{RunningFlow, running_at}
 use Rattle.sg_activity.specs.declared.activity_state.Kept.{Kept}
-use Rattle.sg_lives.specs.declared.kinds.PhaseKind.{PhaseKind}
-use Rattle.sg_lives.specs.declared.kinds.PhaseKind.TheVariants as phase
-use Rattle.sg_lives.specs.declared.lives.Live.{Live}
+use Rattle.sg_activity_table.specs.declared.kinds.PhaseKind.{PhaseKind}
+use Rattle.sg_activity_table.specs.declared.kinds.PhaseKind.TheVariants as phase
+use Rattle.sg_activity_table.specs.declared.lives.Live.{Live}
 use Rattle.std.proofs.lemmas.List.{length-map, map-append}
 use Rattle.sg_activity.specs.Links.{Capacities}
 use Rattle.sg_activity.specs.Task.{Place, Way, over}
@@ -16,7 +16,7 @@ use Rattle.sg_activity.proofs.Routed.{all_cons}
 use Rattle.sg_activity.specs.kept.Grows.{Grows}
 use Rattle.sg_activity.specs.kept.Index.{IsIndexed, used_at, used_by}
 use Rattle.sg_activity.specs.kept.Rows.{Indexed, IsRow, IsWayRow, IsWider, link_of, row_at, way_in}
-use Rattle.sg_lives.specs.Pool.{slot_at}
+use Rattle.sg_activity_table.specs.Pool.{slot_at}
 use Rattle.sg_activity.specs.kept.Renewal.{is_among, rate_in, restamped}
 use Rattle.sg_activity.specs.kept.Sound.{IsPath, IsPlace}
 use Rattle.sg_activity.specs.kept.Stamps.{left_at}

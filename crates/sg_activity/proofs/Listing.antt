@@ -1,6 +1,6 @@
 -- Lists of what stands under each number, and what is found in them.
 use Rattle.std.proofs.Common.{◌≡◌, ◌≢◌, ℕ, zero, suc, ◌+◌, ◌<◌, ◌≤◌, min, ◌⊎◌, inl, inr, Bool, true, false, cond, Option, None, Some, List, [], ◌∷◌, ◌++◌, length, get_or, set, refl, sym, ap, ap₂, subst, ◌∙◌, arith, map}
-use Rattle.sg_lives.specs.Slots.{listed, passes, serials, sooner, soonest}
+use Rattle.sg_activity_table.specs.Slots.{listed, passes, serials, sooner, soonest}
 use Rattle.sg_activity.specs.Doing.{IsUpTo}
 use Rattle.sg_activity.proofs.Times.{sooner_cases}
 

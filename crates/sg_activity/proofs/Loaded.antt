@@ -6,25 +6,25 @@ use Rattle.std.proofs.lemmas.List.Sums.{sum_by-cons}
 use Rattle.sg_base.specs.declared.ids.LinkId.{LinkId}
 use Rattle.sg_maxmin.specs.Chained.{times, users_on}
 use Rattle.sg_activity.specs.declared.activity_state.Kept.{Kept}
-use Rattle.sg_lives.specs.declared.kinds.HostCap.{HostCap}
-use Rattle.sg_lives.specs.declared.kinds.PhaseKind.{PhaseKind}
-use Rattle.sg_lives.specs.declared.kinds.PhaseKind.TheVariants as phase
-use Rattle.sg_lives.specs.declared.lives.Live.{Live}
+use Rattle.sg_activity_table.specs.declared.kinds.HostCap.{HostCap}
+use Rattle.sg_activity_table.specs.declared.kinds.PhaseKind.{PhaseKind}
+use Rattle.sg_activity_table.specs.declared.kinds.PhaseKind.TheVariants as phase
+use Rattle.sg_activity_table.specs.declared.lives.Live.{Live}
 use Rattle.sg_activity.specs.Hosts.{IsHost, host_at, offer_of}
 use Rattle.sg_activity.specs.Laws.{IsHostOf}
 use Rattle.sg_activity.specs.Power.{is_there, load_by, loads, part_of_load}
-use Rattle.sg_lives.specs.Slots.{passes}
+use Rattle.sg_activity_table.specs.Slots.{passes}
 use Rattle.sg_activity.specs.Task.{Task}
-use Rattle.sg_lives.specs.Kinds.{takes_share}
+use Rattle.sg_activity_table.specs.Kinds.{takes_share}
 use Rattle.sg_activity.specs.Underway.{load, rate}
 use Rattle.sg_activity.specs.kept.Index.{used_at, used_by}
 use Rattle.sg_activity.specs.kept.Rows.{Indexed}
 use Rattle.sg_activity.specs.kept.Metered.{rate_of, rates_of, sum_of, total, with_one}
-use Rattle.sg_lives.specs.Pool.{slot_at}
+use Rattle.sg_activity_table.specs.Pool.{slot_at}
 use Rattle.sg_activity.specs.kept.Sound.{IsKept, IsSound}
 use Rattle.sg_activity.specs.kept.State.{State, links_at, place_of, serial_at, serial_in, state_of, task_of, told_at, under_of, ways_of}
 use Rattle.sg_activity.specs.kept.Whole.{IsUsed}
-use Rattle.sg_lives.proofs.Listed.{at_listed}
+use Rattle.sg_activity_table.proofs.Listed.{at_listed}
 use Rattle.sg_activity.proofs.Loads.{load_fits_lem}
 use Rattle.sg_activity.proofs.Lookup.{told_from}
 use Rattle.sg_activity.proofs.Pairing.{paired_sums, part, sum_by-there, there_within}

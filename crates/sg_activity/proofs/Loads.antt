@@ -11,15 +11,15 @@ use Rattle.sg_maxmin.proofs.Proved.{is_fair_lem}
 use Rattle.sg_maxmin.proofs.Sums.{sum_by_same, sum_by-filter}
 use Rattle.sg_lazy.specs.Touch.{touches}
 use Rattle.sg_lazy.proofs.Parts.{keeps_rate_lem}
-use Rattle.sg_lives.specs.declared.kinds.HostCap.{HostCap}
-use Rattle.sg_lives.specs.declared.kinds.LinkCap.{LinkCap}
+use Rattle.sg_activity_table.specs.declared.kinds.HostCap.{HostCap}
+use Rattle.sg_activity_table.specs.declared.kinds.LinkCap.{LinkCap}
 use Rattle.sg_activity.specs.Hosts.{host_at, offer_of}
 use Rattle.sg_activity.specs.Laws.{IsHostOf, IsSameHost, LoadFits, LoadIsItsOwn, PowerIsItsOwn, asked_of, asked_on}
 use Rattle.sg_activity.specs.Links.{Capacities, capacities_of, is_off, link_at}
 use Rattle.sg_activity.specs.Power.{is_there, load_by, loads, part_of_load, power_in}
-use Rattle.sg_lives.specs.Slots.{passes}
+use Rattle.sg_activity_table.specs.Slots.{passes}
 use Rattle.sg_activity.specs.Task.{Place, nowhere, on_host, over, Task, flow_at, flow_in, flow_of, flows}
-use Rattle.sg_lives.specs.Kinds.{pace, takes_share}
+use Rattle.sg_activity_table.specs.Kinds.{pace, takes_share}
 use Rattle.sg_activity.specs.Underway.{Underway, load, power_at, rate}
 use Rattle.sg_activity.proofs.Listing.{eq_cases, some_same}
 use Rattle.sg_activity.proofs.Pairing.{part, sum_by-there}

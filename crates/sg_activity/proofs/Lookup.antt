@@ -1,7 +1,7 @@
 -- The activity of an id.
 use Rattle.std.proofs.Common.{◌≡◌, ◌≢◌, ℕ, zero, suc, ◌+◌, ◌⊎◌, inl, inr, cond, eq-eqb, ne_eqb, Option, None, Some, option_map, option_and_then, List, [], ◌∷◌, refl, sym, ap, ◌∙◌, arith}
-use Rattle.sg_lives.specs.declared.lives.Live.{Live}
-use Rattle.sg_lives.specs.Pool.{slot_at, IsMissing}
+use Rattle.sg_activity_table.specs.declared.lives.Live.{Live}
+use Rattle.sg_activity_table.specs.Pool.{slot_at, IsMissing}
 use Rattle.sg_activity.specs.kept.State.{key_from, told_at}
 use Rattle.sg_activity.specs.kept.Sound.{AreApart}
 use Rattle.sg_activity.proofs.Listing.{some_same, eq_cases}

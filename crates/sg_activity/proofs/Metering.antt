@@ -7,25 +7,25 @@ use Rattle.sg_base.specs.MarkSet.{MarkSet, is_in, with_mark}
 use Rattle.sg_energy.specs.Meter.{Metered, energy_at, first_meter, meter_of, with_power}
 use Rattle.sg_energy.proofs.Metering.{set_is_past, set_power_is_used}
 use Rattle.sg_activity.specs.declared.activity_state.Kept.{Kept}
-use Rattle.sg_lives.specs.declared.kinds.PhaseKind.{PhaseKind}
-use Rattle.sg_lives.specs.declared.kinds.PhaseKind.TheVariants as phase
-use Rattle.sg_lives.specs.declared.lives.Live.{Live}
+use Rattle.sg_activity_table.specs.declared.kinds.PhaseKind.{PhaseKind}
+use Rattle.sg_activity_table.specs.declared.kinds.PhaseKind.TheVariants as phase
+use Rattle.sg_activity_table.specs.declared.lives.Live.{Live}
 use Rattle.sg_activity.specs.Doing.{Doing, ended_first, ended_in, later_in, settled_in}
 use Rattle.sg_activity.specs.Laws.{IsHostOf, IsSameHost}
 use Rattle.sg_activity.specs.Links.{Capacities}
 use Rattle.sg_activity.specs.Power.{is_there, loads}
-use Rattle.sg_lives.specs.Slots.{listed, passes}
+use Rattle.sg_activity_table.specs.Slots.{listed, passes}
 use Rattle.sg_activity.specs.Task.{Task, next_phase, rekinded}
-use Rattle.sg_lives.specs.Kinds.{is_exec, takes_share}
+use Rattle.sg_activity_table.specs.Kinds.{is_exec, takes_share}
 use Rattle.sg_activity.specs.Underway.{Underway, later, load, next_in, power_at, rate, used_later, with_task, work_of}
 use Rattle.sg_activity.specs.kept.Metered.{AreFirst, AreTold, IsMetered, energies, metered_in, noted}
 use Rattle.sg_activity.specs.kept.Sound.{IsKept, IsPlace}
-use Rattle.sg_lives.specs.Pool.{slot_at}
+use Rattle.sg_activity_table.specs.Pool.{slot_at}
 use Rattle.sg_activity.specs.kept.Stamps.{left_at}
 use Rattle.sg_activity.specs.kept.State.{State, links_at, place_of, state_of, task_of, under_of}
 use Rattle.sg_activity.specs.kept.Turns.{Turns}
 use Rattle.sg_activity.proofs.Elsewhere.{same_later, same_task}
-use Rattle.sg_lives.proofs.Listed.{at_listed, length-listed}
+use Rattle.sg_activity_table.proofs.Listed.{at_listed, length-listed}
 use Rattle.sg_activity.proofs.Listing.{bool_cases, eq_cases}
 use Rattle.sg_activity.proofs.Loads.{power_is_its_own_lem}
 use Rattle.sg_activity.proofs.Rates.{limits, task_there}

@@ -5,11 +5,11 @@ use Rattle.std.proofs.lemmas.List.Folds.{list_any-append}
 use Rattle.sg_base.specs.declared.ids.LinkId.{LinkId}
 use Rattle.sg_base.specs.MarkSet.{is_in, with_mark}
 use Rattle.sg_maxmin.specs.Chained.{times}
-use Rattle.sg_lives.specs.declared.kinds.HostCap.{HostCap}
-use Rattle.sg_lives.specs.declared.kinds.LinkCap.{LinkCap}
+use Rattle.sg_activity_table.specs.declared.kinds.HostCap.{HostCap}
+use Rattle.sg_activity_table.specs.declared.kinds.LinkCap.{LinkCap}
 use Rattle.sg_activity.specs.Hosts.{offer_of, host_at}
 use Rattle.sg_activity.specs.Links.{Capacities, at_bandwidth, at_speed, bound_of_link, capacities_of, link_at, route_bound, shared_of}
-use Rattle.sg_lives.specs.Slots.{sooner}
+use Rattle.sg_activity_table.specs.Slots.{sooner}
 use Rattle.sg_activity.specs.Task.{Place, nowhere, on_host, over, Task, flow_at}
 use Rattle.sg_activity.specs.kept.Bounds.{is_rebound_at}
 use Rattle.sg_activity.specs.kept.Index.{used_at}

@@ -13,17 +13,17 @@ use Rattle.sg_maxmin.proofs.Shares.{shares_same_lem}
 use Rattle.sg_maxmin.proofs.Held.{is_held_lem}
 use Rattle.sg_lazy.specs.RunningFlow.{RunningFlow, running_at, running_flows, flows_in}
 use Rattle.sg_lazy.specs.Work.{work}
-use Rattle.sg_lives.specs.declared.lives.Live.{Live}
+use Rattle.sg_activity_table.specs.declared.lives.Live.{Live}
 use Rattle.sg_activity.specs.Links.{Capacities, capacities_of}
-use Rattle.sg_lives.specs.Slots.{passes}
+use Rattle.sg_activity_table.specs.Slots.{passes}
 use Rattle.sg_activity.specs.Task.{Task, flow_in, flow_of, flows, task_at}
-use Rattle.sg_lives.specs.Kinds.{takes_share, pace, is_held}
+use Rattle.sg_activity_table.specs.Kinds.{takes_share, pace, is_held}
 use Rattle.sg_activity.specs.Underway.{rate, wait, wait_in, running_under, runnings, work_of}
 use Rattle.sg_activity.specs.kept.Stamps.{left_at}
-use Rattle.sg_lives.specs.Pool.{slot_at, IsMissing}
+use Rattle.sg_activity_table.specs.Pool.{slot_at, IsMissing}
 use Rattle.sg_activity.specs.kept.State.{State, task_of, asked_by, serial_in, serial_at, is_so, told_at, told_by, is_marked, changed_at, under_of}
 use Rattle.sg_activity.specs.kept.Sound.{IsFlowOf, IsKept, run_of}
-use Rattle.sg_lives.proofs.Listed.{length-listed, at_listed, past_listed}
+use Rattle.sg_activity_table.proofs.Listed.{length-listed, at_listed, past_listed}
 use Rattle.sg_activity.proofs.Listing.{some_same}
 use Rattle.sg_activity.proofs.Lookup.{Sought, told_found, told_from, told_missed}
 use Rattle.sg_activity.proofs.Pairing.{part, paired_sums, there_within, sum_by-there, sum_alike}

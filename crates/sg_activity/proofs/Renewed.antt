@@ -5,9 +5,9 @@ use Rattle.sg_base.specs.MarkSet.{is_in, with_mark}
 use Rattle.sg_heap.specs.Agenda.{Key, key_at}
 use Rattle.sg_lazy.specs.Lazily.{Lazily}
 use Rattle.sg_lazy.specs.RunningFlow.{RunningFlow, running_at}
-use Rattle.sg_lives.specs.declared.lives.Live.{Live}
-use Rattle.sg_lives.specs.Kinds.{takes_share}
-use Rattle.sg_lives.specs.Pool.{slot_at}
+use Rattle.sg_activity_table.specs.declared.lives.Live.{Live}
+use Rattle.sg_activity_table.specs.Kinds.{takes_share}
+use Rattle.sg_activity_table.specs.Pool.{slot_at}
 use Rattle.sg_activity.specs.kept.Stamps.{left_at}
 use Rattle.sg_activity.specs.kept.Renewal.{IsKeyed, rate_in, is_among, restamped, is_renewed, date_in}
 use Rattle.sg_activity.proofs.Listing.{eq_cases, some_same}

@@ -9,24 +9,24 @@ use Rattle.sg_maxmin.specs.Sharing.{HasLimit}
 use Rattle.sg_lazy.specs.Lazily.{Lazily, with_capacity, with_other_capacity}
 use Rattle.sg_lazy.specs.RunningFlow.{RunningFlow, is_same_bound, running_at}
 use Rattle.sg_activity.specs.declared.activity_state.Kept.{Kept}
-use Rattle.sg_lives.specs.declared.lives.Live.{Live}
+use Rattle.sg_activity_table.specs.declared.lives.Live.{Live}
 use Rattle.sg_activity.specs.Links.{Capacities, capacities_of, machines}
-use Rattle.sg_lives.specs.Slots.{listed, passes}
+use Rattle.sg_activity_table.specs.Slots.{listed, passes}
 use Rattle.sg_activity.specs.Task.{Task, flow_of}
-use Rattle.sg_lives.specs.Kinds.{takes_share}
+use Rattle.sg_activity_table.specs.Kinds.{takes_share}
 use Rattle.sg_activity.specs.Underway.{is_rebound, with_capacities}
 use Rattle.sg_activity.specs.kept.Index.{IsIndexed, used_at, used_by}
 use Rattle.sg_activity.specs.kept.Rows.{Indexed, row_at, way_in}
-use Rattle.sg_lives.specs.Pool.{slot_at}
+use Rattle.sg_activity_table.specs.Pool.{slot_at}
 use Rattle.sg_activity.specs.kept.Bounds.{HasFlows, Rebounds, Resets, is_rebound_at, rebound_to}
 use Rattle.sg_activity.specs.kept.Sound.{HasFlow, HasRoom, IsKept, IsPlace, IsSound, place_at, run_of}
 use Rattle.sg_activity.specs.kept.State.{State, asked_by, changed_at, changed_by, is_marked, is_so, place_of, task_from, links_at, state_of, task_of, told_at, told_by, under_of, ways_of}
 use Rattle.sg_activity.specs.kept.Whole.{IsUsed}
 use Rattle.sg_activity.proofs.Moved.{IsMoved, bound_moved, flow_bound, in_times, place_moved, rebound_moved, rebound_some, uses_moved, weight_moved, bound_at}
-use Rattle.sg_lives.proofs.Pooled.{within_there}
+use Rattle.sg_activity_table.proofs.Pooled.{within_there}
 use Rattle.sg_activity.proofs.Bounds.{some_is}
 use Rattle.sg_activity.proofs.Routed.{sooner_more}
-use Rattle.sg_lives.proofs.Listed.{at_listed, length-listed, same_listed}
+use Rattle.sg_activity_table.proofs.Listed.{at_listed, length-listed, same_listed}
 use Rattle.sg_activity.proofs.Listing.{map_listed}
 use Rattle.sg_activity.proofs.Lookup.{sought, told_found, told_missed}
 use Rattle.sg_activity.proofs.Told.{made_same, member_at}

@@ -1,10 +1,10 @@
 -- How many flows are to come, and how many uses of theirs.
 use Rattle.std.proofs.Common.{◌≡◌, ℕ, ◌+◌, ◌<◌, ◌≤◌, Option, None, Some, List, length, set, sum_by, ap, arith}
 use Rattle.std.proofs.lemmas.List.Sums.{sum_by-set, get_or-le-sum_by}
-use Rattle.sg_lives.specs.declared.lives.Live.{Live}
-use Rattle.sg_lives.specs.Pool.{slot_at, uses_ahead}
+use Rattle.sg_activity_table.specs.declared.lives.Live.{Live}
+use Rattle.sg_activity_table.specs.Pool.{slot_at, uses_ahead}
 use Rattle.sg_activity.specs.kept.Sound.{slot_ahead, slot_uses}
-use Rattle.sg_lives.specs.Kinds.{flows_ahead}
+use Rattle.sg_activity_table.specs.Kinds.{flows_ahead}
 
 pub ahead_set : (slots : List (Option Live)) (key : ℕ) (slot : Option Live) → key < length slots → sum_by slot_ahead (set slots key slot) + slot_ahead (slot_at slots key) ≡ sum_by slot_ahead slots + slot_ahead slot
 ahead_set slots key slot within = sum_by-set slot_ahead slots key slot None within

@@ -6,8 +6,8 @@ use Rattle.sg_base.specs.declared.ids.LinkId.{LinkId}
 use Rattle.sg_base.specs.Limits.{IsPriority}
 use Rattle.sg_maxmin.specs.Fill.{flow}
 use Rattle.sg_maxmin.specs.Sharing.{IsFlow}
-use Rattle.sg_lives.specs.declared.kinds.LinkCap.{LinkCap}
-use Rattle.sg_lives.specs.Slots.{sooner}
+use Rattle.sg_activity_table.specs.declared.kinds.LinkCap.{LinkCap}
+use Rattle.sg_activity_table.specs.Slots.{sooner}
 use Rattle.sg_activity.specs.Hosts.{offer_of}
 use Rattle.sg_activity.specs.Links.{Capacities, capacities_of, bound_of_link, link_at, route_bound, shared_of}
 use Rattle.sg_activity.specs.kept.Sound.{IsWay}

@@ -1,16 +1,16 @@
 -- Whether an activity is running.
 use Rattle.std.proofs.Common.{◌≡◌, ℕ, zero, suc, ◌+◌, ◌-◌, ◌==◌, ◌<◌, ◌≤◌, ◌⊎◌, inl, inr, Bool, true, false, true≢false, not, ◌||◌, count_by, Option, None, List, [], ◌∷◌, get_or, refl, sym, ap, ap₂, ◌∙◌, arith}
 use Rattle.std.specs.List.{list_any}
-use Rattle.sg_lives.specs.Slots.{passes}
-use Rattle.sg_lives.specs.Kinds.{is_held}
+use Rattle.sg_activity_table.specs.Slots.{passes}
+use Rattle.sg_activity_table.specs.Kinds.{is_held}
 use Rattle.sg_activity.specs.Task.{Task}
 use Rattle.sg_activity.specs.Underway.{is_running}
-use Rattle.sg_lives.specs.Pool.{goes_on}
+use Rattle.sg_activity_table.specs.Pool.{goes_on}
 use Rattle.sg_activity.specs.kept.State.{State, task_of, told_at, told_by, under_of}
 use Rattle.sg_activity.specs.kept.Sound.{IsKept}
-use Rattle.sg_lives.proofs.Listed.{at_listed, past_listed}
+use Rattle.sg_activity_table.proofs.Listed.{at_listed, past_listed}
 use Rattle.sg_activity.proofs.Lookup.{sought, told_found, told_missed}
-use Rattle.sg_lives.proofs.Pooled.{none_counts, some_counts}
+use Rattle.sg_activity_table.proofs.Pooled.{none_counts, some_counts}
 use Rattle.sg_activity.proofs.Rates.{task_there}
 
 any_none : (xs : List (Option Task)) → ((i : ℕ) → passes (λ (task : Task). not (is_held task.kind)) (get_or xs i None) ≡ false) → list_any (passes (λ (task : Task). not (is_held task.kind))) xs ≡ false

@@ -6,29 +6,29 @@ use Rattle.sg_heap.specs.Agenda.{Key, key_at}
 use Rattle.sg_maxmin.specs.Fill.{share_of}
 use Rattle.sg_lazy.specs.Lazily.{Lazily, IsSettled, DidChange}
 use Rattle.sg_lazy.specs.RunningFlow.{RunningFlow, running_at, flow_under, flows_in}
-use Rattle.sg_lives.specs.declared.lives.Live.{Live}
+use Rattle.sg_activity_table.specs.declared.lives.Live.{Live}
 use Rattle.sg_activity.specs.Links.{capacities_of}
 use Rattle.sg_activity.specs.Task.{Task}
-use Rattle.sg_lives.specs.Kinds.{takes_share}
+use Rattle.sg_activity_table.specs.Kinds.{takes_share}
 use Rattle.sg_activity.specs.Stamp.{Stamp, rerated, rerated_at, all_rerated}
 use Rattle.sg_activity.specs.Underway.{Underway, rate, with_rates_updated}
 use Rattle.sg_activity.specs.Doing.{settled_in}
 use Rattle.sg_activity.specs.kept.Stamps.{left_at}
-use Rattle.sg_lives.specs.Pool.{Pool, slot_at}
+use Rattle.sg_activity_table.specs.Pool.{Pool, slot_at}
 use Rattle.sg_activity.specs.kept.State.{State, links_at, task_from, task_of, stamp_of, asked_by, date_of, is_so, key_from, is_marked, told_at, told_by, changed_at, changed_by, under_of, doing_of}
 use Rattle.sg_activity.specs.kept.Sound.{IsHeld, AreApart, IsKept, slot_ahead, slot_uses, run_of}
 use Rattle.sg_activity.specs.kept.Renewal.{IsKeyed, HaveKeys, rate_in, is_among, restamped, is_renewed, AreRestamped, AreSmall, date_in, AreRenewed}
-use Rattle.sg_lives.proofs.Listed.{length-listed, same_listed}
+use Rattle.sg_activity_table.proofs.Listed.{length-listed, same_listed}
 use Rattle.sg_activity.proofs.Listing.{eq_cases, some_same}
-use Rattle.sg_lives.specs.Slots.{listed, passes}
+use Rattle.sg_activity_table.specs.Slots.{listed, passes}
 use Rattle.sg_activity.proofs.Stamps.{fresh_in_time}
 use Rattle.sg_activity.proofs.Lookup.{Sought, sought, told_alike, told_found, told_missed}
-use Rattle.sg_lives.specs.Pool.{IsMissing}
+use Rattle.sg_activity_table.specs.Pool.{IsMissing}
 use Rattle.sg_activity.proofs.Rates.{rate_told, task_missed}
 use Rattle.sg_activity.proofs.Stamping.{is_another, is_same, rerated_there}
 use Rattle.std.proofs.lemmas.List.{get_or_default}
 use Rattle.sg_activity.proofs.Pairing.{sum_alike}
-use Rattle.sg_lives.proofs.Pooled.{within_there}
+use Rattle.sg_activity_table.proofs.Pooled.{within_there}
 use Rattle.sg_activity.proofs.Told.{member_at, doing_same, made_same}
 
 mapped_false : (n : ℕ) (f : ℕ → Option Bool) → ((i : ℕ) → passes is_so (f i) ≡ false) → map (passes is_so) (listed n f) ≡ replicate n false

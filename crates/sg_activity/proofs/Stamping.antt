@@ -1,15 +1,15 @@
 -- The stamps of phases.
 use Rattle.std.proofs.Common.{◌≡◌, ◌≢◌, ℕ, ◌+◌, ◌-◌, ◌==◌, true, false, not, None, Some, List, option_and_then, option_map, get_or, eq-eqb, ne_eqb, refl, sym, ap, ◌∙◌, arith}
-use Rattle.sg_lives.specs.declared.lives.Live.{Live}
+use Rattle.sg_activity_table.specs.declared.lives.Live.{Live}
 use Rattle.sg_activity.specs.Doing.{HaveStamps, Doing}
 use Rattle.sg_activity.specs.Stamp.{rerated, rerated_at}
 use Rattle.sg_activity.specs.Task.{Task}
 use Rattle.sg_activity.specs.Underway.{rate}
 use Rattle.sg_activity.specs.kept.Metered.{metered_in}
-use Rattle.sg_lives.specs.Pool.{slot_at}
+use Rattle.sg_activity_table.specs.Pool.{slot_at}
 use Rattle.sg_activity.specs.kept.State.{State, task_of, told_at, told_by, stamp_of, under_of, doing_of}
 use Rattle.sg_activity.specs.kept.Sound.{IsKept}
-use Rattle.sg_lives.proofs.Listed.{at_listed, length-listed}
+use Rattle.sg_activity_table.proofs.Listed.{at_listed, length-listed}
 use Rattle.sg_activity.proofs.Lookup.{told_found, told_from}
 use Rattle.sg_activity.proofs.Rates.{rate_told, task_there}
 use Rattle.sg_activity.proofs.Told.{task_told}

@@ -4,9 +4,9 @@ use Rattle.std.specs.Int.{div_ceil}
 use Rattle.std.specs.Option.{IfSome}
 use Rattle.std.proofs.Math.Nat.{mul-le-mul_left}
 use Rattle.std.proofs.lemmas.Grind.{div_ceil_times}
-use Rattle.sg_lives.specs.declared.kinds.PhaseKind.{PhaseKind}
-use Rattle.sg_lives.specs.declared.kinds.PhaseKind.TheVariants as phase
-use Rattle.sg_lives.specs.Kinds.{is_held}
+use Rattle.sg_activity_table.specs.declared.kinds.PhaseKind.{PhaseKind}
+use Rattle.sg_activity_table.specs.declared.kinds.PhaseKind.TheVariants as phase
+use Rattle.sg_activity_table.specs.Kinds.{is_held}
 use Rattle.sg_activity.specs.Underway.{wait}
 use Rattle.sg_activity.specs.kept.Stamps.{left_at, due_of, LeftSteps, StampMoves, DueStays}
 

@@ -1,18 +1,18 @@
 -- The first that uses something that is off, and what contracts see of it.
 use Rattle.std.proofs.Common.{◌≡◌, ◌≢◌, ℕ, zero, suc, ◌+◌, ◌-◌, ◌==◌, ◌<◌, ◌≤◌, ◌⊎◌, inl, inr, Bool, true, false, cond, not, Option, None, Some, List, [], ◌∷◌, set, get_or, refl, sym, ap, ◌∙◌, arith}
 use Rattle.sg_heap.specs.Agenda.{Key, IsLeast, IsNoLater, key_at}
-use Rattle.sg_lives.specs.declared.lives.Live.{Live}
-use Rattle.sg_lives.specs.Slots.{passes, serials}
+use Rattle.sg_activity_table.specs.declared.lives.Live.{Live}
+use Rattle.sg_activity_table.specs.Slots.{passes, serials}
 use Rattle.sg_activity.specs.Task.{Task, is_hit, uses_off}
 use Rattle.sg_activity.specs.Underway.{hits, with_task}
 use Rattle.sg_activity.specs.Stamp.{anew}
 use Rattle.sg_activity.specs.Doing.{IsHit, without}
 use Rattle.sg_activity.specs.kept.Hits.{AreHits, hit_in}
-use Rattle.sg_lives.specs.Pool.{IsMissing, slot_at}
+use Rattle.sg_activity_table.specs.Pool.{IsMissing, slot_at}
 use Rattle.sg_activity.specs.kept.State.{State, links_at, task_of, stamp_of, is_now, is_so, told_at, told_by, under_of, doing_of}
 use Rattle.sg_activity.specs.kept.Sound.{IsKept, place_at}
 use Rattle.sg_activity.specs.kept.Turns.{Turns}
-use Rattle.sg_lives.proofs.Listed.{length-listed, at_listed, past_listed}
+use Rattle.sg_activity_table.proofs.Listed.{length-listed, at_listed, past_listed}
 use Rattle.sg_activity.proofs.Listing.{bool_cases, some_same, serials_none, serials_first}
 use Rattle.sg_activity.proofs.Lookup.{Sought, sought, told_found, told_missed}
 use Rattle.sg_activity.proofs.Rates.{task_there}

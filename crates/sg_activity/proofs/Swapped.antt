@@ -2,12 +2,12 @@
 use Rattle.std.proofs.Common.{◌≡◌, ℕ, ◌≤◌, inl, inr, Option, Some, List, length, length-set, set, sym, ap, ◌∙◌}
 use Rattle.sg_base.specs.declared.ids.LinkId.{LinkId}
 use Rattle.sg_heap.specs.Agenda.{Key}
-use Rattle.sg_lives.specs.declared.lives.Live.{Live}
+use Rattle.sg_activity_table.specs.declared.lives.Live.{Live}
 use Rattle.sg_activity.specs.Links.{Capacities, Switches}
 use Rattle.sg_activity.specs.kept.Hits.{AreHits, hit_in}
 use Rattle.sg_activity.specs.kept.Index.{IsIndexed, used_by}
 use Rattle.sg_activity.specs.kept.Rows.{Indexed}
-use Rattle.sg_lives.specs.Pool.{slot_at}
+use Rattle.sg_activity_table.specs.Pool.{slot_at}
 use Rattle.sg_activity.specs.kept.State.{links_at}
 use Rattle.sg_activity.proofs.Hitting.{hits_still}
 use Rattle.sg_activity.proofs.Indexing.{used_still}

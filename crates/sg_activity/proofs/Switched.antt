@@ -6,13 +6,13 @@ use Rattle.sg_base.specs.MarkSet.{is_in}
 use Rattle.sg_heap.specs.Agenda.{Key, key_at}
 use Rattle.sg_maxmin.specs.Chained.{users_on}
 use Rattle.sg_activity.specs.declared.activity_state.Kept.{Kept}
-use Rattle.sg_lives.specs.declared.lives.Live.{Live}
+use Rattle.sg_activity_table.specs.declared.lives.Live.{Live}
 use Rattle.sg_activity.specs.Links.{Switches, is_off}
 use Rattle.sg_activity.specs.Task.{Place, nowhere, on_host, over, uses_off}
 use Rattle.sg_activity.specs.kept.Hits.{AreHit, AreHits, AreLooked, AreOn, ArePlaced, hit_in}
 use Rattle.sg_activity.specs.kept.Index.{used_at}
 use Rattle.sg_activity.specs.kept.Rows.{Indexed}
-use Rattle.sg_lives.specs.Pool.{slot_at}
+use Rattle.sg_activity_table.specs.Pool.{slot_at}
 use Rattle.sg_activity.specs.kept.Sound.{HasRoom, IsKept, IsSound, place_at}
 use Rattle.sg_activity.specs.kept.State.{State, links_at, state_of, ways_of}
 use Rattle.sg_activity.proofs.Listing.{eq_cases}

@@ -6,20 +6,20 @@ use Rattle.sg_base.specs.declared.ids.LinkId.{LinkId}
 use Rattle.sg_base.specs.MarkSet.{is_in, with_mark}
 use Rattle.sg_maxmin.specs.Fill.{Flow}
 use Rattle.sg_lazy.specs.RunningFlow.{running_at}
-use Rattle.sg_lives.specs.declared.lives.Live.{Live}
+use Rattle.sg_activity_table.specs.declared.lives.Live.{Live}
 use Rattle.sg_activity.specs.Links.{Capacities, Switches}
-use Rattle.sg_lives.specs.Slots.{passes, serials}
+use Rattle.sg_activity_table.specs.Slots.{passes, serials}
 use Rattle.sg_activity.specs.Stamp.{Stamp, stamped, anew}
 use Rattle.sg_activity.specs.Task.{Task, flow_in, task_at}
-use Rattle.sg_lives.specs.Kinds.{pace, takes_share}
+use Rattle.sg_activity_table.specs.Kinds.{pace, takes_share}
 use Rattle.sg_activity.specs.Underway.{Underway, started, with_task}
 use Rattle.sg_activity.specs.Doing.{Doing, started_in, begun_in}
-use Rattle.sg_lives.specs.Pool.{slot_at}
+use Rattle.sg_activity_table.specs.Pool.{slot_at}
 use Rattle.sg_activity.specs.kept.Stamps.{left_at}
 use Rattle.sg_activity.specs.kept.State.{State, links_at, task_from, task_of, stamp_of, is_now, is_so, told_at, told_by, is_marked, changed_at, changed_by, under_of, doing_of}
 use Rattle.sg_activity.specs.kept.Sound.{IsKept}
 use Rattle.sg_activity.specs.kept.Turns.{Turns}
-use Rattle.sg_lives.proofs.Listed.{at_listed}
+use Rattle.sg_activity_table.proofs.Listed.{at_listed}
 use Rattle.sg_activity.proofs.Listing.{bool_cases}
 use Rattle.sg_activity.proofs.Turned.{told_here, told_gone, told_set, told_pushed, tasks_set, tasks_pushed, due_pushed, due_stays}
 

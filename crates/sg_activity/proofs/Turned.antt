@@ -5,17 +5,17 @@ use Rattle.sg_base.specs.MarkSet.{is_in}
 use Rattle.sg_heap.specs.Agenda.{key_at}
 use Rattle.sg_maxmin.specs.Sharing.{HasLimit}
 use Rattle.sg_lazy.specs.RunningFlow.{running_at}
-use Rattle.sg_lives.specs.declared.lives.Live.{Live}
+use Rattle.sg_activity_table.specs.declared.lives.Live.{Live}
 use Rattle.sg_activity.specs.Links.{Capacities}
-use Rattle.sg_lives.specs.Slots.{listed, passes, serials}
+use Rattle.sg_activity_table.specs.Slots.{listed, passes, serials}
 use Rattle.sg_activity.specs.Task.{flow_of}
-use Rattle.sg_lives.specs.Kinds.{takes_share}
-use Rattle.sg_lives.specs.Pool.{IsMissing, slot_at}
+use Rattle.sg_activity_table.specs.Kinds.{takes_share}
+use Rattle.sg_activity_table.specs.Pool.{IsMissing, slot_at}
 use Rattle.sg_activity.specs.kept.State.{State, links_at, place_of, task_from, task_of, asked_by, date_of, due_at, is_now, is_dated, is_so, told_at, told_by}
 use Rattle.sg_activity.specs.kept.Sound.{IsPlace, IsHeld, AreApart, IsKept, place_at}
 use Rattle.sg_activity.specs.kept.Turns.{Turns}
 use Rattle.std.specs.Option.{IfSome}
-use Rattle.sg_lives.proofs.Listed.{same_listed, set_listed, at_listed}
+use Rattle.sg_activity_table.proofs.Listed.{same_listed, set_listed, at_listed}
 use Rattle.sg_activity.proofs.Listing.{eq_cases, listed_more}
 use Rattle.sg_activity.proofs.Lookup.{told_found, told_missed, told_alike}
 use Rattle.sg_activity.proofs.Serials.{serials_push, serials_set}

@@ -3,9 +3,9 @@ use Rattle.std.specs.Prelude.{◌≡◌, ◌≢◌, ℕ, ◌+◌, ◌-◌, ◌*�
 use Rattle.sg_base.specs.declared.ids.LinkId.{LinkId}
 use Rattle.sg_base.specs.declared.memory.Memory.{Memory}
 use Rattle.sg_base.specs.Limits.{IsAmount}
-use Rattle.sg_lives.specs.declared.kinds.HostCap.{HostCap}
-use Rattle.sg_lives.specs.declared.kinds.LinkCap.{LinkCap}
-use Rattle.sg_lives.specs.declared.kinds.Phase.{Phase}
+use Rattle.sg_activity_table.specs.declared.kinds.HostCap.{HostCap}
+use Rattle.sg_activity_table.specs.declared.kinds.LinkCap.{LinkCap}
+use Rattle.sg_activity_table.specs.declared.kinds.Phase.{Phase}
 use Rattle.sg_activity.specs.Links.{machines}
 use Rattle.sg_activity.specs.Stamp.{Stamp, stamped, anew, all_rerated}
 use Rattle.sg_activity.specs.Task.{Task, Way, phase_after, task_at}

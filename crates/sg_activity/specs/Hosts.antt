@@ -1,7 +1,7 @@
 -- Hosts as resources, and their power.
 use Rattle.std.specs.Prelude.{ℕ, ◌*◌, ◌≤◌, ◌^◌, None, IfSome, List, slice_index_or}
-use Rattle.sg_lives.specs.declared.kinds.HostCap.{HostCap}
-use Rattle.sg_lives.specs.declared.kinds.Power.{Power}
+use Rattle.sg_activity_table.specs.declared.kinds.HostCap.{HostCap}
+use Rattle.sg_activity_table.specs.declared.kinds.Power.{Power}
 
 -- a thousand kilowatts at most, and at full load no less than at the least load
 pub record IsPower (power : Power) : Type 0 where

@@ -1,10 +1,10 @@
 -- Links: what their flows share, and what bounds each flow.
 use Rattle.std.specs.Prelude.{ℕ, ◌+◌, ◌≤◌, ◌^◌, ◌++◌, not, Bool, true, Option, None, Some, false, if◌then◌else◌, List, [], ◌∷◌, map, filter, slice_index_or, slice_set}
 use Rattle.sg_base.specs.declared.ids.LinkId.{LinkId}
-use Rattle.sg_lives.specs.declared.kinds.HostCap.{HostCap}
-use Rattle.sg_lives.specs.declared.kinds.LinkCap.{LinkCap}
+use Rattle.sg_activity_table.specs.declared.kinds.HostCap.{HostCap}
+use Rattle.sg_activity_table.specs.declared.kinds.LinkCap.{LinkCap}
 use Rattle.sg_activity.specs.Hosts.{host_at, offer_of}
-use Rattle.sg_lives.specs.Slots.{sooner}
+use Rattle.sg_activity_table.specs.Slots.{sooner}
 
 -- its bandwidth keeps to its limit
 abbrev pub IsLink : LinkCap → Type 0

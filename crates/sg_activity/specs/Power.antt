@@ -1,9 +1,9 @@
 -- What hosts take, by their load.
 use Rattle.std.specs.Prelude.{ℕ, ◌+◌, ◌-◌, ◌*◌, ◌/◌, ◌==◌, ◌&&◌, Bool, false, Option, None, Some, if◌then◌else◌, List, sum_by}
 use Rattle.std.specs.List.{list_any}
-use Rattle.sg_lives.specs.declared.kinds.Power.{Power}
-use Rattle.sg_lives.specs.Kinds.{takes_share}
-use Rattle.sg_lives.specs.Slots.{passes}
+use Rattle.sg_activity_table.specs.declared.kinds.Power.{Power}
+use Rattle.sg_activity_table.specs.Kinds.{takes_share}
+use Rattle.sg_activity_table.specs.Slots.{passes}
 use Rattle.sg_activity.specs.Task.{Place, nowhere, on_host, over, Task}
 
 -- whether this is the host

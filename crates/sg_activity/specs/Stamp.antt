@@ -1,8 +1,8 @@
 -- What was left of phases at which date, and how fast they went from then on.
 use Rattle.std.specs.Prelude.{ℕ, ◌+◌, ◌-◌, ◌==◌, ◌&&◌, not, Option, None, option_and_then, option_map, if◌then◌else◌, List, length, slice_index_or, slice_set}
-use Rattle.sg_lives.specs.Slots.{listed}
+use Rattle.sg_activity_table.specs.Slots.{listed}
 use Rattle.sg_activity.specs.Task.{Task, task_at}
-use Rattle.sg_lives.specs.Kinds.{pace, takes_share}
+use Rattle.sg_activity_table.specs.Kinds.{pace, takes_share}
 use Rattle.sg_activity.specs.Underway.{Underway, rate}
 
 -- what was left of a phase at a date, and how much a nanosecond takes of it from then on

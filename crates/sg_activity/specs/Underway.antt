@@ -8,12 +8,12 @@ use Rattle.sg_lazy.specs.RunningFlow.{RunningFlow, is_same_bound}
 use Rattle.sg_lazy.specs.Work.{work}
 use Rattle.sg_activity.specs.Hosts.{host_at, offer_of}
 use Rattle.sg_activity.specs.Links.{Capacities, Switches, capacities_of, is_off, at_speed, at_bandwidth}
-use Rattle.sg_lives.specs.Slots.{soonest, passes, serials, is_over_after, listed}
-use Rattle.sg_lives.specs.declared.kinds.PhaseKind.{PhaseKind}
-use Rattle.sg_lives.specs.declared.kinds.PhaseKind.TheVariants as phase
+use Rattle.sg_activity_table.specs.Slots.{soonest, passes, serials, is_over_after, listed}
+use Rattle.sg_activity_table.specs.declared.kinds.PhaseKind.{PhaseKind}
+use Rattle.sg_activity_table.specs.declared.kinds.PhaseKind.TheVariants as phase
 use Rattle.sg_activity.specs.Power.{load_by, power_in}
 use Rattle.sg_activity.specs.Task.{Task, flow_in, flow_of, flows, is_hit, task_at, of_kind, rekinded}
-use Rattle.sg_lives.specs.Kinds.{is_exec, is_held, pace, takes_share}
+use Rattle.sg_activity_table.specs.Kinds.{is_exec, is_held, pace, takes_share}
 
 -- What changed since the rates were brought up to date: by activity id whether the running phase began, or has another bound; what those asked for that ended; and the numbers of the resources whose capacity changed.
 pub record Marks : Type 0 where

@@ -1,10 +1,10 @@
 //! What `Activities` keeps.
 use crate::index::Index;
 use arrayvec::ArrayVec;
+use sg_activity_table::{HostCap, LinkCap, Lives};
 use sg_base::{LinkId, Marks};
 use sg_heap::Agenda;
 use sg_lazy::Lazy;
-use sg_lives::{HostCap, LinkCap, Lives};
 
 #[derive(Drop)]
 pub(crate) struct Kept {

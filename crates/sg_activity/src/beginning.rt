@@ -1,7 +1,7 @@
 //! What `Activities` keeps at first.
 
 ghost use Rattle.std.specs.Prelude.{◌≡◌, ◌++◌, [], true, All, IfOk, OnOk, length, map};
-ghost use Rattle.sg_lives.specs.declared.kinds.LinkCap.{LinkCap};
+ghost use Rattle.sg_activity_table.specs.declared.kinds.LinkCap.{LinkCap};
 ghost use Rattle.sg_activity.specs.Hosts.{IsHost, offer_of};
 ghost use Rattle.sg_activity.specs.Links.{IsLink};
 ghost use Rattle.sg_activity.specs.kept.Whole.{AreIdle};
@@ -9,10 +9,10 @@ ghost use Rattle.sg_activity.specs.kept.Whole.{AreIdle};
 use crate::activity_state::Kept;
 use crate::index::Index;
 use arrayvec::ArrayVec;
+use sg_activity_table::{HostCap, LinkCap, Lives};
 use sg_base::{Marks, Memory};
 use sg_heap::Agenda;
 use sg_lazy::Lazy;
-use sg_lives::{HostCap, LinkCap, Lives};
 use sg_maxmin::System;
 use std::alloc::Global;
 

@@ -12,7 +12,7 @@ ghost use Rattle.sg_activity.specs.kept.Whole.{IsUsed};
 
 use crate::activity_state::Kept;
 use crate::routes::{bound_of, tighter, way_of};
-use sg_lives::{HostCap, LinkCap, Live, PhaseKind, takes_share};
+use sg_activity_table::{HostCap, LinkCap, Live, PhaseKind, takes_share};
 
 // Returns what bounds the activity under a key, as its host or the links of its route are now.
 fn bound_now(kept: &Kept, key: usize, live: &Live) -> Option<u64>

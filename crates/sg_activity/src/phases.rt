@@ -1,7 +1,7 @@
 //! Phases that complete, and their ends, and suspended executions.
 
 ghost use Rattle.std.specs.Prelude.{List, MatchOption, None, Option, Some};
-ghost use Rattle.sg_lives.specs.declared.kinds.PhaseKind.TheVariants as phase;
+ghost use Rattle.sg_activity_table.specs.declared.kinds.PhaseKind.TheVariants as phase;
 ghost use Rattle.sg_activity.specs.kept.State.{state_of, task_of};
 ghost use Rattle.sg_activity.specs.Task.{next_phase, rekinded};
 ghost use Rattle.sg_heap.specs.Agenda.{Key};
@@ -14,8 +14,8 @@ ghost use Rattle.sg_activity.specs.kept.Asks.{AreKnown, CanEnd, IsHeldAt, IsPhas
 use crate::activity_state::Kept;
 use crate::renewal::left_at;
 use crate::routes::{bound_of, tighter, write_uses, write_way};
+use sg_activity_table::{Live, PhaseKind, flows_ahead, takes_share, uses_ahead};
 use sg_heap::Agenda;
-use sg_lives::{Live, PhaseKind, flows_ahead, takes_share, uses_ahead};
 
 /// Returns the activity whose phase completes first, and its key.
 pub(crate) fn first_due(kept: &Kept) -> Option<(usize, Live)>

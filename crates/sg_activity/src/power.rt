@@ -6,18 +6,18 @@ ghost use Rattle.sg_maxmin.specs.Chained.{users_on};
 ghost use Rattle.sg_energy.specs.Meter.{meter_of, with_power};
 ghost use Rattle.sg_activity.specs.Hosts.{IsPower, host_at, offer_of};
 ghost use Rattle.sg_activity.specs.Power.{power_by as power_by_spec};
-ghost use Rattle.sg_lives.specs.Kinds.{is_exec};
+ghost use Rattle.sg_activity_table.specs.Kinds.{is_exec};
 ghost use Rattle.sg_activity.specs.Underway.{load as load_spec, power_at};
 ghost use Rattle.sg_activity.specs.kept.Metered.{AreFirst, AreTold, IsMetered, noted, rate_of, rates_of, sum_of, total, with_one};
-ghost use Rattle.sg_lives.specs.Pool.{slot_at};
+ghost use Rattle.sg_activity_table.specs.Pool.{slot_at};
 ghost use Rattle.sg_activity.specs.kept.State.{state_of, under_of};
 ghost use Rattle.sg_activity.specs.kept.Whole.{CanTell};
 ghost use Rattle.sg_activity.specs.kept.Asks.{CanMeter, CanTellOf};
 
 use crate::activity_state::Kept;
+use sg_activity_table::{Live, PhaseKind, Power, takes_share};
 use sg_base::{Marks, Memory, PointId};
 use sg_energy::Meter;
-use sg_lives::{Live, PhaseKind, Power, takes_share};
 use std::alloc::Global;
 
 // Returns the sum with the rate of the activity under a key, if it takes a share.

@@ -7,10 +7,10 @@ ghost use Rattle.sg_activity.specs.kept.Stamps.{due_of as due_of_spec, left_at a
 ghost use Rattle.sg_activity.specs.kept.Renewal.{AreRestamped, AreRenewed, AreSmall, HaveKeys, IsSmall};
 ghost use Rattle.sg_activity.specs.kept.State.{date_of, due_at};
 
+use sg_activity_table::{Live, Lives, PhaseKind};
 use sg_base::{Marks, Serial};
 use sg_heap::Agenda;
 use sg_lazy::Lazy;
-use sg_lives::{Live, Lives, PhaseKind};
 
 // Returns the quotient, rounded up. Most amounts are small, and short division is several times as fast.
 fn span_of(left: u128, rate: u64) -> u128

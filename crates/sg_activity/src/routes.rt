@@ -2,7 +2,7 @@
 
 ghost use Rattle.std.specs.Prelude.{◌≡◌, ◌+◌, ◌-◌, ◌<◌, ◌≤◌, ◌^◌, [], ◌∷◌, ◌++◌, All, length};
 ghost use Rattle.sg_base.specs.declared.ids.LinkId.{LinkId};
-ghost use Rattle.sg_lives.specs.Slots.{sooner};
+ghost use Rattle.sg_activity_table.specs.Slots.{sooner};
 ghost use Rattle.sg_activity.specs.Task.{over};
 ghost use Rattle.sg_activity.specs.kept.Index.{used_at};
 ghost use Rattle.sg_activity.specs.kept.Rows.{IsWayRow, link_of, row_at, way_in};
@@ -10,8 +10,8 @@ ghost use Rattle.sg_activity.specs.Links.{bound_of_link, route_bound, shared_of}
 
 use crate::index::Index;
 use arrayvec::ArrayVec;
+use sg_activity_table::LinkCap;
 use sg_base::LinkId;
-use sg_lives::LinkCap;
 
 /// Returns the less of two bounds.
 pub(crate) fn tighter(bound: Option<u64>, other: Option<u64>) -> Option<u64>

@@ -7,7 +7,7 @@ ghost use Rattle.sg_maxmin.specs.Chained.{users_on};
 ghost use Rattle.sg_activity.specs.Links.{is_off};
 ghost use Rattle.sg_activity.specs.Task.{is_cut, uses_off as uses_off_spec};
 ghost use Rattle.sg_activity.specs.kept.Hits.{AreLooked, AreSwitches, hit_in, noted};
-ghost use Rattle.sg_lives.specs.Pool.{slot_at};
+ghost use Rattle.sg_activity_table.specs.Pool.{slot_at};
 ghost use Rattle.sg_activity.specs.kept.Sound.{place_at};
 ghost use Rattle.sg_activity.specs.kept.State.{links_at, state_of, ways_of};
 ghost use Rattle.sg_activity.specs.kept.Whole.{CanSwitch};
@@ -15,9 +15,9 @@ ghost use Rattle.sg_activity.specs.kept.Asks.{CanLook, IsPlacedAt, IsSwitched};
 
 use crate::activity_state::Kept;
 use crate::routes::way_of;
+use sg_activity_table::{Live, PhaseKind};
 use sg_base::{LinkId, Serial};
 use sg_heap::Agenda;
-use sg_lives::{Live, PhaseKind};
 
 // Returns whether one of the links is off.
 fn any_off(on: &[bool], links: &[LinkId]) -> bool

@@ -11,17 +11,17 @@ use Rattle.std.proofs.lemmas.List.Sums.{AllPass-from_list_all}
 use Rattle.std.proofs.lemmas.Option.{same_Some}
 use Rattle.std.proofs.lemmas.Slice.Eq.{bytes_eq-Decides}
 use Rattle.sg_base.specs.declared.ids.ActorId.{ActorId}
-use Rattle.sg_rows.specs.Deployment.{Deployed, extent_of, is_replay, members_among, replay_actor_named, replay_names}
-use Rattle.sg_rows.specs.Index.{number_by}
-use Rattle.sg_rows.specs.kept.Finds.{numbered_names}
-use Rattle.sg_rows.specs.declared.rows.ActorRow.{ActorRow}
-use Rattle.sg_rows.specs.declared.rows.Function.{Function}
-use Rattle.sg_rows.specs.declared.rows.Function.TheVariants.{Replay, Worker, Master, Churn}
-use Rattle.sg_rows.proofs.MemberIds.{members_exist}
+use Rattle.sg_platform_rows.specs.Deployment.{Deployed, extent_of, is_replay, members_among, replay_actor_named, replay_names}
+use Rattle.sg_platform_rows.specs.Index.{number_by}
+use Rattle.sg_platform_rows.specs.kept.Finds.{numbered_names}
+use Rattle.sg_platform_rows.specs.declared.rows.ActorRow.{ActorRow}
+use Rattle.sg_platform_rows.specs.declared.rows.Function.{Function}
+use Rattle.sg_platform_rows.specs.declared.rows.Function.TheVariants.{Replay, Worker, Master, Churn}
+use Rattle.sg_platform_rows.proofs.MemberIds.{members_exist}
 use Rattle.sg_script.specs.Known.{known_in}
-use Rattle.sg_tree.specs.Along.{along}
-use Rattle.sg_tree.specs.NameSpaces.{with_number}
-use Rattle.sg_tree.specs.Spelling.{is_name, is_name_byte}
+use Rattle.sg_toml_tree.specs.Along.{along}
+use Rattle.sg_toml_tree.specs.NameSpaces.{with_number}
+use Rattle.sg_toml_tree.specs.Spelling.{is_name, is_name_byte}
 use Rattle.sg_collective_laws.specs.Expanded.{HasNames, name_of, row_name}
 use Rattle.sg_collective_laws.proofs.Kept.{IsKnown}
 use Rattle.sg_collective_laws.proofs.Reading.{AreNamed, IsNamed}

@@ -6,9 +6,9 @@ use Rattle.sg_engine.specs.Run.{Progress}
 use Rattle.sg_engine.specs.declared.ended.Ended.{Ended}
 use Rattle.sg_engine.specs.declared.ended.Ended.TheVariants as ended
 use Rattle.sg_engine.specs.declared.show.Show.{Show}
-use Rattle.sg_calls.specs.World.{Core}
-use Rattle.sg_rows.specs.Deployment.{Deployed}
-use Rattle.sg_rows.specs.Platform.{Platform}
+use Rattle.sg_kernel_calls.specs.World.{Core}
+use Rattle.sg_platform_rows.specs.Deployment.{Deployed}
+use Rattle.sg_platform_rows.specs.Platform.{Platform}
 use Rattle.sg_collective_laws.specs.Alike.{WriteAlike, unnumbered, unnumbered_end}
 
 end_unnumbered : (how : Option Ended) → unnumbered_end (unwrap_or how ended.Budget) ≡ unwrap_or (option_map unnumbered_end how) ended.Budget

@@ -12,30 +12,30 @@ use Rattle.sg_base.specs.declared.ids.ActorId.{ActorId}
 use Rattle.sg_platform.specs.Build.{actor_row}
 use Rattle.sg_platform.specs.DeploymentOf.{deployment_of, names_on, deployment_rows}
 use Rattle.sg_platform.specs.PlatformOf.{greatest_text, too_long, tree_by}
-use Rattle.sg_rows.specs.Deployment.{Deployed, is_replay, member_ids, members_among, replay_actor_named, replay_names}
-use Rattle.sg_rows.specs.Index.{number_by}
-use Rattle.sg_rows.specs.kept.Finds.{numbered_names}
-use Rattle.sg_rows.specs.Platform.{Platform}
-use Rattle.sg_rows.specs.declared.rows.ActorRow.{ActorRow}
-use Rattle.sg_rows.specs.declared.rows.Function.{Function}
-use Rattle.sg_rows.specs.declared.rows.Function.TheVariants.{Replay, Worker, Master, Churn}
-use Rattle.sg_rules.proofs.Kept.{KeysKept, not_false, required_text, unbroken}
-use Rattle.sg_rules.proofs.FaultParts.{key_faults, row_faults_at}
-use Rattle.sg_rules.specs.Faults.{faults_of, row_faults, rows_before, table_faults}
-use Rattle.sg_tree.specs.Names.{Known, known_by}
-use Rattle.sg_rules.specs.Rules.{id_kinds, is_below, key_kinds}
-use Rattle.sg_tables.specs.Tables.{deployment_tables, keys_of}
-use Rattle.sg_tables.specs.declared.tables.Key.{Key}
-use Rattle.sg_tables.specs.declared.tables.TextRule.TheVariants as text_rule
-use Rattle.sg_tables.specs.declared.tables.Table.TheVariants.{Actor}
-use Rattle.sg_tree.proofs.Kept.{empty_at, empty_left, empty_right, none_empty}
-use Rattle.sg_tree.specs.Along.{along, first}
-use Rattle.sg_tree.specs.NameSpaces.{numbered, texts_at, with_number}
-use Rattle.sg_tree.specs.Spelling.{is_name}
-use Rattle.sg_tree.specs.Tree.{rows_at, text_at, tree_of}
-use Rattle.sg_tree.specs.declared.fault.Fault.{Fault}
-use Rattle.sg_tree.specs.declared.fault.Kind.TheVariants.{BadName, Duplicate}
-use Rattle.sg_tree.specs.kept.Data.{Row, Tree}
+use Rattle.sg_platform_rows.specs.Deployment.{Deployed, is_replay, member_ids, members_among, replay_actor_named, replay_names}
+use Rattle.sg_platform_rows.specs.Index.{number_by}
+use Rattle.sg_platform_rows.specs.kept.Finds.{numbered_names}
+use Rattle.sg_platform_rows.specs.Platform.{Platform}
+use Rattle.sg_platform_rows.specs.declared.rows.ActorRow.{ActorRow}
+use Rattle.sg_platform_rows.specs.declared.rows.Function.{Function}
+use Rattle.sg_platform_rows.specs.declared.rows.Function.TheVariants.{Replay, Worker, Master, Churn}
+use Rattle.sg_toml_rules.proofs.Kept.{KeysKept, not_false, required_text, unbroken}
+use Rattle.sg_toml_rules.proofs.FaultParts.{key_faults, row_faults_at}
+use Rattle.sg_toml_rules.specs.Faults.{faults_of, row_faults, rows_before, table_faults}
+use Rattle.sg_toml_tree.specs.Names.{Known, known_by}
+use Rattle.sg_toml_rules.specs.Rules.{id_kinds, is_below, key_kinds}
+use Rattle.sg_toml_keys.specs.Tables.{deployment_tables, keys_of}
+use Rattle.sg_toml_keys.specs.declared.tables.Key.{Key}
+use Rattle.sg_toml_keys.specs.declared.tables.TextRule.TheVariants as text_rule
+use Rattle.sg_toml_keys.specs.declared.tables.Table.TheVariants.{Actor}
+use Rattle.sg_toml_tree.proofs.Kept.{empty_at, empty_left, empty_right, none_empty}
+use Rattle.sg_toml_tree.specs.Along.{along, first}
+use Rattle.sg_toml_tree.specs.NameSpaces.{numbered, texts_at, with_number}
+use Rattle.sg_toml_tree.specs.Spelling.{is_name}
+use Rattle.sg_toml_tree.specs.Tree.{rows_at, text_at, tree_of}
+use Rattle.sg_toml_tree.specs.declared.fault.Fault.{Fault}
+use Rattle.sg_toml_tree.specs.declared.fault.Kind.TheVariants.{BadName, Duplicate}
+use Rattle.sg_toml_tree.specs.kept.Data.{Row, Tree}
 use Rattle.sg_collective_laws.specs.Expanded.{HasNames, name_of, row_name}
 use Rattle.sg_collective_laws.specs.Laws.{TextsHaveNames}
 

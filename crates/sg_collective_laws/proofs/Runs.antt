@@ -9,11 +9,11 @@ use Rattle.sg_engine.specs.World.{World}
 use Rattle.sg_engine.specs.declared.ended.Ended.{Ended}
 use Rattle.sg_engine.specs.declared.ended.Ended.TheVariants as ended
 use Rattle.sg_activity.specs.Underway.{work_of}
-use Rattle.sg_calls.specs.Calls.{answered}
+use Rattle.sg_kernel_calls.specs.Calls.{answered}
 use Rattle.sg_kernel.specs.Passes.{pass_of}
-use Rattle.sg_calls.specs.Setup.{Setup}
-use Rattle.sg_calls.specs.World.{state_of}
-use Rattle.sg_states.specs.Actors.{is_ended}
+use Rattle.sg_kernel_calls.specs.Setup.{Setup}
+use Rattle.sg_kernel_calls.specs.World.{state_of}
+use Rattle.sg_actor_states.specs.Actors.{is_ended}
 use Rattle.sg_script.specs.Fetched.{fetches_of, one_more}
 use Rattle.sg_script.specs.declared.fault.ScriptFault.{ScriptFault}
 use Rattle.sg_script.specs.declared.fault.ScriptFault.TheVariants as fault

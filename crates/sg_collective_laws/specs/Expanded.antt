@@ -3,14 +3,14 @@ use Rattle.std.specs.Prelude.{◌≡◌, ◌-◌, ℕ, Bool, IsTrue, All, true, 
 use Rattle.std.specs.List.{join_with_byte, slice_get, slice_split}
 use Rattle.sg_base.specs.declared.ids.ActorId.{ActorId}
 use Rattle.sg_edge.specs.Sources.{Source}
-use Rattle.sg_rows.specs.Deployment.{Deployed, members_among, replay_actor_named}
-use Rattle.sg_rows.specs.declared.rows.ActorRow.{ActorRow}
+use Rattle.sg_platform_rows.specs.Deployment.{Deployed, members_among, replay_actor_named}
+use Rattle.sg_platform_rows.specs.declared.rows.ActorRow.{ActorRow}
 use Rattle.sg_script.specs.Answer.{is_newline, lines_among}
 use Rattle.sg_script.specs.Known.{ScriptNames, known_in}
 use Rattle.sg_script.specs.Line.{Judgement, line_judgement}
 use Rattle.sg_script.specs.declared.operation.Operation.{Operation}
 use Rattle.sg_script.specs.declared.operation.Operation.TheVariants.{Alone, Together}
-use Rattle.sg_tree.specs.Spelling.{is_name}
+use Rattle.sg_toml_tree.specs.Spelling.{is_name}
 use Rattle.sg_collective_laws.specs.Written.{Naming, expansion_lines}
 
 -- ---- one line

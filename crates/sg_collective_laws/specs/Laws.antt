@@ -6,8 +6,8 @@ use Rattle.sg_engine.specs.Run.{Answering, Scene, run_of}
 use Rattle.sg_engine.specs.World.{World}
 use Rattle.sg_engine.specs.declared.show.Show.{Show}
 use Rattle.sg_platform.specs.DeploymentOf.{deployment_of}
-use Rattle.sg_rows.specs.Deployment.{Deployed}
-use Rattle.sg_rows.specs.Platform.{Platform}
+use Rattle.sg_platform_rows.specs.Deployment.{Deployed}
+use Rattle.sg_platform_rows.specs.Platform.{Platform}
 use Rattle.sg_script.specs.Answer.{answer_of}
 use Rattle.sg_script.specs.Known.{known_in}
 use Rattle.sg_collective_laws.specs.Alike.{AnswerAlike, WriteAlike, unnumbered}

@@ -7,13 +7,13 @@ use Rattle.sg_base.specs.declared.trace_record.Record.{Record}
 use Rattle.sg_base.specs.Mind.{Mind}
 use Rattle.sg_edge.specs.Files.{PartView}
 use Rattle.sg_edge.specs.declared.files.Stage.TheVariants.{Fresh, Broken}
-use Rattle.sg_calls.specs.Setup.{Setup}
-use Rattle.sg_calls.specs.World.{Core}
+use Rattle.sg_kernel_calls.specs.Setup.{Setup}
+use Rattle.sg_kernel_calls.specs.World.{Core}
 use Rattle.sg_engine.specs.World.{World}
-use Rattle.sg_calls.specs.Calls.{told}
-use Rattle.sg_calls.specs.Steps.{Step}
-use Rattle.sg_calls.specs.Known.{Known, after}
-use Rattle.sg_rows.specs.Deployment.{Deployed}
+use Rattle.sg_kernel_calls.specs.Calls.{told}
+use Rattle.sg_kernel_calls.specs.Steps.{Step}
+use Rattle.sg_kernel_calls.specs.Known.{Known, after}
+use Rattle.sg_platform_rows.specs.Deployment.{Deployed}
 use Rattle.sg_route.specs.Roads.{Roads}
 use Rattle.sg_script.specs.Fetched.{fetches_of, one_more}
 use Rattle.sg_script.specs.Answer.{answer_of}

@@ -12,10 +12,10 @@ use Rattle.sg_base.specs.Mind.{Mind, IsMind}
 use Rattle.sg_base.specs.declared.call.Answer.TheVariants.{Start}
 use Rattle.sg_base.specs.declared.call.Call.TheVariants.{Ask}
 use Rattle.sg_actor.specs.Roles.{CanCast, IsRole}
-use Rattle.sg_rows.specs.Deployment.{IsFunction, starts}
-use Rattle.sg_rows.specs.declared.rows.ActorRow.{ActorRow}
-use Rattle.sg_rows.specs.declared.rows.Function.{Function}
-use Rattle.sg_rows.specs.declared.rows.Function.TheVariants.{Replay, Worker, Master, Churn}
+use Rattle.sg_platform_rows.specs.Deployment.{IsFunction, starts}
+use Rattle.sg_platform_rows.specs.declared.rows.ActorRow.{ActorRow}
+use Rattle.sg_platform_rows.specs.declared.rows.Function.{Function}
+use Rattle.sg_platform_rows.specs.declared.rows.Function.TheVariants.{Replay, Worker, Master, Churn}
 use Rattle.sg_engine.specs.Roles.{mind_at, role_of}
 use Rattle.sg_engine.specs.kept.Listed.{first_mind, minds_from}
 use Rattle.sg_engine.specs.kept.SeatRules.{mind_in, minds_of, IsSeated}

@@ -11,22 +11,22 @@ use Rattle.sg_base.specs.declared.ids.ActorId.{ActorId}
 use Rattle.sg_base.specs.Mind.{Mind}
 use Rattle.sg_edge.specs.Files.{PartView}
 use Rattle.sg_edge.specs.declared.files.Stage.TheVariants.{Fresh}
-use Rattle.sg_calls.specs.Calls.{answered}
-use Rattle.sg_calls.specs.Known.{Known, after}
-use Rattle.sg_calls.specs.Lives.{created}
-use Rattle.sg_calls.specs.Steps.{Step}
-use Rattle.sg_calls.specs.World.{Core, IsActor, MayCall, state_of}
-use Rattle.sg_calls.specs.declared.stop.Stop.{Stop}
-use Rattle.sg_rows.specs.Deployment.{Deployed, extent_of}
-use Rattle.sg_rows.specs.declared.rows.ActorRow.{ActorRow}
+use Rattle.sg_kernel_calls.specs.Calls.{answered}
+use Rattle.sg_kernel_calls.specs.Known.{Known, after}
+use Rattle.sg_kernel_calls.specs.Lives.{created}
+use Rattle.sg_kernel_calls.specs.Steps.{Step}
+use Rattle.sg_kernel_calls.specs.World.{Core, IsActor, MayCall, state_of}
+use Rattle.sg_kernel_calls.specs.declared.stop.Stop.{Stop}
+use Rattle.sg_platform_rows.specs.Deployment.{Deployed, extent_of}
+use Rattle.sg_platform_rows.specs.declared.rows.ActorRow.{ActorRow}
 use Rattle.sg_script.specs.Known.{ScriptNames as Names}
 use Rattle.sg_script.specs.Rest.{GoesOn}
 use Rattle.sg_script.specs.Stands.{Kept, IsWithinNeed}
 use Rattle.sg_script.proofs.AllNeeds.{within_more}
 use Rattle.sg_script.proofs.Chains.{reads_none}
-use Rattle.sg_states.specs.Actors.{is_alive, is_answered, is_ended, is_unstarted}
-use Rattle.sg_states.specs.declared.state.State.{State}
-use Rattle.sg_states.specs.declared.state.State.TheVariants.{Unstarted, Ready, Blocked, Ended}
+use Rattle.sg_actor_states.specs.Actors.{is_alive, is_answered, is_ended, is_unstarted}
+use Rattle.sg_actor_states.specs.declared.state.State.{State}
+use Rattle.sg_actor_states.specs.declared.state.State.TheVariants.{Unstarted, Ready, Blocked, Ended}
 use Rattle.sg_engine.specs.World.{World}
 use Rattle.sg_engine.specs.declared.ended.Ended.TheVariants as ended
 use Rattle.sg_engine.specs.Roles.{mind_at}

@@ -8,7 +8,7 @@ use Rattle.sg_engine.specs.declared.simulation.Simulation.{Simulation}
 use Rattle.sg_engine.specs.kept.Invariant.{unstarted, StartsFrom, TakesCrew, TakesInAll, TakesLast}
 use Rattle.sg_engine.specs.declared.ended.Ended.{Ended}
 use Rattle.sg_engine.specs.RunContract.{TakesFirst}
-use Rattle.sg_rows.specs.Deployment.{Deployed, started_number}
+use Rattle.sg_platform_rows.specs.Deployment.{Deployed, started_number}
 
 -- the first so many
 abbrev pub IsFront : {X : Type 0} → List X → List X → Type 0

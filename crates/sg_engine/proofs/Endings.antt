@@ -9,9 +9,9 @@ use Rattle.sg_edge.proofs.Reading.{before-nil}
 use Rattle.sg_edge.specs.Files.{PartView, before, KeepsTelling, NoneLeft, TakesUpTo}
 use Rattle.sg_edge.specs.Sources.{Source, Gives}
 use Rattle.sg_edge.specs.Sinks.{IsWritten}
-use Rattle.sg_calls.specs.World.{Core}
-use Rattle.sg_rows.specs.Deployment.{Deployed, started_number}
-use Rattle.sg_rows.specs.Platform.{Platform}
+use Rattle.sg_kernel_calls.specs.World.{Core}
+use Rattle.sg_platform_rows.specs.Deployment.{Deployed, started_number}
+use Rattle.sg_platform_rows.specs.Platform.{Platform}
 use Rattle.sg_script.specs.Answer.{answer_of}
 use Rattle.sg_script.specs.Known.{ScriptNames as Names, known_in}
 use Rattle.sg_script.specs.Needed.{needed_by}

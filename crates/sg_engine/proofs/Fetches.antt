@@ -2,7 +2,7 @@
 use Rattle.std.proofs.Common.{◌≡◌, ◌≤◌, ◌∙◌, arith, ap, refl, ℕ, Bool, false, cond, Option, Some, Result, Ok, Err}
 use Rattle.std.specs.Prelude.{◌==◌}
 use Rattle.sg_base.specs.declared.call.Action.{Action}
-use Rattle.sg_calls.specs.Setup.{Setup}
+use Rattle.sg_kernel_calls.specs.Setup.{Setup}
 use Rattle.sg_script.specs.Fetched.{fetches_of, one_more}
 use Rattle.sg_script.specs.declared.fault.ScriptFault.{ScriptFault}
 use Rattle.sg_script.proofs.Counting.{one_more_rises}

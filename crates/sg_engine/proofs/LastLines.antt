@@ -4,11 +4,11 @@ use Rattle.std.specs.Prelude.{filter_map, slice_index_or}
 use Rattle.std.specs.List.{cons_option, enumerate_from, flat_map}
 use Rattle.std.proofs.lemmas.Grind.{flat_map-append}
 use Rattle.std.proofs.lemmas.List.{append-nil}
-use Rattle.sg_calls.specs.World.{Core}
-use Rattle.sg_rows.specs.Deployment.{Deployed}
-use Rattle.sg_rows.specs.Platform.{Platform}
-use Rattle.sg_rows.specs.declared.rows.HostRow.{HostRow}
-use Rattle.sg_states.specs.declared.state.Actor.{Actor}
+use Rattle.sg_kernel_calls.specs.World.{Core}
+use Rattle.sg_platform_rows.specs.Deployment.{Deployed}
+use Rattle.sg_platform_rows.specs.Platform.{Platform}
+use Rattle.sg_platform_rows.specs.declared.rows.HostRow.{HostRow}
+use Rattle.sg_actor_states.specs.declared.state.Actor.{Actor}
 use Rattle.sg_trace.specs.Ending.{ending_of}
 use Rattle.sg_trace.specs.declared.last.Last.{Last}
 use Rattle.sg_trace.specs.declared.last.Last.TheVariants as last

@@ -19,32 +19,32 @@ use Rattle.sg_base.specs.declared.call.Call.TheVariants as call
 use Rattle.sg_base.specs.declared.ids.ActorId.{ActorId}
 use Rattle.sg_base.specs.Mind.{Mind}
 use Rattle.sg_edge.specs.Files.{PartView}
-use Rattle.sg_calls.specs.declared.meetings.Comer.{Comer}
-use Rattle.sg_states.specs.declared.state.Actor.{Actor}
-use Rattle.sg_states.specs.declared.state.Blocking.{Blocking}
-use Rattle.sg_states.specs.declared.state.State.{State}
-use Rattle.sg_states.specs.declared.state.State.TheVariants.{Ready, Ended}
-use Rattle.sg_calls.specs.declared.stop.Stop.{Stop}
-use Rattle.sg_calls.specs.Known.{Known, after, after_call}
+use Rattle.sg_kernel_calls.specs.declared.meetings.Comer.{Comer}
+use Rattle.sg_actor_states.specs.declared.state.Actor.{Actor}
+use Rattle.sg_actor_states.specs.declared.state.Blocking.{Blocking}
+use Rattle.sg_actor_states.specs.declared.state.State.{State}
+use Rattle.sg_actor_states.specs.declared.state.State.TheVariants.{Ready, Ended}
+use Rattle.sg_kernel_calls.specs.declared.stop.Stop.{Stop}
+use Rattle.sg_kernel_calls.specs.Known.{Known, after, after_call}
 use Rattle.sg_mailbox.specs.declared.owners.How.{How}
 use Rattle.sg_mailbox.specs.declared.owners.How.TheVariants as how
-use Rattle.sg_calls.specs.Answers.{answers, answers_by, answers_side, bare_side, finishes, for_receiver, awaits_side, with_over}
-use Rattle.sg_calls.specs.Setup.{Setup}
-use Rattle.sg_calls.specs.World.{Core, IsActor, extent, host_of, is_suspended, state_of, whose_at, with_suspended}
-use Rattle.sg_states.specs.Actors.{actor_at, blocking_in, is_alive, is_answered, is_ended, is_unstarted, joiners, not_suspended, put_state, put_suspended, state_at}
-use Rattle.sg_calls.specs.Steps.{Step, all_of, at_once, counted, each, follows, goes_on, and_then}
-use Rattle.sg_calls.specs.Calls.{answered, answered_call, executes, with_execution}
-use Rattle.sg_calls.specs.Locks.{caller_gets, wakes_from, wakes, all_wake, caller_first, caller_last, joiners_wake}
-use Rattle.sg_calls.specs.Kills.{awaited, gives_up, gives_up_by, kill_done, kills, kills_alive, withdrawn}
-use Rattle.sg_calls.specs.Lives.{begins, created, joins_by, with_actor_ended}
+use Rattle.sg_kernel_calls.specs.Answers.{answers, answers_by, answers_side, bare_side, finishes, for_receiver, awaits_side, with_over}
+use Rattle.sg_kernel_calls.specs.Setup.{Setup}
+use Rattle.sg_kernel_calls.specs.World.{Core, IsActor, extent, host_of, is_suspended, state_of, whose_at, with_suspended}
+use Rattle.sg_actor_states.specs.Actors.{actor_at, blocking_in, is_alive, is_answered, is_ended, is_unstarted, joiners, not_suspended, put_state, put_suspended, state_at}
+use Rattle.sg_kernel_calls.specs.Steps.{Step, all_of, at_once, counted, each, follows, goes_on, and_then}
+use Rattle.sg_kernel_calls.specs.Calls.{answered, answered_call, executes, with_execution}
+use Rattle.sg_kernel_calls.specs.Locks.{caller_gets, wakes_from, wakes, all_wake, caller_first, caller_last, joiners_wake}
+use Rattle.sg_kernel_calls.specs.Kills.{awaited, gives_up, gives_up_by, kill_done, kills, kills_alive, withdrawn}
+use Rattle.sg_kernel_calls.specs.Lives.{begins, created, joins_by, with_actor_ended}
 use Rattle.sg_kernel.specs.Passes.{all_fail, changes, core_later, ends, ends_by, ends_in, ends_one, enters_one, entry_stretches, fails, fails_one, next_span, pass_at, pass_of, settled, stretches}
-use Rattle.sg_calls.specs.Suspensions.{held_by, held_if, held_on, suspended_to}
+use Rattle.sg_kernel_calls.specs.Suspensions.{held_by, held_if, held_on, suspended_to}
 use Rattle.sg_mailbox.specs.declared.owners.Whose.{Whose}
 use Rattle.sg_mailbox.specs.declared.owners.Whose.TheVariants.{Over, Alone, Posted, Pair}
-use Rattle.sg_calls.specs.Meetings.{takes_part, takes_part_failed, comer_fails, other_fails, both_fail, fails_with, joins_with, joins_over, way_with, comes_by, waits_until, waits_by}
+use Rattle.sg_kernel_calls.specs.Meetings.{takes_part, takes_part_failed, comer_fails, other_fails, both_fail, fails_with, joins_with, joins_over, way_with, comes_by, waits_until, waits_by}
 use Rattle.sg_mailbox.specs.declared.sides.Post.{Post}
 use Rattle.sg_mailbox.specs.declared.sides.Side.{Side}
-use Rattle.sg_rows.specs.Deployment.{Deployed}
+use Rattle.sg_platform_rows.specs.Deployment.{Deployed}
 use Rattle.sg_base.specs.declared.awaits.Await.{Await}
 use Rattle.sg_route.specs.declared.router.RouteFault.{RouteFault}
 use Rattle.sg_route.specs.Roads.{Roads}

@@ -9,11 +9,11 @@ use Rattle.sg_base.specs.Limits.{Extent, IsCall}
 use Rattle.sg_base.specs.Mind.{Mind}
 use Rattle.sg_base.specs.declared.call.Answer.{Answer}
 use Rattle.sg_base.specs.declared.call.Call.{Call}
-use Rattle.sg_states.specs.declared.state.Actor.{Actor}
-use Rattle.sg_states.specs.declared.state.State.{State}
-use Rattle.sg_states.specs.declared.state.State.TheVariants.{Unstarted, Ready, Blocked, Ended}
-use Rattle.sg_calls.specs.World.{Core, MayCall}
-use Rattle.sg_states.specs.Actors.{answer_in, inbox_of, is_answered, not_suspended}
+use Rattle.sg_actor_states.specs.declared.state.Actor.{Actor}
+use Rattle.sg_actor_states.specs.declared.state.State.{State}
+use Rattle.sg_actor_states.specs.declared.state.State.TheVariants.{Unstarted, Ready, Blocked, Ended}
+use Rattle.sg_kernel_calls.specs.World.{Core, MayCall}
+use Rattle.sg_actor_states.specs.Actors.{answer_in, inbox_of, is_answered, not_suspended}
 use Rattle.sg_engine.specs.World.{World}
 use Rattle.sg_engine.specs.declared.actor_call.ActorCall.{ActorCall}
 use Rattle.sg_engine.specs.declared.ended.Ended.{Ended as Ending}

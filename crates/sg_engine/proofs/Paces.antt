@@ -13,9 +13,9 @@ use Rattle.sg_edge.specs.Files.{PartView}
 use Rattle.sg_edge.specs.Sinks.{gain}
 use Rattle.sg_edge.specs.Sources.{Source}
 use Rattle.sg_edge.proofs.Writing.{gain-nil, gain-gain}
-use Rattle.sg_states.specs.Actors.{is_over}
-use Rattle.sg_rows.specs.Deployment.{Deployed}
-use Rattle.sg_rows.specs.Platform.{Platform}
+use Rattle.sg_actor_states.specs.Actors.{is_over}
+use Rattle.sg_platform_rows.specs.Deployment.{Deployed}
+use Rattle.sg_platform_rows.specs.Platform.{Platform}
 use Rattle.sg_script.specs.Fetched.{fetches_of}
 use Rattle.sg_script.specs.Answer.{answer_of}
 use Rattle.sg_script.specs.Known.{ScriptNames as Names, known_in}
@@ -24,8 +24,8 @@ use Rattle.sg_script.specs.Rest.{GoesOn}
 use Rattle.sg_script.specs.Stands.{IsWithinNeed, Reads}
 use Rattle.sg_script.proofs.AllNeeds.{most, within_more}
 use Rattle.sg_script.proofs.Chains.{reads_then}
-use Rattle.sg_calls.specs.Known.{Known}
-use Rattle.sg_calls.specs.World.{Core}
+use Rattle.sg_kernel_calls.specs.Known.{Known}
+use Rattle.sg_kernel_calls.specs.World.{Core}
 use Rattle.sg_script.specs.Stands.{Kept}
 use Rattle.sg_engine.specs.World.{World}
 use Rattle.sg_engine.specs.declared.ended.Ended.{Ended}

@@ -6,12 +6,12 @@ use Rattle.sg_actor.specs.Seats.{SeatView}
 use Rattle.sg_base.specs.Limits.{Extent, IsCall}
 use Rattle.sg_base.specs.Mind.{Mind}
 use Rattle.sg_edge.specs.Files.{PartView}
-use Rattle.sg_calls.specs.Known.{Known}
-use Rattle.sg_rows.specs.Deployment.{Deployed, extent_of}
+use Rattle.sg_kernel_calls.specs.Known.{Known}
+use Rattle.sg_platform_rows.specs.Deployment.{Deployed, extent_of}
 use Rattle.sg_engine.specs.declared.simulation.Simulation.{Simulation}
 use Rattle.sg_engine.specs.kept.Invariant.{places_in, HasRoom, IsKept}
-use Rattle.sg_calls.specs.Setup.{Setup}
-use Rattle.sg_calls.specs.World.{Core, MayCall, extent}
+use Rattle.sg_kernel_calls.specs.Setup.{Setup}
+use Rattle.sg_kernel_calls.specs.World.{Core, MayCall, extent}
 use Rattle.sg_engine.specs.World.{World}
 use Rattle.sg_script.specs.Known.{ScriptNames as Names}
 use Rattle.sg_engine.specs.declared.actor_call.ActorCall.{ActorCall}

@@ -4,10 +4,10 @@ use Rattle.std.specs.Prelude.{AllPairs}
 use Rattle.std.proofs.lemmas.Bool.{cases_lt}
 use Rattle.std.proofs.lemmas.List.{get_or_default}
 use Rattle.sg_base.specs.declared.ids.ActorId.{ActorId}
-use Rattle.sg_states.specs.declared.state.Actor.{Actor}
-use Rattle.sg_states.specs.declared.state.State.TheVariants.{Ended}
-use Rattle.sg_states.specs.Queue.{IsQueue}
-use Rattle.sg_states.specs.Actors.{is_ready, not_suspended}
+use Rattle.sg_actor_states.specs.declared.state.Actor.{Actor}
+use Rattle.sg_actor_states.specs.declared.state.State.TheVariants.{Ended}
+use Rattle.sg_actor_states.specs.Queue.{IsQueue}
+use Rattle.sg_actor_states.specs.Actors.{is_ready, not_suspended}
 
 -- the last id of the first so many
 unfoldable pub last_id : List ActorId → ℕ → ℕ

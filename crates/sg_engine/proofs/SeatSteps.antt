@@ -10,10 +10,10 @@ use Rattle.sg_base.specs.Limits.{Extent, IsAnswer}
 use Rattle.sg_base.specs.Mind.{Mind}
 use Rattle.sg_base.specs.Turn.{turn}
 use Rattle.sg_actor.specs.Seats.{SeatView, after, with_turn, CanTurn, KeepsLimits}
-use Rattle.sg_states.specs.declared.state.Actor.{Actor}
-use Rattle.sg_states.specs.declared.state.State.{State}
-use Rattle.sg_states.specs.declared.state.State.TheVariants.{Unstarted, Ready, Blocked, Ended}
-use Rattle.sg_states.specs.Actors.{answer_in, inbox_of, is_answered, not_suspended}
+use Rattle.sg_actor_states.specs.declared.state.Actor.{Actor}
+use Rattle.sg_actor_states.specs.declared.state.State.{State}
+use Rattle.sg_actor_states.specs.declared.state.State.TheVariants.{Unstarted, Ready, Blocked, Ended}
+use Rattle.sg_actor_states.specs.Actors.{answer_in, inbox_of, is_answered, not_suspended}
 use Rattle.sg_engine.specs.Run.{zip_with, mind_after, call_after}
 use Rattle.sg_engine.specs.kept.SeatRules.{mind_in, minds_of, AreQueued, IsSeated, with_answer, call_in, at_rest}
 

@@ -12,15 +12,15 @@ use Rattle.sg_edge.specs.declared.files.Part.{Part}
 use Rattle.sg_edge.specs.Sinks.{gain, GainsFront}
 use Rattle.sg_edge.specs.Sources.{Source}
 use Rattle.sg_edge.proofs.Writing.{gain-nil}
-use Rattle.sg_calls.specs.Known.{Known}
+use Rattle.sg_kernel_calls.specs.Known.{Known}
 use Rattle.sg_base.specs.Limits.{Extent}
-use Rattle.sg_calls.specs.Setup.{Setup}
-use Rattle.sg_calls.specs.World.{Core, extent}
-use Rattle.sg_states.specs.Actors.{is_over}
+use Rattle.sg_kernel_calls.specs.Setup.{Setup}
+use Rattle.sg_kernel_calls.specs.World.{Core, extent}
+use Rattle.sg_actor_states.specs.Actors.{is_over}
 use Rattle.sg_engine.specs.World.{World}
 use Rattle.sg_route.specs.Roads.{Roads}
-use Rattle.sg_rows.specs.Deployment.{Deployed}
-use Rattle.sg_rows.specs.Platform.{Platform}
+use Rattle.sg_platform_rows.specs.Deployment.{Deployed}
+use Rattle.sg_platform_rows.specs.Platform.{Platform}
 use Rattle.sg_script.specs.Fetched.{fetches_of}
 use Rattle.sg_script.specs.Answer.{answer_of}
 use Rattle.sg_script.specs.Known.{ScriptNames as Names}

@@ -11,15 +11,15 @@ use Rattle.sg_edge.specs.declared.files.Part.{Part}
 use Rattle.sg_edge.specs.declared.files.Stage.TheVariants.{Fresh}
 use Rattle.sg_edge.specs.declared.sinks.Stream.{Stream}
 use Rattle.sg_edge.specs.Sources.{Source}
-use Rattle.sg_calls.specs.Known.{Known}
+use Rattle.sg_kernel_calls.specs.Known.{Known}
 use Rattle.sg_kernel.specs.Start.{first_known, capacities_in}
-use Rattle.sg_calls.specs.Setup.{setup_of, home_of, capacity_of}
-use Rattle.sg_states.specs.Actors.{first_actor}
-use Rattle.sg_states.specs.declared.state.Actor.{Actor}
-use Rattle.sg_calls.specs.World.{extent}
-use Rattle.sg_rows.specs.Deployment.{Deployed, extent_of, started_number, starts}
-use Rattle.sg_rows.specs.declared.rows.ActorRow.{ActorRow}
-use Rattle.sg_rows.specs.Platform.{Platform}
+use Rattle.sg_kernel_calls.specs.Setup.{setup_of, home_of, capacity_of}
+use Rattle.sg_actor_states.specs.Actors.{first_actor}
+use Rattle.sg_actor_states.specs.declared.state.Actor.{Actor}
+use Rattle.sg_kernel_calls.specs.World.{extent}
+use Rattle.sg_platform_rows.specs.Deployment.{Deployed, extent_of, started_number, starts}
+use Rattle.sg_platform_rows.specs.declared.rows.ActorRow.{ActorRow}
+use Rattle.sg_platform_rows.specs.Platform.{Platform}
 use Rattle.sg_script.specs.Known.{known_in}
 use Rattle.sg_script.specs.Stands.{AreLimited, Stands, kept_of, actors_of}
 use Rattle.sg_script.proofs.AllNeeds.{needed_none}

@@ -9,11 +9,11 @@ use Rattle.sg_base.specs.declared.call.Answer.TheVariants.{Start}
 use Rattle.sg_base.specs.declared.call.Call.{Call}
 use Rattle.sg_base.specs.declared.call.Call.TheVariants.{Ask}
 use Rattle.sg_actor.specs.Seats.{SeatView, after}
-use Rattle.sg_states.specs.declared.state.Actor.{Actor}
-use Rattle.sg_states.specs.declared.state.State.{State}
-use Rattle.sg_states.specs.declared.state.State.TheVariants.{Unstarted, Ready, Blocked, Ended}
-use Rattle.sg_states.specs.Queue.{IsQueue}
-use Rattle.sg_states.specs.Actors.{answer_in, inbox_of, is_answered, is_ready, not_suspended}
+use Rattle.sg_actor_states.specs.declared.state.Actor.{Actor}
+use Rattle.sg_actor_states.specs.declared.state.State.{State}
+use Rattle.sg_actor_states.specs.declared.state.State.TheVariants.{Unstarted, Ready, Blocked, Ended}
+use Rattle.sg_actor_states.specs.Queue.{IsQueue}
+use Rattle.sg_actor_states.specs.Actors.{answer_in, inbox_of, is_answered, is_ready, not_suspended}
 use Rattle.sg_engine.specs.declared.actor_call.ActorCall.{ActorCall}
 use Rattle.sg_engine.specs.kept.CallList.{call_list, with_call}
 use Rattle.sg_engine.specs.Run.{zip_with}

@@ -6,7 +6,7 @@ use Rattle.sg_base.specs.declared.ids.Child.{Child}
 use Rattle.sg_base.specs.declared.ids.Child.TheVariants.{Point, Zone}
 use Rattle.sg_base.specs.declared.ids.PointId.{PointId}
 use Rattle.sg_base.specs.declared.ids.ZoneId.{ZoneId}
-use Rattle.sg_rows.specs.Platform.{Platform}
+use Rattle.sg_platform_rows.specs.Platform.{Platform}
 use Rattle.sg_script.specs.declared.fault.LineFault.{LineFault}
 use Rattle.sg_script.specs.declared.fault.LineFault.TheVariants as kind
 use Rattle.sg_trace.specs.Names.{host_name}

@@ -4,14 +4,14 @@ use Rattle.std.specs.List.{enumerate_from, flat_map}
 use Rattle.std.specs.Option.{option_map_or}
 use Rattle.sg_base.specs.declared.trace_record.Record.{Record}
 use Rattle.sg_edge.specs.Sources.{Source}
-use Rattle.sg_states.specs.declared.state.Actor.{Actor}
+use Rattle.sg_actor_states.specs.declared.state.Actor.{Actor}
 use Rattle.sg_kernel.specs.Start.{capacities_in}
-use Rattle.sg_calls.specs.Setup.{setup_of}
-use Rattle.sg_calls.specs.World.{Core}
-use Rattle.sg_states.specs.Actors.{blocked_of, is_alive}
-use Rattle.sg_rows.specs.Platform.{Platform}
-use Rattle.sg_rows.specs.Deployment.{Deployed, started_number}
-use Rattle.sg_rows.specs.declared.rows.HostRow.{HostRow}
+use Rattle.sg_kernel_calls.specs.Setup.{setup_of}
+use Rattle.sg_kernel_calls.specs.World.{Core}
+use Rattle.sg_actor_states.specs.Actors.{blocked_of, is_alive}
+use Rattle.sg_platform_rows.specs.Platform.{Platform}
+use Rattle.sg_platform_rows.specs.Deployment.{Deployed, started_number}
+use Rattle.sg_platform_rows.specs.declared.rows.HostRow.{HostRow}
 use Rattle.sg_route.specs.Roads.{roads_of}
 use Rattle.sg_script.specs.Answer.{answer_of}
 use Rattle.sg_script.specs.Known.{known_in}

@@ -7,8 +7,8 @@ use Rattle.sg_edge.specs.declared.sinks.Stream.TheVariants.{Out}
 use Rattle.sg_edge.specs.Files.{PartView}
 use Rattle.sg_edge.specs.Sinks.{gain}
 use Rattle.sg_edge.specs.Sources.{Source}
-use Rattle.sg_rows.specs.Deployment.{Deployed}
-use Rattle.sg_rows.specs.Platform.{Platform}
+use Rattle.sg_platform_rows.specs.Deployment.{Deployed}
+use Rattle.sg_platform_rows.specs.Platform.{Platform}
 use Rattle.sg_script.specs.Answer.{answer_of}
 use Rattle.sg_script.specs.Known.{known_in}
 use Rattle.sg_script.specs.Needed.{needed_by}

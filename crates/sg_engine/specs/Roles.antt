@@ -6,10 +6,10 @@ use Rattle.sg_base.specs.Turn.{actor_of}
 use Rattle.sg_actor.specs.declared.role.Role.{Role}
 use Rattle.sg_actor.specs.declared.role.Role.TheVariants as role
 use Rattle.sg_actor.specs.Roles.{mind_of}
-use Rattle.sg_rows.specs.Deployment.{Deployed}
-use Rattle.sg_rows.specs.declared.rows.ActorRow.{ActorRow}
-use Rattle.sg_rows.specs.declared.rows.Function.{Function}
-use Rattle.sg_rows.specs.declared.rows.Function.TheVariants.{Replay, Worker, Master, Churn}
+use Rattle.sg_platform_rows.specs.Deployment.{Deployed}
+use Rattle.sg_platform_rows.specs.declared.rows.ActorRow.{ActorRow}
+use Rattle.sg_platform_rows.specs.declared.rows.Function.{Function}
+use Rattle.sg_platform_rows.specs.declared.rows.Function.TheVariants.{Replay, Worker, Master, Churn}
 
 -- what an actor is to be, by what its row says; the actor has this number
 abbrev pub role_of : ℕ → Function → Role

@@ -13,16 +13,16 @@ use Rattle.sg_base.specs.Mind.{Mind}
 use Rattle.sg_base.specs.Turn.{turn}
 use Rattle.sg_activity.specs.Links.{Capacities}
 use Rattle.sg_activity.specs.Underway.{work_of}
-use Rattle.sg_calls.specs.declared.stop.Stop.{Stop}
-use Rattle.sg_calls.specs.declared.stop.Stop.TheVariants as stop
-use Rattle.sg_calls.specs.Setup.{Setup}
-use Rattle.sg_calls.specs.World.{Core, state_of}
-use Rattle.sg_states.specs.Actors.{inbox_of, is_ended, is_over, is_ready, is_unstarted}
+use Rattle.sg_kernel_calls.specs.declared.stop.Stop.{Stop}
+use Rattle.sg_kernel_calls.specs.declared.stop.Stop.TheVariants as stop
+use Rattle.sg_kernel_calls.specs.Setup.{Setup}
+use Rattle.sg_kernel_calls.specs.World.{Core, state_of}
+use Rattle.sg_actor_states.specs.Actors.{inbox_of, is_ended, is_over, is_ready, is_unstarted}
 use Rattle.sg_engine.specs.World.{World}
-use Rattle.sg_calls.specs.Calls.{answered, told}
-use Rattle.sg_calls.specs.Lives.{created}
+use Rattle.sg_kernel_calls.specs.Calls.{answered, told}
+use Rattle.sg_kernel_calls.specs.Lives.{created}
 use Rattle.sg_kernel.specs.Start.{first_core}
-use Rattle.sg_calls.specs.Steps.{Step}
+use Rattle.sg_kernel_calls.specs.Steps.{Step}
 use Rattle.sg_route.specs.Roads.{Roads}
 use Rattle.sg_kernel.specs.Passes.{pass_of}
 use Rattle.sg_script.specs.declared.fault.ScriptFault.{ScriptFault}

@@ -15,7 +15,7 @@ use Rattle.sg_engine.specs.declared.setup.Setup.{Setup}
 use Rattle.sg_engine.specs.declared.show.Show.{Show}
 use Rattle.sg_engine.specs.Gains.{GainsAll, GainsFronts}
 use Rattle.sg_engine.specs.Output.{Output, run_output}
-use Rattle.sg_rows.specs.Deployment.{Deployed, started_number}
+use Rattle.sg_platform_rows.specs.Deployment.{Deployed, started_number}
 
 -- a failed write or running out of memory cuts the run off
 abbrev pub is_cut : Ended → Bool

@@ -1,7 +1,7 @@
 //! How a run ends.
 ghost use Rattle.std.specs.Prelude.{◌≡◌, ◌≢◌, false, Option, option_map};
-ghost use Rattle.sg_calls.specs.declared.stop.Stop.{Stop};
-ghost use Rattle.sg_calls.specs.Steps.{result_of};
+ghost use Rattle.sg_kernel_calls.specs.declared.stop.Stop.{Stop};
+ghost use Rattle.sg_kernel_calls.specs.Steps.{result_of};
 ghost use Rattle.sg_engine.specs.kept.Moments.{cuts};
 ghost use Rattle.sg_engine.specs.Run.{ended_by};
 

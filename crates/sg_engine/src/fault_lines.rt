@@ -6,7 +6,7 @@ ghost use Rattle.sg_engine.specs.FaultLines.{fault_text as fault_text_spec, poin
 use arrayvec::ArrayString;
 use itoa::Buffer;
 use sg_base::{Child, PointId, ZoneId};
-use sg_rows::PlatformText;
+use sg_platform_rows::PlatformText;
 use sg_script::LineFault;
 
 /// A line with its newline. The limits on names and numbers leave it room.

@@ -1,9 +1,9 @@
 //! What is run, and how.
 ghost use Rattle.std.specs.Prelude.{◌<◌, ◌≤◌};
-ghost use Rattle.sg_rows.specs.Deployment.{IsDeployedOn};
+ghost use Rattle.sg_platform_rows.specs.Deployment.{IsDeployedOn};
 
 use crate::show::Show;
-use sg_rows::{Deployment, PlatformText};
+use sg_platform_rows::{Deployment, PlatformText};
 use std::alloc::Global;
 
 /// How a run is made: by up to so many workers at once, with so many events at most, and how much is written.

@@ -1,10 +1,10 @@
 //! The lines on Out. They are put into the buffer, and those of a scheduling round or a time advance are written
 //! together.
 ghost use Rattle.std.specs.Prelude.{◌≡◌, ◌<◌, ◌++◌, [], slice_index_or, IfSome, OnOk};
-ghost use Rattle.sg_states.specs.Actors.{actor_at};
-ghost use Rattle.sg_states.specs.Records.{AreRecords, IsRecord};
-ghost use Rattle.sg_calls.specs.World.{IsActor};
-ghost use Rattle.sg_rows.specs.Deployment.{extent_of};
+ghost use Rattle.sg_actor_states.specs.Actors.{actor_at};
+ghost use Rattle.sg_actor_states.specs.Records.{AreRecords, IsRecord};
+ghost use Rattle.sg_kernel_calls.specs.World.{IsActor};
+ghost use Rattle.sg_platform_rows.specs.Deployment.{extent_of};
 ghost use Rattle.sg_trace.specs.Ending.{IsLastOf};
 ghost use Rattle.sg_trace.specs.Line.{line_of};
 ghost use Rattle.sg_engine.specs.kept.Writing.{Puts, Writes};
@@ -20,7 +20,7 @@ use crate::show::Show;
 use sg_base::{ActorId, PointId, Record};
 use sg_edge::{Failed, Sinks};
 use sg_kernel::Kernel;
-use sg_rows::HostRow;
+use sg_platform_rows::HostRow;
 use sg_trace::Last;
 
 // Puts the trace line of a record into the buffer.

@@ -4,7 +4,7 @@ ghost use Rattle.sg_engine.specs.Roles.{role_of};
 
 use sg_actor::Role;
 use sg_base::{ActorId, Ids, Memory};
-use sg_rows::Function;
+use sg_platform_rows::Function;
 use std::alloc::Global;
 
 /// Returns what an actor is to be, by what its row says.

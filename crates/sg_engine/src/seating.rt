@@ -4,7 +4,7 @@ ghost use Rattle.std.specs.Option.{option_and_then};
 ghost use Rattle.sg_base.specs.Limits.{Extent, IsActorIn};
 ghost use Rattle.sg_actor.specs.Roles.{mind_of, CanCast, IsRole};
 ghost use Rattle.sg_actor.specs.Seats.{seat_view, seat_views};
-ghost use Rattle.sg_rows.specs.Deployment.{extent_of};
+ghost use Rattle.sg_platform_rows.specs.Deployment.{extent_of};
 ghost use Rattle.sg_engine.specs.Roles.{role_of, first_minds, firsts_of};
 ghost use Rattle.sg_engine.specs.Run.{minds_if};
 ghost use Rattle.sg_engine.specs.RunContract.{HasContexts};
@@ -16,7 +16,7 @@ use crate::plan::Plan;
 use crate::roles::role;
 use sg_actor::{Actor, Seat, roles_keep_limits};
 use sg_base::{ActorId, Answer, Call, Memory};
-use sg_rows::{ActorRow, Deployment, Function};
+use sg_platform_rows::{ActorRow, Deployment, Function};
 use std::alloc::Global;
 
 // Takes the next context, the pool's last one, and binds it to the role of an actor. If memory runs out, it is lost.

@@ -1,13 +1,13 @@
 //! What a run is of.
 ghost use Rattle.std.specs.Prelude.{◌≡◌, length};
-ghost use Rattle.sg_calls.specs.Roads.{AreOver};
-ghost use Rattle.sg_rows.specs.Deployment.{IsDeployedOn};
-ghost use Rattle.sg_rows.specs.Ends.{link_ends};
+ghost use Rattle.sg_kernel_calls.specs.Roads.{AreOver};
+ghost use Rattle.sg_platform_rows.specs.Deployment.{IsDeployedOn};
+ghost use Rattle.sg_platform_rows.specs.Ends.{link_ends};
 ghost use Rattle.sg_route.specs.Roads.{roads_of};
 
 use sg_kernel::roads_are_over;
+use sg_platform_rows::{Deployment, PlatformText};
 use sg_route::Router;
-use sg_rows::{Deployment, PlatformText};
 
 /// A platform with its profiles, the actors that are deployed on it, the routes between its hosts, and whether there is a script.
 #[derive(Drop)]

@@ -2,7 +2,7 @@
 ghost use Rattle.std.specs.Prelude.{◌≡◌, ◌+◌, ◌<◌, ◌≤◌, ◌++◌, [], length, map, take, drop, All, vec_capacity};
 ghost use Rattle.std.specs.Option.{is_some};
 ghost use Rattle.sg_actor.specs.Seats.{after, CanTurn, KeepsLimits, seat_view, seat_views};
-ghost use Rattle.sg_calls.specs.World.{extent};
+ghost use Rattle.sg_kernel_calls.specs.World.{extent};
 ghost use Rattle.sg_engine.specs.kept.CallList.{call_list, with_call};
 ghost use Rattle.sg_engine.specs.kept.SeatRules.{at_rest, call_in, with_answer, AreQueued};
 ghost use Rattle.sg_engine.specs.kept.Turns.{CanTakeTurns, TakesTurns};

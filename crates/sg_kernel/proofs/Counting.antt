@@ -1,6 +1,6 @@
 -- Events, as what comes is handled one by one.
 use Rattle.std.proofs.Common.{◌≡◌, ◌≢◌, ℕ, ◌<◌, ◌≤◌, ◌⊎◌, inl, inr, List, [], ◌∷◌, refl, sym, ◌∙◌, arith}
-use Rattle.sg_calls.specs.declared.simulation_state.Fields.{Fields}
+use Rattle.sg_kernel_calls.specs.declared.simulation_state.Fields.{Fields}
 use Rattle.sg_kernel.specs.kept.Coming.{CountsSome}
 
 -- either nothing came yet, and all of it is left, or there was an event

@@ -2,15 +2,15 @@
 use Rattle.std.proofs.Common.{◌≡◌, ◌≢◌, ℕ, Bool, cond, Option, None, Some, List, [], ◌∷◌, refl, sym, ap, ◌∙◌}
 use Rattle.sg_activity.specs.Task.{Task, phase_after, task_at}
 use Rattle.sg_mailbox.specs.declared.owners.How.TheVariants as how
-use Rattle.sg_calls.specs.declared.stop.Stop.TheVariants.{Budget}
-use Rattle.sg_calls.specs.Setup.{Setup}
-use Rattle.sg_calls.specs.World.{Core, whose_at}
-use Rattle.sg_calls.specs.Steps.{Step, stops, counted}
-use Rattle.sg_calls.specs.Answers.{with_over}
+use Rattle.sg_kernel_calls.specs.declared.stop.Stop.TheVariants.{Budget}
+use Rattle.sg_kernel_calls.specs.Setup.{Setup}
+use Rattle.sg_kernel_calls.specs.World.{Core, whose_at}
+use Rattle.sg_kernel_calls.specs.Steps.{Step, stops, counted}
+use Rattle.sg_kernel_calls.specs.Answers.{with_over}
 use Rattle.sg_kernel.specs.Passes.{ends_in, ends_one, ends_by, ends, fails, fails_one}
-use Rattle.sg_calls.specs.Known.{Known, after}
-use Rattle.sg_calls.proofs.Each.{eq_no, eq_yes, still, still_stops, still_next, still_used_up}
-use Rattle.sg_calls.proofs.Finishes.{answers_goes}
+use Rattle.sg_kernel_calls.specs.Known.{Known, after}
+use Rattle.sg_kernel_calls.proofs.Each.{eq_no, eq_yes, still, still_stops, still_next, still_used_up}
+use Rattle.sg_kernel_calls.proofs.Finishes.{answers_goes}
 
 -- ---- a phase end continues
 ends_goes_in : (serial : ℕ) (after : Option Task) (core : Core) → (ends_in serial after core).stop ≡ None

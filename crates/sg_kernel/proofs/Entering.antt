@@ -10,19 +10,19 @@ use Rattle.sg_profile.specs.declared.entry.Entry.{Entry}
 use Rattle.sg_profile.specs.declared.entry.Entry.TheVariants.{Speed, Bandwidth, HostOn, LinkOn}
 use Rattle.sg_profile.specs.Profiles.{Timetable, past_next, rows_due}
 use Rattle.sg_profile.proofs.Ahead.{rows_are_left, ahead_steps}
-use Rattle.sg_rows.specs.declared.network.Network.{Network}
+use Rattle.sg_platform_rows.specs.declared.network.Network.{Network}
 use Rattle.sg_base.specs.declared.trace_record.Record.{Record}
-use Rattle.sg_calls.specs.declared.simulation_state.Fields.{Fields}
-use Rattle.sg_calls.specs.declared.stop.Stop.TheVariants.{Budget}
-use Rattle.sg_calls.specs.Known.{Known, after}
-use Rattle.sg_calls.specs.Setup.{Setup}
-use Rattle.sg_calls.specs.World.{Core}
-use Rattle.sg_calls.specs.Steps.{all_of, and_then, goes_on, stops}
+use Rattle.sg_kernel_calls.specs.declared.simulation_state.Fields.{Fields}
+use Rattle.sg_kernel_calls.specs.declared.stop.Stop.TheVariants.{Budget}
+use Rattle.sg_kernel_calls.specs.Known.{Known, after}
+use Rattle.sg_kernel_calls.specs.Setup.{Setup}
+use Rattle.sg_kernel_calls.specs.World.{Core}
+use Rattle.sg_kernel_calls.specs.Steps.{all_of, and_then, goes_on, stops}
 use Rattle.sg_kernel.specs.Passes.{all_fail, applied, applied_if, changes, enters, enters_one, entry_stretches}
 use Rattle.sg_kernel.specs.kept.Coming.{IsApplied, IsDueEntry, row_next, rows_now}
-use Rattle.sg_calls.specs.kept.Sound.{core_of, known_of, setup_in, IsTimely, IsTimetable}
-use Rattle.sg_calls.specs.kept.Whole.{IsPassing}
-use Rattle.sg_calls.proofs.Each.{eq_no, eq_yes, all_of-two}
+use Rattle.sg_kernel_calls.specs.kept.Sound.{core_of, known_of, setup_in, IsTimely, IsTimetable}
+use Rattle.sg_kernel_calls.specs.kept.Whole.{IsPassing}
+use Rattle.sg_kernel_calls.proofs.Each.{eq_no, eq_yes, all_of-two}
 
 -- ---- one entry and its failures, unless the budget is used up
 pub change_is : (setup : Setup) (row : ℕ) (core : Core) → core.events ≢ setup.budget → changes setup row core ≡ and_then (enters_one setup row core) (all_fail setup)

@@ -1,16 +1,16 @@
 -- In a time advance an event is counted, and then comes.
 use Rattle.std.proofs.Common.{◌≡◌, ℕ, ◌+◌, [], drop, sym, ap, subst, ◌∙◌}
-use Rattle.sg_lives.specs.declared.kinds.Phase.{Phase}
+use Rattle.sg_activity_table.specs.declared.kinds.Phase.{Phase}
 use Rattle.sg_activity.specs.Doing.{IsDue, IsHit}
 use Rattle.sg_profile.specs.declared.entry.Entry.{Entry}
-use Rattle.sg_calls.specs.declared.simulation_state.Fields.{Fields}
-use Rattle.sg_calls.specs.Known.{after}
-use Rattle.sg_calls.specs.Steps.{Step, counted, goes_on}
-use Rattle.sg_calls.specs.World.{Core}
-use Rattle.sg_calls.specs.kept.Acts.{CountsOne}
-use Rattle.sg_calls.specs.kept.Sound.{core_of, known_of, setup_in}
-use Rattle.sg_calls.specs.kept.Whole.{IsPassing}
-use Rattle.sg_calls.proofs.Moves.{passing_counted}
+use Rattle.sg_kernel_calls.specs.declared.simulation_state.Fields.{Fields}
+use Rattle.sg_kernel_calls.specs.Known.{after}
+use Rattle.sg_kernel_calls.specs.Steps.{Step, counted, goes_on}
+use Rattle.sg_kernel_calls.specs.World.{Core}
+use Rattle.sg_kernel_calls.specs.kept.Acts.{CountsOne}
+use Rattle.sg_kernel_calls.specs.kept.Sound.{core_of, known_of, setup_in}
+use Rattle.sg_kernel_calls.specs.kept.Whole.{IsPassing}
+use Rattle.sg_kernel_calls.proofs.Moves.{passing_counted}
 use Rattle.sg_kernel.specs.kept.Acts.{CanEnd, CanEnter, Ends, Enters}
 use Rattle.sg_kernel.specs.kept.Asks.{CanFail}
 use Rattle.sg_kernel.specs.kept.Coming.{row_next, rows_now, IsDueEntry, LeavesDue}

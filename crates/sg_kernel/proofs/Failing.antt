@@ -5,17 +5,17 @@ use Rattle.std.proofs.lemmas.List.{length-set}
 use Rattle.std.proofs.lemmas.List.Elements.{All-set}
 use Rattle.sg_activity.specs.Doing.{Doing, IsHit, gave_up}
 use Rattle.sg_activity.specs.Task.{Task, task_at}
-use Rattle.sg_calls.specs.declared.simulation_state.Fields.{Fields}
+use Rattle.sg_kernel_calls.specs.declared.simulation_state.Fields.{Fields}
 use Rattle.sg_mailbox.specs.declared.owners.How.TheVariants as how
 use Rattle.sg_mailbox.specs.declared.owners.Whose.{Whose}
 use Rattle.sg_mailbox.specs.declared.owners.Whose.TheVariants.{Over}
-use Rattle.sg_calls.specs.World.{extent}
+use Rattle.sg_kernel_calls.specs.World.{extent}
 use Rattle.sg_mailbox.specs.Owners.{Owned}
-use Rattle.sg_calls.specs.kept.Sound.{setup_in, is_idle, AreMeeting, IsOwner}
-use Rattle.sg_calls.specs.kept.Whole.{IsPassing}
-use Rattle.sg_calls.proofs.Begins.{held_with, sound_with}
-use Rattle.sg_calls.proofs.PostsKept.{meeting_gone, under_way}
-use Rattle.sg_calls.proofs.Timely.{IsTimelyAt}
+use Rattle.sg_kernel_calls.specs.kept.Sound.{setup_in, is_idle, AreMeeting, IsOwner}
+use Rattle.sg_kernel_calls.specs.kept.Whole.{IsPassing}
+use Rattle.sg_kernel_calls.proofs.Begins.{held_with, sound_with}
+use Rattle.sg_kernel_calls.proofs.PostsKept.{meeting_gone, under_way}
+use Rattle.sg_kernel_calls.proofs.Timely.{IsTimelyAt}
 
 -- what is running hasn't ended
 pub not_over : (fields : Fields) (serial : ℕ) (task : Task) → task_at fields.doing.under.tasks serial ≡ Some task → AreMeeting fields → get_or fields.whose.whose (serial - 1) (Over how.Done) ≢ Over how.Done

@@ -15,39 +15,39 @@ use Rattle.sg_activity.specs.Links.{IsLink}
 use Rattle.sg_mailbox.specs.Posts.{waiters}
 use Rattle.sg_profile.specs.Profiles.{AreProfiles, Timetable, first_table, profiles_in}
 use Rattle.sg_profile.proofs.Ahead.{ahead_at_first}
-use Rattle.sg_rows.specs.Deployment.{Deployed, IsDeployment, IsDeployedOn, starts}
-use Rattle.sg_rows.specs.Ends.{link_ends}
-use Rattle.sg_rows.specs.Network.{IsNetwork, bandwidth_over}
-use Rattle.sg_rows.specs.Platform.{Platform, IsLinkRow, counts_of}
-use Rattle.sg_rows.specs.Platform.{IsPower as IsPowerRow}
-use Rattle.sg_rows.specs.declared.rows.Power as rows
-use Rattle.sg_rows.specs.declared.network.Network.{Network}
-use Rattle.sg_rows.specs.declared.rows.ActorRow.{ActorRow}
-use Rattle.sg_rows.specs.declared.rows.LinkRow.{LinkRow}
-use Rattle.sg_rows.specs.declared.rows.Policy.{Policy}
-use Rattle.sg_rows.specs.declared.rows.Policy.TheVariants.{Shared, Fatpipe, SplitDuplex}
+use Rattle.sg_platform_rows.specs.Deployment.{Deployed, IsDeployment, IsDeployedOn, starts}
+use Rattle.sg_platform_rows.specs.Ends.{link_ends}
+use Rattle.sg_platform_rows.specs.Network.{IsNetwork, bandwidth_over}
+use Rattle.sg_platform_rows.specs.Platform.{Platform, IsLinkRow, counts_of}
+use Rattle.sg_platform_rows.specs.Platform.{IsPower as IsPowerRow}
+use Rattle.sg_platform_rows.specs.declared.rows.Power as rows
+use Rattle.sg_platform_rows.specs.declared.network.Network.{Network}
+use Rattle.sg_platform_rows.specs.declared.rows.ActorRow.{ActorRow}
+use Rattle.sg_platform_rows.specs.declared.rows.LinkRow.{LinkRow}
+use Rattle.sg_platform_rows.specs.declared.rows.Policy.{Policy}
+use Rattle.sg_platform_rows.specs.declared.rows.Policy.TheVariants.{Shared, Fatpipe, SplitDuplex}
 use Rattle.sg_base.specs.declared.awaits.Await.{Await}
 use Rattle.sg_requests.specs.Requested.{Requested}
 use Rattle.sg_sync.specs.Objects as sync
 use Rattle.sg_sync.specs.Objects.{Objects}
 use Rattle.sg_sync.proofs.Counts.{nobody_waits}
-use Rattle.sg_calls.specs.declared.simulation_state.Fields.{Fields}
-use Rattle.sg_states.specs.declared.state.State.TheVariants.{Ended}
-use Rattle.sg_states.specs.Actors.{blocking_in, first_actor, not_suspended}
+use Rattle.sg_kernel_calls.specs.declared.simulation_state.Fields.{Fields}
+use Rattle.sg_actor_states.specs.declared.state.State.TheVariants.{Ended}
+use Rattle.sg_actor_states.specs.Actors.{blocking_in, first_actor, not_suspended}
 use Rattle.sg_mailbox.specs.declared.owners.How.TheVariants as how
 use Rattle.sg_mailbox.specs.declared.owners.Whose.{Whose}
 use Rattle.sg_mailbox.specs.declared.owners.Whose.TheVariants.{Over}
-use Rattle.sg_calls.specs.Known.{Known}
+use Rattle.sg_kernel_calls.specs.Known.{Known}
 use Rattle.sg_kernel.specs.Start.{first_known, capacities_in, first_objects}
-use Rattle.sg_calls.specs.Meetings.{posts_from}
+use Rattle.sg_kernel_calls.specs.Meetings.{posts_from}
 use Rattle.sg_kernel.specs.kept.First.{first_states, objects_of}
 use Rattle.sg_mailbox.specs.Owners.{Owned}
-use Rattle.sg_calls.specs.Setup.{host_cap, power_of_row, link_cap, caps_in, caps_of, link_caps, home_of, capacity_of, replays, setup_of}
-use Rattle.sg_calls.specs.World.{extent}
-use Rattle.sg_calls.specs.kept.Sound.{point_number, IsSound, HasRoom, known_of, setup_in, is_idle, AwaitsMade, IsMade, IsOwner, IsTimely, IsTimetable, AreMeeting, AreHeld, AreLimited}
-use Rattle.sg_states.specs.States.{ActorStates}
+use Rattle.sg_kernel_calls.specs.Setup.{host_cap, power_of_row, link_cap, caps_in, caps_of, link_caps, home_of, capacity_of, replays, setup_of}
+use Rattle.sg_kernel_calls.specs.World.{extent}
+use Rattle.sg_kernel_calls.specs.kept.Sound.{point_number, IsSound, HasRoom, known_of, setup_in, is_idle, AwaitsMade, IsMade, IsOwner, IsTimely, IsTimetable, AreMeeting, AreHeld, AreLimited}
+use Rattle.sg_actor_states.specs.States.{ActorStates}
 use Rattle.sg_kernel.proofs.Over.{links_count}
-use Rattle.sg_calls.proofs.Stated.{AreAwaiting}
+use Rattle.sg_kernel_calls.proofs.Stated.{AreAwaiting}
 
 -- ---- hosts and links keep to their limits
 pub power_fits : (power : Option rows.Power) → IfSome power IsPowerRow → IfSome (option_map power_of_row power) IsPower

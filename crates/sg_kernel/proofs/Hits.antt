@@ -1,6 +1,6 @@
 -- What uses something that is off, as one of it is given up.
 use Rattle.std.proofs.Common.{◌≡◌, ℕ, suc, ◌+◌, ◌-◌, ◌≤◌, Bool, true, false, cond, inl, inr, ◌⊎◌, Option, None, List, [], ◌∷◌, set, refl, sym, ap, ◌∙◌, arith}
-use Rattle.sg_lives.specs.Slots.{passes, serials}
+use Rattle.sg_activity_table.specs.Slots.{passes, serials}
 use Rattle.sg_activity.specs.Task.{is_hit}
 use Rattle.sg_activity.specs.Underway.{Underway, given_up, hits}
 

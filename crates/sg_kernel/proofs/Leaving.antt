@@ -2,7 +2,7 @@
 use Rattle.std.proofs.Common.{◌≡◌, ℕ, ◌-◌, ◌==◌, ◌&&◌, not, Bool, true, false, true≢false, cond, None, List, [], ◌∷◌, filter, set, get_or, refl, sym, ap, ◌∙◌, arith}
 use Rattle.sg_activity.specs.Doing.{Doing, gave_up}
 use Rattle.sg_activity.specs.Task.{task_at}
-use Rattle.sg_calls.specs.declared.simulation_state.Fields.{Fields}
+use Rattle.sg_kernel_calls.specs.declared.simulation_state.Fields.{Fields}
 use Rattle.sg_kernel.specs.kept.Coming.{LeavesDue}
 use Rattle.sg_kernel.proofs.Skips.{none_set, none_there}
 

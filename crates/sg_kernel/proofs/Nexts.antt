@@ -2,17 +2,17 @@
 use Rattle.std.proofs.Common.{◌≡◌, ◌≢◌, ℕ, ◌+◌, ◌-◌, ◌<◌, ◌≤◌, ◌==◌, min, Bool, true, false, cond, inl, inr, ◌⊎◌, Option, None, Some, List, [], ◌∷◌, length, refl, sym, ap, subst, ◌∙◌, arith}
 use Rattle.std.specs.Option.{IfSome, MatchOption}
 use Rattle.sg_activity.specs.Doing.{Doing, IsNext, IsUpTo, later_in}
-use Rattle.sg_lives.specs.Slots.{sooner, soonest, serials, is_over_after}
+use Rattle.sg_activity_table.specs.Slots.{sooner, soonest, serials, is_over_after}
 use Rattle.sg_activity.specs.Underway.{next_in, wait_in}
 use Rattle.sg_activity.proofs.Times.{sooner_cases, sooner_never}
 use Rattle.sg_profile.specs.Ahead.{IsNear}
 use Rattle.sg_profile.specs.Profiles.{dates_of, earliest, rows_due_from}
 use Rattle.sg_profile.proofs.Cases.{earlier_of}
-use Rattle.sg_states.specs.States.{ActorStates}
-use Rattle.sg_calls.specs.declared.simulation_state.Fields.{Fields}
+use Rattle.sg_actor_states.specs.States.{ActorStates}
+use Rattle.sg_kernel_calls.specs.declared.simulation_state.Fields.{Fields}
 use Rattle.sg_kernel.specs.Passes.{next_span, span_to}
 use Rattle.sg_kernel.specs.kept.Coming.{IsNextDate, rows_now}
-use Rattle.sg_calls.specs.kept.Sound.{core_of, latest, setup_in, IsDated, IsSound, IsTimely}
+use Rattle.sg_kernel_calls.specs.kept.Sound.{core_of, latest, setup_in, IsDated, IsSound, IsTimely}
 use Rattle.sg_kernel.proofs.Timely.{entry_near, next_entry}
 
 -- ---- no later than a date may be after one more event

@@ -1,18 +1,18 @@
 -- Routes over the links that a kernel is made with.
 use Rattle.std.proofs.Common.{◌≡◌, ◌∙◌, sym, ap, ap₂, subst, refl, ℕ, ◌+◌, List, [], ◌∷◌, length, true, Ok, flat_map, arith}
 use Rattle.std.proofs.lemmas.List.{length-append}
-use Rattle.sg_rows.specs.Ends.{ends_from, ends_of, link_end, link_ends}
-use Rattle.sg_rows.specs.Network.{bandwidth_over}
-use Rattle.sg_rows.specs.Platform.{Platform}
-use Rattle.sg_rows.specs.declared.network.Network.{Network}
-use Rattle.sg_rows.specs.declared.rows.LinkRow.{LinkRow}
-use Rattle.sg_rows.specs.declared.rows.Policy.{Policy}
-use Rattle.sg_rows.specs.declared.rows.Policy.TheVariants.{Shared, Fatpipe, SplitDuplex}
+use Rattle.sg_platform_rows.specs.Ends.{ends_from, ends_of, link_end, link_ends}
+use Rattle.sg_platform_rows.specs.Network.{bandwidth_over}
+use Rattle.sg_platform_rows.specs.Platform.{Platform}
+use Rattle.sg_platform_rows.specs.declared.network.Network.{Network}
+use Rattle.sg_platform_rows.specs.declared.rows.LinkRow.{LinkRow}
+use Rattle.sg_platform_rows.specs.declared.rows.Policy.{Policy}
+use Rattle.sg_platform_rows.specs.declared.rows.Policy.TheVariants.{Shared, Fatpipe, SplitDuplex}
 use Rattle.sg_route.specs.Roads.{Roads, roads_of}
 use Rattle.sg_route.specs.Route.{Route, route_of}
 use Rattle.sg_route.specs.Good.{IsGoodRoute, RoutesAreGood}
-use Rattle.sg_calls.specs.Roads.{AreOver, IsOver}
-use Rattle.sg_calls.specs.Setup.{caps_in, caps_of, link_cap, link_caps}
+use Rattle.sg_kernel_calls.specs.Roads.{AreOver, IsOver}
+use Rattle.sg_kernel_calls.specs.Setup.{caps_in, caps_of, link_cap, link_caps}
 
 row_counts : (policy : Policy) (first latency bandwidth : ℕ) → length (ends_of first latency policy) ≡ length (caps_of policy bandwidth)
 row_counts Shared first latency bandwidth = refl

@@ -5,26 +5,26 @@ use Rattle.std.proofs.lemmas.List.{length-map}
 use Rattle.sg_activity.specs.Doing.{Doing, later_in, settled_in}
 use Rattle.sg_activity.specs.Task.{Task}
 use Rattle.sg_activity.specs.Underway.{is_running, passed}
-use Rattle.sg_states.specs.declared.state.Actor.{Actor}
-use Rattle.sg_states.specs.Actors.{state_at}
-use Rattle.sg_states.specs.States.{ActorStates}
-use Rattle.sg_calls.specs.declared.simulation_state.Fields.{Fields}
-use Rattle.sg_calls.specs.declared.stop.Stop.TheVariants.{Budget, Deadlock, Starved}
-use Rattle.sg_calls.specs.Setup.{Setup}
-use Rattle.sg_calls.specs.World.{Core}
-use Rattle.sg_calls.specs.Steps.{stops, all_of}
+use Rattle.sg_actor_states.specs.declared.state.Actor.{Actor}
+use Rattle.sg_actor_states.specs.Actors.{state_at}
+use Rattle.sg_actor_states.specs.States.{ActorStates}
+use Rattle.sg_kernel_calls.specs.declared.simulation_state.Fields.{Fields}
+use Rattle.sg_kernel_calls.specs.declared.stop.Stop.TheVariants.{Budget, Deadlock, Starved}
+use Rattle.sg_kernel_calls.specs.Setup.{Setup}
+use Rattle.sg_kernel_calls.specs.World.{Core}
+use Rattle.sg_kernel_calls.specs.Steps.{stops, all_of}
 use Rattle.sg_kernel.specs.Passes.{core_later, next_span, pass_at, settled_pass, stretches}
 use Rattle.sg_kernel.specs.kept.Coming.{IsNextDate}
-use Rattle.sg_calls.specs.kept.Sound.{is_queued, known_of, AreHeld, AreMeeting, IsSound}
-use Rattle.sg_calls.specs.kept.Whole.{IsPassing, IsWhole}
-use Rattle.sg_calls.proofs.Begins.{held_with, sound_with}
-use Rattle.sg_calls.proofs.Each.{eq_no, eq_yes}
-use Rattle.sg_calls.proofs.Limits.{homes_counted}
-use Rattle.sg_calls.proofs.Moves.{roomy_less}
+use Rattle.sg_kernel_calls.specs.kept.Sound.{is_queued, known_of, AreHeld, AreMeeting, IsSound}
+use Rattle.sg_kernel_calls.specs.kept.Whole.{IsPassing, IsWhole}
+use Rattle.sg_kernel_calls.proofs.Begins.{held_with, sound_with}
+use Rattle.sg_kernel_calls.proofs.Each.{eq_no, eq_yes}
+use Rattle.sg_kernel_calls.proofs.Limits.{homes_counted}
+use Rattle.sg_kernel_calls.proofs.Moves.{roomy_less}
 use Rattle.sg_kernel.proofs.Nexts.{up_to_entries}
-use Rattle.sg_calls.proofs.Stated.{AreAwaiting}
+use Rattle.sg_kernel_calls.proofs.Stated.{AreAwaiting}
 use Rattle.sg_kernel.proofs.Timely.{timely_moved}
-use Rattle.sg_calls.proofs.Timely.{IsTimelyAt}
+use Rattle.sg_kernel_calls.proofs.Timely.{IsTimelyAt}
 
 -- ---- a time advance of a world whose rates are up to date
 -- if nothing comes next

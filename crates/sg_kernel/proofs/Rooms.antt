@@ -9,20 +9,20 @@ use Rattle.sg_activity.specs.Doing.{Doing}
 use Rattle.sg_activity.specs.Underway.{Underway}
 use Rattle.sg_mailbox.specs.Posts.{Posts, waiters}
 use Rattle.sg_requests.specs.Requested.{Requested}
-use Rattle.sg_states.specs.declared.state.Actor.{Actor}
-use Rattle.sg_states.specs.Actors.{state_at}
-use Rattle.sg_states.specs.States.{ActorStates}
-use Rattle.sg_calls.specs.declared.simulation_state.Fields.{Fields}
+use Rattle.sg_actor_states.specs.declared.state.Actor.{Actor}
+use Rattle.sg_actor_states.specs.Actors.{state_at}
+use Rattle.sg_actor_states.specs.States.{ActorStates}
+use Rattle.sg_kernel_calls.specs.declared.simulation_state.Fields.{Fields}
 use Rattle.sg_mailbox.specs.declared.owners.How.TheVariants as how
 use Rattle.sg_mailbox.specs.declared.owners.Whose.{Whose}
 use Rattle.sg_mailbox.specs.declared.owners.Whose.TheVariants.{Over}
-use Rattle.sg_calls.specs.World.{extent}
-use Rattle.sg_calls.specs.Meetings.{posts_from}
+use Rattle.sg_kernel_calls.specs.World.{extent}
+use Rattle.sg_kernel_calls.specs.Meetings.{posts_from}
 use Rattle.sg_mailbox.specs.Owners.{Owned}
-use Rattle.sg_calls.specs.kept.Sound.{setup_in, is_idle, is_queued, IsMade, IsOwner}
-use Rattle.sg_calls.specs.kept.Whole.{IsWhole}
-use Rattle.sg_calls.proofs.Stated.{AreAwaiting}
-use Rattle.sg_calls.proofs.Timely.{IsTimelyAt}
+use Rattle.sg_kernel_calls.specs.kept.Sound.{setup_in, is_idle, is_queued, IsMade, IsOwner}
+use Rattle.sg_kernel_calls.specs.kept.Whole.{IsWhole}
+use Rattle.sg_kernel_calls.proofs.Stated.{AreAwaiting}
+use Rattle.sg_kernel_calls.proofs.Timely.{IsTimelyAt}
 
 -- how much room there is, is all that changed
 pub record IsRoomier (fields : Fields) (doing : Doing) (whose : Owned) (boxes : Posts) (requests : Requested) (states : ActorStates) : Type 0 where

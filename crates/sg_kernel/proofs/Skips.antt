@@ -7,19 +7,19 @@ use Rattle.sg_activity.specs.Underway.{Underway, with_task}
 use Rattle.sg_base.specs.declared.awaits.Party.{Party}
 use Rattle.sg_base.specs.declared.awaits.Party.TheVariants as party
 use Rattle.sg_mailbox.specs.declared.sides.Side.{Side}
-use Rattle.sg_states.specs.declared.state.Blocking.{Blocking}
-use Rattle.sg_states.specs.Actors.{blocking_in}
+use Rattle.sg_actor_states.specs.declared.state.Blocking.{Blocking}
+use Rattle.sg_actor_states.specs.Actors.{blocking_in}
 use Rattle.sg_mailbox.specs.declared.owners.How.{How}
 use Rattle.sg_mailbox.specs.declared.owners.How.TheVariants as how
 use Rattle.sg_mailbox.specs.declared.owners.Whose.{Whose}
 use Rattle.sg_mailbox.specs.declared.owners.Whose.TheVariants.{Over, Alone, Posted, Pair}
-use Rattle.sg_calls.specs.declared.stop.Stop.{Stop}
-use Rattle.sg_calls.specs.declared.stop.Stop.TheVariants.{Budget}
-use Rattle.sg_calls.specs.Answers.{answers, answers_by, answers_side, bare_side, finishes, for_receiver, awaits_side, with_over}
+use Rattle.sg_kernel_calls.specs.declared.stop.Stop.{Stop}
+use Rattle.sg_kernel_calls.specs.declared.stop.Stop.TheVariants.{Budget}
+use Rattle.sg_kernel_calls.specs.Answers.{answers, answers_by, answers_side, bare_side, finishes, for_receiver, awaits_side, with_over}
 use Rattle.sg_kernel.specs.Passes.{ends, ends_by, ends_in, ends_one}
-use Rattle.sg_calls.specs.Steps.{Step, stops, counted, follows, and_then, each}
-use Rattle.sg_calls.specs.Setup.{Setup}
-use Rattle.sg_calls.specs.World.{Core, state_of, whose_at}
+use Rattle.sg_kernel_calls.specs.Steps.{Step, stops, counted, follows, and_then, each}
+use Rattle.sg_kernel_calls.specs.Setup.{Setup}
+use Rattle.sg_kernel_calls.specs.World.{Core, state_of, whose_at}
 
 -- ---- answers leave the running activities as they are
 by_leaves : (over : How) (serial : ℕ) (side : Party) (given : Side) (blocking : Option Blocking) (core : Core) → (answers_by over serial side given blocking core).core.under ≡ core.under

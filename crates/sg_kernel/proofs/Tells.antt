@@ -2,16 +2,16 @@
 use Rattle.std.proofs.Common.{◌≡◌, ℕ, ◌+◌, ◌<◌, Option, Ok, [], refl, sym, subst, ◌∙◌}
 use Rattle.sg_base.specs.declared.call.Action.{Action}
 use Rattle.sg_base.specs.declared.call.Answer.{Answer}
-use Rattle.sg_calls.specs.declared.simulation_state.Fields.{Fields}
-use Rattle.sg_calls.specs.Calls.{answer_of_ask, told}
-use Rattle.sg_calls.specs.Steps.{counted, goes_on, readied}
-use Rattle.sg_calls.specs.kept.Acts.{Becomes, CountsOne, Replies}
-use Rattle.sg_calls.specs.kept.Sound.{core_of, known_of, setup_in}
-use Rattle.sg_calls.specs.kept.Whole.{CanConclude, IsWhole}
-use Rattle.sg_states.specs.Actors.{MayCall}
-use Rattle.sg_calls.proofs.Each.{called_alone}
-use Rattle.sg_calls.proofs.Moves.{can_conclude, can_step}
-use Rattle.sg_calls.proofs.Replied.{counted_replies}
+use Rattle.sg_kernel_calls.specs.declared.simulation_state.Fields.{Fields}
+use Rattle.sg_kernel_calls.specs.Calls.{answer_of_ask, told}
+use Rattle.sg_kernel_calls.specs.Steps.{counted, goes_on, readied}
+use Rattle.sg_kernel_calls.specs.kept.Acts.{Becomes, CountsOne, Replies}
+use Rattle.sg_kernel_calls.specs.kept.Sound.{core_of, known_of, setup_in}
+use Rattle.sg_kernel_calls.specs.kept.Whole.{CanConclude, IsWhole}
+use Rattle.sg_actor_states.specs.Actors.{MayCall}
+use Rattle.sg_kernel_calls.proofs.Each.{called_alone}
+use Rattle.sg_kernel_calls.proofs.Moves.{can_conclude, can_step}
+use Rattle.sg_kernel_calls.proofs.Replied.{counted_replies}
 
 pub can_tell : (old mid : Fields) (actor : ℕ) → CountsOne old mid → IsWhole old → MayCall old.states.actors actor → 0 < old.states.room → CanConclude mid actor
 can_tell old mid actor counts whole caller room =

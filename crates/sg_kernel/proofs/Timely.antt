@@ -4,10 +4,10 @@ use Rattle.std.specs.Option.{IfSome}
 use Rattle.sg_profile.specs.Ahead.{IsNear}
 use Rattle.sg_profile.specs.Profiles.{next_date}
 use Rattle.sg_profile.proofs.Ahead.{next_is_near, none_is_before, ahead_moves}
-use Rattle.sg_calls.specs.declared.simulation_state.Fields.{Fields}
+use Rattle.sg_kernel_calls.specs.declared.simulation_state.Fields.{Fields}
 use Rattle.sg_kernel.specs.kept.Coming.{rows_now}
-use Rattle.sg_calls.specs.kept.Sound.{IsTimely}
-use Rattle.sg_calls.proofs.Timely.{IsTimelyAt}
+use Rattle.sg_kernel_calls.specs.kept.Sound.{IsTimely}
+use Rattle.sg_kernel_calls.proofs.Timely.{IsTimelyAt}
 
 -- the date of the next entry
 abbrev pub next_entry : Fields → Option ℕ

@@ -6,10 +6,10 @@ use Rattle.sg_base.specs.declared.ids.ActorId.{ActorId}
 use Rattle.sg_activity.specs.Links.{Capacities}
 use Rattle.sg_activity.specs.Underway.{hits}
 use Rattle.sg_route.specs.Roads.{Roads}
-use Rattle.sg_calls.specs.Setup.{Setup}
-use Rattle.sg_calls.specs.World.{Core}
-use Rattle.sg_calls.specs.Calls.{answered, told}
-use Rattle.sg_calls.specs.Lives.{created}
+use Rattle.sg_kernel_calls.specs.Setup.{Setup}
+use Rattle.sg_kernel_calls.specs.World.{Core}
+use Rattle.sg_kernel_calls.specs.Calls.{answered, told}
+use Rattle.sg_kernel_calls.specs.Lives.{created}
 use Rattle.sg_kernel.specs.Passes.{pass_of}
 use Rattle.sg_kernel.specs.Start.{first_core}
 

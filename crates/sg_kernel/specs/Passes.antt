@@ -2,21 +2,21 @@
 -- entries of that date come, in order of rows, each followed by its failures, and then the phases that complete end, in
 -- order of activity id. Each entry, each failure and each phase end is one event.
 use Rattle.std.specs.Prelude.{ℕ, ◌+◌, ◌-◌, Option, None, Some, option_map, if◌then◌else◌, List, [], ◌∷◌}
-use Rattle.sg_lives.specs.Slots.{sooner}
+use Rattle.sg_activity_table.specs.Slots.{sooner}
 use Rattle.sg_activity.specs.Task.{Task, phase_after, task_at}
 use Rattle.sg_activity.specs.Underway as underway
 use Rattle.sg_activity.specs.Underway.{Underway, due_in, hits, is_running, later, next_in, with_bandwidth, with_host_on, with_link_on, with_speed, with_task}
 use Rattle.sg_profile.specs.declared.entry.Entry.{Entry}
 use Rattle.sg_profile.specs.declared.entry.Entry.TheVariants as entry
 use Rattle.sg_profile.specs.Profiles.{entry_at, next_date, rows_due, turns_after_row}
-use Rattle.sg_rows.specs.declared.network.Network.{Network}
-use Rattle.sg_rows.specs.Network.{bandwidth_over}
+use Rattle.sg_platform_rows.specs.declared.network.Network.{Network}
+use Rattle.sg_platform_rows.specs.Network.{bandwidth_over}
 use Rattle.sg_mailbox.specs.declared.owners.How.TheVariants as how
-use Rattle.sg_calls.specs.declared.stop.Stop.TheVariants.{Deadlock, Starved}
-use Rattle.sg_calls.specs.Setup.{Setup}
-use Rattle.sg_calls.specs.World.{Core}
-use Rattle.sg_calls.specs.Steps.{Step, goes_on, stops, counted, unless_used, each, all_of}
-use Rattle.sg_calls.specs.Answers.{finishes}
+use Rattle.sg_kernel_calls.specs.declared.stop.Stop.TheVariants.{Deadlock, Starved}
+use Rattle.sg_kernel_calls.specs.Setup.{Setup}
+use Rattle.sg_kernel_calls.specs.World.{Core}
+use Rattle.sg_kernel_calls.specs.Steps.{Step, goes_on, stops, counted, unless_used, each, all_of}
+use Rattle.sg_kernel_calls.specs.Answers.{finishes}
 
 -- ---- entries of profiles come
 -- what an entry changes, if there is one: a bandwidth has the network's factor

@@ -3,12 +3,12 @@ use Rattle.std.specs.Prelude.{None, [], length, map, replicate}
 use Rattle.sg_activity.specs.Links.{Capacities}
 use Rattle.sg_activity.specs.Underway.{nothing_on}
 use Rattle.sg_profile.specs.Profiles.{first_turns}
-use Rattle.sg_rows.specs.Platform.{Platform}
+use Rattle.sg_platform_rows.specs.Platform.{Platform}
 use Rattle.sg_sync.specs.Objects.{Objects}
-use Rattle.sg_states.specs.Actors.{first_actor}
-use Rattle.sg_calls.specs.Setup.{Setup, host_cap, link_caps}
-use Rattle.sg_calls.specs.World.{Core}
-use Rattle.sg_calls.specs.Known.{Known}
+use Rattle.sg_actor_states.specs.Actors.{first_actor}
+use Rattle.sg_kernel_calls.specs.Setup.{Setup, host_cap, link_caps}
+use Rattle.sg_kernel_calls.specs.World.{Core}
+use Rattle.sg_kernel_calls.specs.Known.{Known}
 
 -- the hosts and links of a platform
 abbrev pub capacities_in : Platform → Capacities

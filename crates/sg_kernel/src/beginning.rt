@@ -1,22 +1,22 @@
 //! A simulation begins.
 
 ghost use Rattle.std.specs.Prelude.{◌≡◌, ◌≤◌, ◌^◌, IfOk};
-ghost use Rattle.sg_rows.specs.Deployment.{IsDeployedOn};
+ghost use Rattle.sg_platform_rows.specs.Deployment.{IsDeployedOn};
 ghost use Rattle.sg_kernel.specs.Start.{capacities_in, first_known};
-ghost use Rattle.sg_calls.specs.Setup.{setup_of};
+ghost use Rattle.sg_kernel_calls.specs.Setup.{setup_of};
 ghost use Rattle.sg_kernel.specs.kept.First.{AreActors, AreObjects, IsIdle};
-ghost use Rattle.sg_calls.specs.kept.Sound.{known_of};
-ghost use Rattle.sg_calls.specs.kept.Whole.{IsWhole};
+ghost use Rattle.sg_kernel_calls.specs.kept.Sound.{known_of};
+ghost use Rattle.sg_kernel_calls.specs.kept.Whole.{IsWhole};
 
 use crate::setup::{capacities, homes, hosts, links, members, starts};
 use sg_activity::Activities;
+use sg_actor_states::States;
 use sg_base::{Memory, PointId};
-use sg_calls::Fields;
+use sg_kernel_calls::Fields;
 use sg_mailbox::{Boxes, Owners};
+use sg_platform_rows::{Deployment, PlatformText};
 use sg_profile::Profiles;
 use sg_requests::Requests;
-use sg_rows::{Deployment, PlatformText};
-use sg_states::States;
 use sg_sync::Sync;
 use std::alloc::Global;
 

@@ -2,19 +2,19 @@
 
 ghost use Rattle.std.specs.Prelude.{◌≡◌, ◌<◌, [], MatchOption, Ok, OnOk, drop, length};
 ghost use Rattle.sg_profile.specs.Profiles.{IsEntry};
-ghost use Rattle.sg_rows.specs.Network.{IsNetwork};
-ghost use Rattle.sg_calls.specs.Steps.{each, goes_on};
+ghost use Rattle.sg_platform_rows.specs.Network.{IsNetwork};
+ghost use Rattle.sg_kernel_calls.specs.Steps.{each, goes_on};
 ghost use Rattle.sg_kernel.specs.Passes.{changes, enters};
 ghost use Rattle.sg_kernel.specs.kept.Acts.{CanEnter, Changes, Enters};
 ghost use Rattle.sg_kernel.specs.kept.Coming.{CountsSome, IsApplied, IsDueEntry, row_next, rows_now};
-ghost use Rattle.sg_calls.specs.kept.Sound.{setup_in, IsTimely};
-ghost use Rattle.sg_calls.specs.kept.Whole.{IsPassing};
+ghost use Rattle.sg_kernel_calls.specs.kept.Sound.{setup_in, IsTimely};
+ghost use Rattle.sg_kernel_calls.specs.kept.Whole.{IsPassing};
 
 use crate::failures::fail_all;
 use sg_activity::Activities;
-use sg_calls::{Fields, Stop, event};
+use sg_kernel_calls::{Fields, Stop, event};
+use sg_platform_rows::Network;
 use sg_profile::Entry;
-use sg_rows::Network;
 
 // Returns the next entry of all, if it is of this date.
 fn due_entry(fields: &Fields) -> Option<Entry>

@@ -3,15 +3,15 @@
 ghost use Rattle.std.specs.Prelude.{◌≡◌, ◌≤◌, drop};
 ghost use Rattle.sg_activity.specs.Underway.{hits};
 ghost use Rattle.sg_mailbox.specs.declared.owners.How.TheVariants as how;
-ghost use Rattle.sg_calls.specs.Answers.{finishes};
+ghost use Rattle.sg_kernel_calls.specs.Answers.{finishes};
 ghost use Rattle.sg_kernel.specs.Passes.{all_fail};
 ghost use Rattle.sg_kernel.specs.kept.Acts.{Changes, Enters};
 ghost use Rattle.sg_kernel.specs.kept.Asks.{CanFail};
-ghost use Rattle.sg_calls.specs.kept.Sound.{setup_in};
-ghost use Rattle.sg_calls.specs.kept.Whole.{IsPassing};
+ghost use Rattle.sg_kernel_calls.specs.kept.Sound.{setup_in};
+ghost use Rattle.sg_kernel_calls.specs.kept.Whole.{IsPassing};
 
 use sg_base::Serial;
-use sg_calls::{Fields, Stop, answer_owners, event};
+use sg_kernel_calls::{Fields, Stop, answer_owners, event};
 use sg_mailbox::How;
 
 // Fails the first activity of those that use something that is off, and answers its waiters.

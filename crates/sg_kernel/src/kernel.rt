@@ -4,29 +4,31 @@ ghost use Rattle.std.specs.Prelude.{◌≡◌, ◌≢◌, [], ◌==◌, ◌+◌,
 ghost use Rattle.std.specs.List.{list_all, list_any};
 ghost use Rattle.sg_base.specs.Limits.{IsCall, IsAction, IsAnswer};
 ghost use Rattle.sg_activity.specs.Underway.{work_of};
-ghost use Rattle.sg_rows.specs.Deployment.{IsDeployedOn};
-ghost use Rattle.sg_states.specs.Actors.{actor_at, blocked_of, inbox_of, is_alive, is_over, is_ready, is_unstarted};
-ghost use Rattle.sg_states.specs.Queue.{IsQueue};
-ghost use Rattle.sg_states.specs.Records.{IsTellable, AreRecords};
-ghost use Rattle.sg_calls.specs.World.{extent, is_suspended, state_of, IsActor, MayCall};
-ghost use Rattle.sg_calls.specs.Calls.{answered, told};
-ghost use Rattle.sg_calls.specs.Lives.{created};
-ghost use Rattle.sg_calls.specs.declared.stop.Stop.TheVariants as stop;
-ghost use Rattle.sg_calls.specs.Steps.{result_of};
+ghost use Rattle.sg_platform_rows.specs.Deployment.{IsDeployedOn};
+ghost use Rattle.sg_actor_states.specs.Actors.{actor_at, blocked_of, inbox_of, is_alive, is_over, is_ready, is_unstarted};
+ghost use Rattle.sg_actor_states.specs.Queue.{IsQueue};
+ghost use Rattle.sg_actor_states.specs.Records.{IsTellable, AreRecords};
+ghost use Rattle.sg_kernel_calls.specs.World.{extent, is_suspended, state_of, IsActor, MayCall};
+ghost use Rattle.sg_kernel_calls.specs.Calls.{answered, told};
+ghost use Rattle.sg_kernel_calls.specs.Lives.{created};
+ghost use Rattle.sg_kernel_calls.specs.declared.stop.Stop.TheVariants as stop;
+ghost use Rattle.sg_kernel_calls.specs.Steps.{result_of};
 ghost use Rattle.sg_kernel.specs.Start.{capacities_in, first_known};
-ghost use Rattle.sg_calls.specs.Setup.{setup_of};
-ghost use Rattle.sg_calls.specs.Roads.{AreOver};
+ghost use Rattle.sg_kernel_calls.specs.Setup.{setup_of};
+ghost use Rattle.sg_kernel_calls.specs.Roads.{AreOver};
 ghost use Rattle.sg_kernel.specs.Passes.{pass_of};
-ghost use Rattle.sg_calls.specs.Known.{after, after_call};
+ghost use Rattle.sg_kernel_calls.specs.Known.{after, after_call};
 
 use crate::beginning::first_fields;
 use crate::passes::move_on;
 use arrayvec::ArrayVec;
+use sg_actor_states::State;
 use sg_base::{Action, ActorId, Answer, Call, LinkId, Memory, PointId, Record, Steps};
-use sg_calls::{Fields, Stop, answer_call, check_budget, count, create, event, go_on, is_used_up};
+use sg_kernel_calls::{
+    Fields, Stop, answer_call, check_budget, count, create, event, go_on, is_used_up,
+};
+use sg_platform_rows::{Deployment, PlatformText};
 use sg_route::Router;
-use sg_rows::{Deployment, PlatformText};
-use sg_states::State;
 use std::alloc::Global;
 use std::marker::Model;
 use std::sync::ledger::Ledger;
@@ -60,12 +62,12 @@ impl Drop for Kernel {
 }
 
 impl Model for Kernel {
-    ghost use Rattle.sg_calls.specs.Known.{Known};
+    ghost use Rattle.sg_kernel_calls.specs.Known.{Known};
 
     ghost Value = { Known };
 
-    ghost use Rattle.sg_calls.specs.kept.Sound.{known_of};
-    ghost use Rattle.sg_calls.specs.kept.Whole.{IsWhole};
+    ghost use Rattle.sg_kernel_calls.specs.kept.Sound.{known_of};
+    ghost use Rattle.sg_kernel_calls.specs.kept.Whole.{IsWhole};
 
     ghost view = { λ s. known_of s.fields };
 

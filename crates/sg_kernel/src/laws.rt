@@ -1,12 +1,12 @@
 //! Laws of kernels, each the contract of a function that does nothing.
 ghost use Rattle.std.specs.Prelude.{◌≡◌, length};
 ghost use Rattle.sg_route.specs.Roads.{roads_of};
-ghost use Rattle.sg_rows.specs.Ends.{link_ends};
+ghost use Rattle.sg_platform_rows.specs.Ends.{link_ends};
 ghost use Rattle.sg_kernel.specs.Failures.{NothingOffIsUsed};
-ghost use Rattle.sg_calls.specs.Roads.{AreOver};
+ghost use Rattle.sg_kernel_calls.specs.Roads.{AreOver};
 
+use sg_platform_rows::PlatformText;
 use sg_route::{Router, routes_are_good};
-use sg_rows::PlatformText;
 
 /// No running activity uses a host or a link that is off: not at first, not after a call, and not after a time advance
 /// that wasn't stopped.

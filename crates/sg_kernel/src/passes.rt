@@ -2,17 +2,17 @@
 
 ghost use Rattle.std.specs.Prelude.{◌≡◌, ◌<◌, IsTrue, MatchOption, None, Some, if◌then◌else◌};
 ghost use Rattle.sg_activity.specs.Underway.{is_running};
-ghost use Rattle.sg_calls.specs.Steps.{all_of, each, result_of};
+ghost use Rattle.sg_kernel_calls.specs.Steps.{all_of, each, result_of};
 ghost use Rattle.sg_kernel.specs.Passes.{ends, next_span, settled_pass};
 ghost use Rattle.sg_kernel.specs.kept.Acts.{phase_ends, CanEnd, Ends, Passes};
 ghost use Rattle.sg_kernel.specs.kept.Asks.{CanMoveOn, CanPass};
 ghost use Rattle.sg_kernel.specs.kept.Coming.{coming, CountsSome, IsNextDate};
-ghost use Rattle.sg_calls.specs.kept.Sound.{core_of, setup_in, StepsBy};
-ghost use Rattle.sg_calls.specs.kept.Whole.{IsPassing, IsWhole};
+ghost use Rattle.sg_kernel_calls.specs.kept.Sound.{core_of, setup_in, StepsBy};
+ghost use Rattle.sg_kernel_calls.specs.kept.Whole.{IsPassing, IsWhole};
 
 use crate::entries::change_due;
 use sg_activity::{Activities, Phase, PhaseKind};
-use sg_calls::{Fields, Stop, answer_owners, check_budget, event};
+use sg_kernel_calls::{Fields, Stop, answer_owners, check_budget, event};
 use sg_mailbox::How;
 
 // Returns why there is no next date.

@@ -1,14 +1,14 @@
 //! What a platform and a deployment give to a simulation, row by row. An `Err` says that memory ran out.
 ghost use Rattle.std.specs.Prelude.{◌≡◌, ◌≤◌, ◌++◌, All, IfOk, OnOk, length, map, option_map};
 ghost use Rattle.std.specs.List.{count_by};
-ghost use Rattle.sg_rows.specs.Deployment.{is_replay, starts};
-ghost use Rattle.sg_rows.specs.Network.{IsNetwork};
-ghost use Rattle.sg_rows.specs.Platform.{IsLinkRow};
-ghost use Rattle.sg_calls.specs.Setup.{capacity_of, caps_in, host_cap, link_cap, link_caps, power_of_row, replays};
+ghost use Rattle.sg_platform_rows.specs.Deployment.{is_replay, starts};
+ghost use Rattle.sg_platform_rows.specs.Network.{IsNetwork};
+ghost use Rattle.sg_platform_rows.specs.Platform.{IsLinkRow};
+ghost use Rattle.sg_kernel_calls.specs.Setup.{capacity_of, caps_in, host_cap, link_cap, link_caps, power_of_row, replays};
 
+use sg_activity_table::{HostCap, LinkCap, Power};
 use sg_base::{Memory, PointId};
-use sg_lives::{HostCap, LinkCap, Power};
-use sg_rows::{ActorRow, Function, HostRow, LinkRow, Network, Policy, SemaphoreRow};
+use sg_platform_rows::{ActorRow, Function, HostRow, LinkRow, Network, Policy, SemaphoreRow};
 use std::alloc::Global;
 
 /// The bandwidth of the loopback, in bytes a second.

@@ -5,7 +5,7 @@ use Rattle.sg_maxmin.specs.Fill.{Flow, share_of}
 use Rattle.sg_maxmin.specs.Sharing.{Sharing, flow_at}
 use Rattle.sg_lazy.specs.RunningFlow.{RunningFlow, running_at, flows_in}
 use Rattle.sg_lazy.specs.Touch.{IsClosed}
-use Rattle.sg_levels.specs.declared.levels.Levels.{Levels}
+use Rattle.sg_maxmin_levels.specs.declared.levels.Levels.{Levels}
 use Rattle.sg_lazy.specs.kept.Leveled.{AreLeveled}
 use Rattle.sg_lazy.specs.kept.Keeping.{IsUnmarked}
 use Rattle.sg_lazy.specs.kept.Held.{IsLazy, IsRefilled, IsWithout, running_in}

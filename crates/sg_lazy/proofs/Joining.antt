@@ -3,7 +3,7 @@ use Rattle.std.proofs.Common.{◌≡◌, ◌≢◌, ℕ, zero, suc, ◌+◌, ◌
 use Rattle.std.proofs.lemmas.List.Sums.{sum_by-cons}
 use Rattle.sg_maxmin.specs.Fill.{Flow}
 use Rattle.sg_maxmin.specs.Sharing.{Sharing, flow_at, slot_part, uses_at, uses_in}
-use Rattle.sg_levels.specs.Joined.{joined_count, joined_part, joined_uses, sum_below}
+use Rattle.sg_maxmin_levels.specs.Joined.{joined_count, joined_part, joined_uses, sum_below}
 use Rattle.sg_maxmin.specs.Found.{PassAlong}
 use Rattle.sg_maxmin.specs.Numbered.{all_uses}
 use Rattle.sg_lazy.specs.kept.Held.{listed}

@@ -11,7 +11,7 @@ use Rattle.sg_lazy.proofs.Parts.{keeps_rate_lem, touched_rate_lem, free_rate_lem
 use Rattle.sg_base.specs.MarkSet.{is_in, with_mark}
 use Rattle.sg_lazy.specs.RunningFlow.{RunningFlow, bounded_by, running_at, flows_in}
 use Rattle.sg_lazy.specs.kept.Keeping.{IsUnmarked, StartKeeps, EndKeeps, CapacityKeeps, BoundKeeps, SettlesRates, SettleKeeps}
-use Rattle.sg_filling.proofs.Listing.{is_in_other}
+use Rattle.sg_maxmin_solve.proofs.Listing.{is_in_other}
 use Rattle.sg_lazy.proofs.Slots.{In-flows, In-flows_back, sum_written}
 use Rattle.sg_maxmin.proofs.Listed.{mark_there, bool_cases, eq_cases}
 

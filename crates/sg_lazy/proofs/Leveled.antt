@@ -3,14 +3,14 @@ use Rattle.std.proofs.Common.{◌≡◌, ℕ, ◌<◌, ◌≤◌, ◌^◌, ◌�
 use Rattle.sg_base.specs.MarkSet.{is_in, with_mark}
 use Rattle.sg_maxmin.specs.Fill.{Flow, flow}
 use Rattle.sg_maxmin.specs.Sharing.{Sharing, IsSound, flow_at, uses_in}
-use Rattle.sg_levels.specs.declared.levels.Levels.{Levels}
-use Rattle.sg_levels.specs.Kept.{IsBetween, IsFresh, IsStarted, IsWithin, NotesChanged}
+use Rattle.sg_maxmin_levels.specs.declared.levels.Levels.{Levels}
+use Rattle.sg_maxmin_levels.specs.Kept.{IsBetween, IsFresh, IsStarted, IsWithin, NotesChanged}
 use Rattle.sg_maxmin.specs.Numbered.{bound_at, flow_in, level_at, slot_bound, slot_weight, weight_at}
-use Rattle.sg_filling.proofs.Growing.{grows_mark, mark_cases, stays}
-use Rattle.sg_filling.specs.declared.parts.Parts.{Parts}
-use Rattle.sg_filling.specs.Component.{AreIn}
-use Rattle.sg_filling.specs.Parts.{IsReady}
-use Rattle.sg_filling.proofs.Rows.{into}
+use Rattle.sg_maxmin_solve.proofs.Growing.{grows_mark, mark_cases, stays}
+use Rattle.sg_maxmin_solve.specs.declared.parts.Parts.{Parts}
+use Rattle.sg_maxmin_solve.specs.Component.{AreIn}
+use Rattle.sg_maxmin_solve.specs.Parts.{IsReady}
+use Rattle.sg_maxmin_solve.proofs.Rows.{into}
 use Rattle.sg_lazy.specs.kept.Leveled.{AreLeveled, rate_at, rate_of}
 use Rattle.sg_maxmin.proofs.Listed.{mark_there, bool_cases, eq_cases, some_of, none_some}
 

@@ -8,11 +8,11 @@ use Rattle.sg_maxmin.specs.Fill.{Flow, is_on}
 use Rattle.sg_maxmin.specs.Sharing.{Sharing, IsSound, flow_at, slot_part, uses_at}
 use Rattle.sg_maxmin.proofs.Members.{In, In-map, list_any_in}
 use Rattle.sg_maxmin.specs.Chained.{users_on}
-use Rattle.sg_levels.specs.declared.levels.Levels.{Levels}
-use Rattle.sg_levels.specs.Joined.{joined_count, joined_part, joined_uses, sum_below}
-use Rattle.sg_levels.specs.Kept.{IsWithin}
+use Rattle.sg_maxmin_levels.specs.declared.levels.Levels.{Levels}
+use Rattle.sg_maxmin_levels.specs.Joined.{joined_count, joined_part, joined_uses, sum_below}
+use Rattle.sg_maxmin_levels.specs.Kept.{IsWithin}
 use Rattle.sg_maxmin.specs.Found.{PassAlong}
-use Rattle.sg_filling.specs.Component.{MarksRow, lengths}
+use Rattle.sg_maxmin_solve.specs.Component.{MarksRow, lengths}
 use Rattle.sg_lazy.specs.Touch.{touches, spread, reach}
 use Rattle.sg_lazy.specs.RunningFlow.{RunningFlow, running_at, running_flows}
 use Rattle.sg_lazy.specs.Work.{is_marked, is_joined, work}

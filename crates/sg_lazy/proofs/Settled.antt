@@ -4,13 +4,13 @@ use Rattle.sg_base.specs.MarkSet.{is_in}
 use Rattle.sg_maxmin.specs.Fill.{Flow, share_of}
 use Rattle.sg_maxmin.specs.Sharing.{Sharing, IsSound, flow_at, held}
 use Rattle.sg_maxmin.proofs.Held.{held_in}
-use Rattle.sg_levels.specs.declared.levels.Levels.{Levels}
+use Rattle.sg_maxmin_levels.specs.declared.levels.Levels.{Levels}
 use Rattle.sg_maxmin.specs.Held.{AreFilled}
-use Rattle.sg_levels.specs.Kept.{IsWithin, NotesChanged}
+use Rattle.sg_maxmin_levels.specs.Kept.{IsWithin, NotesChanged}
 use Rattle.sg_maxmin.specs.Found.{PassAlong}
 use Rattle.sg_maxmin.specs.Numbered.{bound_at}
 use Rattle.sg_maxmin.proofs.HeldLevels.{held_limits}
-use Rattle.sg_filling.proofs.Starts.{share_fits}
+use Rattle.sg_maxmin_solve.proofs.Starts.{share_fits}
 use Rattle.sg_lazy.specs.RunningFlow.{RunningFlow, running_at, flows_in}
 use Rattle.sg_lazy.specs.declared.settle.Pending.{Pending}
 use Rattle.sg_lazy.specs.kept.Changes.{WritesRates, did_change, is_changed}

@@ -7,9 +7,9 @@ use Rattle.sg_maxmin.proofs.Members.{In-from_contains, contains_from_In, In-appe
 use Rattle.sg_lazy.specs.RunningFlow.{RunningFlow, bounded_by, running_at}
 use Rattle.sg_lazy.specs.kept.Keeping.{AreKept}
 use Rattle.sg_lazy.specs.kept.Held.{IsLazy, listed, running_of, running_in, flow_or_none, ended_in}
-use Rattle.sg_filling.proofs.Growing.{mark_cases, grows_mark, stays}
+use Rattle.sg_maxmin_solve.proofs.Growing.{mark_cases, grows_mark, stays}
 use Rattle.sg_lazy.proofs.Keeps.{start_keeps, end_keeps, capacity_keeps, bound_keeps}
-use Rattle.sg_filling.proofs.Listing.{is_in_other, map_same, new_mark}
+use Rattle.sg_maxmin_solve.proofs.Listing.{is_in_other, map_same, new_mark}
 use Rattle.sg_lazy.proofs.Listed.{length_listed, at_listed, past_listed, set_listed}
 use Rattle.sg_maxmin.proofs.Listed.{mark_there, eq_cases, bool_cases, some_of, none_some, some_same}
 use Rattle.sg_maxmin.proofs.Users.{in_is}

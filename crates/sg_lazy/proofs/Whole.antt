@@ -7,11 +7,11 @@ use Rattle.sg_maxmin.specs.Fill.{Flow, is_on, share_of}
 use Rattle.sg_maxmin.specs.Sharing.{Sharing, IsSound, flow_at, uses_at}
 use Rattle.sg_lazy.specs.RunningFlow.{RunningFlow, running_at, flows_in}
 use Rattle.sg_lazy.specs.Lazily.{IsSettled, DidChange}
-use Rattle.sg_filling.specs.Component.{lengths}
+use Rattle.sg_maxmin_solve.specs.Component.{lengths}
 use Rattle.sg_lazy.specs.kept.Keeping.{IsUnmarked, AreKept}
 use Rattle.sg_lazy.specs.kept.Held.{IsLazy, IsRefilled, listed, running_of, running_in, flow_or_none, ended_in}
 use Rattle.sg_lazy.proofs.Keeps.{settle_keeps}
-use Rattle.sg_filling.proofs.Listing.{map_same}
+use Rattle.sg_maxmin_solve.proofs.Listing.{map_same}
 use Rattle.sg_lazy.proofs.Listed.{at_listed, length_listed, past_listed}
 use Rattle.sg_lazy.proofs.Settled.{flow_of_running, held_runs}
 use Rattle.sg_lazy.proofs.Starting.{is_here}

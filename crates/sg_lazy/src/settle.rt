@@ -1,9 +1,9 @@
 //! The rate update: levels are brought up to date, and the rates of the flows that moved are written.
 ghost use Rattle.std.specs.Prelude.{◌≡◌, ◌≢◌, ◌≤◌, ◌<◌, ◌+◌, ℕ, Bool, [], true, false, IfOk, IsSome, IsTrue, AllPairs, length, slice_index};
 ghost use Rattle.sg_maxmin.specs.Sharing.{IsSound, flow_at, uses_at};
-ghost use Rattle.sg_levels.specs.Kept.{IsBetween, IsWithin, NotesChanged};
+ghost use Rattle.sg_maxmin_levels.specs.Kept.{IsBetween, IsWithin, NotesChanged};
 ghost use Rattle.sg_maxmin.specs.Found.{PassAlong};
-ghost use Rattle.sg_filling.specs.Component.{MarksRow, lengths};
+ghost use Rattle.sg_maxmin_solve.specs.Component.{MarksRow, lengths};
 ghost use Rattle.sg_lazy.specs.RunningFlow.{running_flows};
 ghost use Rattle.sg_lazy.specs.Work.{work};
 ghost use Rattle.sg_lazy.specs.kept.Held.{HasRoom, IsLazy, IsNothing, IsRefilled, IsWithout, running_in, ended_in};
@@ -12,9 +12,9 @@ ghost use Rattle.sg_lazy.specs.kept.Solving.{IsPendingOn, IsSolved, IsSolver, So
 
 use crate::writing::write_rates;
 use sg_base::{Marks, Memory, Steps};
-use sg_filling::Parts;
-use sg_levels::Levels;
 use sg_maxmin::System;
+use sg_maxmin_levels::Levels;
+use sg_maxmin_solve::Parts;
 use std::alloc::Global;
 use std::sync::ledger::Ledger;
 

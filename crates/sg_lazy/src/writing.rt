@@ -8,9 +8,9 @@ ghost use Rattle.sg_lazy.specs.kept.Leveled.{AreRatable, IsRatable, rate_at, rat
 
 use crate::settle::Pending;
 use sg_base::Marks;
-use sg_levels::Levels;
 use sg_maxmin::System;
 use sg_maxmin::rounding::share_at;
+use sg_maxmin_levels::Levels;
 
 // Returns what a flow gets at its level; nothing if it has none.
 fn share(system: &System, flow: usize, level: Option<u64>) -> u64

@@ -1,8 +1,8 @@
 //! The rows of a churn of seed 7 with three actors and two steps, worked from the rule of docs/specification.md, "Churn",
 //! in another language.
 use sg_base::{Child, LinkId};
-use sg_churn::{churn_deployment, churn_platform};
-use sg_rows::{ActorRow, Function, PlatformText, SpokeRow};
+use sg_platform_churn::{churn_deployment, churn_platform};
+use sg_platform_rows::{ActorRow, Function, PlatformText, SpokeRow};
 use std::process::Abort;
 use std::test::Fail;
 

@@ -1,7 +1,7 @@
 //! Tests of parts, streams, slots and readers, of what no whole run shows: reads and writes that fail or give little,
 //! turns that meet in threads, units, the limits of both texts, routes, and the rows of a churn.
 //! One enters by a module of tests, as `parts`; there is nothing else in it.
-//! It stands on `sg_script`, `sg_platform`, `sg_route`, `sg_churn`, what is below these, and `sg_job_cases`.
+//! It stands on `sg_script`, `sg_platform`, `sg_route`, `sg_platform_churn`, what is below these, and `sg_job_cases`.
 #![tactic(auto)]
 
 #[cfg(test)]

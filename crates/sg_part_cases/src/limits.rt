@@ -2,8 +2,8 @@
 //! tables of `sg_job_cases`: ` | ` breaks a line, and `%FIRST%END%ITEM%` gives an item for each number.
 use sg_job_cases::Case;
 use sg_platform::{read_deployment, read_platform};
-use sg_rows::PlatformText;
-use sg_tree::Fault;
+use sg_platform_rows::PlatformText;
+use sg_toml_tree::Fault;
 use sg_zones::Zones;
 use std::alloc::Global;
 use std::process::Abort;

@@ -1,14 +1,14 @@
 //! Fetches from a script whose reads fail, and from one whose actions wait by thousands.
 ghost use Rattle.std.specs.Prelude.{◌≡◌, ◌≢◌, IfOk};
 ghost use Rattle.sg_edge.specs.declared.files.Stage.TheVariants.{Fresh};
-ghost use Rattle.sg_rows.specs.Deployment.{extent_of};
+ghost use Rattle.sg_platform_rows.specs.Deployment.{extent_of};
 ghost use Rattle.sg_script.specs.Known.{actors_in};
 ghost use Rattle.sg_script.specs.Stands.{actors_of, kept_of, AreLimited};
 
 use sg_base::{Action, ActorId};
 use sg_edge::{Files, MemFiles, Part};
 use sg_platform::{read_deployment, read_platform};
-use sg_rows::Deployment;
+use sg_platform_rows::Deployment;
 use sg_script::{Script, ScriptFault};
 use std::alloc::Global;
 use std::test::Fail;

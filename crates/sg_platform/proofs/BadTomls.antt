@@ -5,13 +5,13 @@ use Rattle.std.specs.Option.{option_map_or}
 use Rattle.sg_platform.specs.DeploymentOf.{deployment_of, deployment_rows, names_on}
 use Rattle.sg_platform.specs.Laws.{BadTomlExactly}
 use Rattle.sg_platform.specs.PlatformOf.{greatest_text, platform_of, platform_rows, text_by, tree_by}
-use Rattle.sg_rules.specs.Faults.{faults_of}
-use Rattle.sg_tree.specs.Names.{Known, platform_known}
-use Rattle.sg_tables.specs.Tables.{deployment_tables, platform_tables}
-use Rattle.sg_tables.specs.declared.tables.Table.{Table}
-use Rattle.sg_tree.specs.Along.{first}
-use Rattle.sg_tree.specs.Tree.{tree_of}
-use Rattle.sg_tree.specs.declared.fault.Fault.{Fault}
+use Rattle.sg_toml_rules.specs.Faults.{faults_of}
+use Rattle.sg_toml_tree.specs.Names.{Known, platform_known}
+use Rattle.sg_toml_keys.specs.Tables.{deployment_tables, platform_tables}
+use Rattle.sg_toml_keys.specs.declared.tables.Table.{Table}
+use Rattle.sg_toml_tree.specs.Along.{first}
+use Rattle.sg_toml_tree.specs.Tree.{tree_of}
+use Rattle.sg_toml_tree.specs.declared.fault.Fault.{Fault}
 use Rattle.toml.specs.Data.{Members}
 
 -- what is reported of a tree is a rule

@@ -6,18 +6,18 @@ use Rattle.sg_base.specs.Limits.{Extent}
 use Rattle.sg_platform.proofs.KeptFunctions.{FindsWorkers, actor_function_kept}
 use Rattle.sg_platform.proofs.KeptRows.{actor_kept, mutex_kept, semaphore_kept}
 use Rattle.sg_platform.specs.Build.{actor_row, mutex_row, semaphore_row}
-use Rattle.sg_rows.specs.Deployment.{IsActorRow, IsDeployedOn, IsDeployment, IsFunction, IsSemaphoreRow}
+use Rattle.sg_platform_rows.specs.Deployment.{IsActorRow, IsDeployedOn, IsDeployment, IsFunction, IsSemaphoreRow}
 use Rattle.sg_platform.specs.DeploymentOf.{deployment_rows}
-use Rattle.sg_rows.specs.Platform.{Platform}
-use Rattle.sg_rules.proofs.Kept.{rows_few, rows_kept}
-use Rattle.sg_rules.specs.Faults.{faults_of, table_faults}
-use Rattle.sg_tree.specs.Names.{Known, known_by}
-use Rattle.sg_tables.specs.Tables.{deployment_tables}
-use Rattle.sg_tables.specs.declared.tables.Table.TheVariants.{Actor, Mutex, Semaphore}
-use Rattle.sg_tree.proofs.Kept.{empty_left, empty_right, none_empty}
-use Rattle.sg_tree.specs.Along.{first}
-use Rattle.sg_tree.specs.NameSpaces.{Finds}
-use Rattle.sg_tree.specs.Tree.{rows_at}
+use Rattle.sg_platform_rows.specs.Platform.{Platform}
+use Rattle.sg_toml_rules.proofs.Kept.{rows_few, rows_kept}
+use Rattle.sg_toml_rules.specs.Faults.{faults_of, table_faults}
+use Rattle.sg_toml_tree.specs.Names.{Known, known_by}
+use Rattle.sg_toml_keys.specs.Tables.{deployment_tables}
+use Rattle.sg_toml_keys.specs.declared.tables.Table.TheVariants.{Actor, Mutex, Semaphore}
+use Rattle.sg_toml_tree.proofs.Kept.{empty_left, empty_right, none_empty}
+use Rattle.sg_toml_tree.specs.Along.{first}
+use Rattle.sg_toml_tree.specs.NameSpaces.{Finds}
+use Rattle.sg_toml_tree.specs.Tree.{rows_at}
 use Rattle.toml.specs.Data.{Members}
 
 -- no table has a fault

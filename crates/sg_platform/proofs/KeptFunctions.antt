@@ -7,25 +7,25 @@ use Rattle.std.specs.List.{All, list_all}
 use Rattle.sg_base.specs.Limits.{Extent, IsActorIn}
 use Rattle.sg_platform.proofs.LinkLists.{and_left, and_right}
 use Rattle.sg_platform.specs.Build.{actor_row}
-use Rattle.sg_rows.specs.Deployment.{IsFunction}
+use Rattle.sg_platform_rows.specs.Deployment.{IsFunction}
 use Rattle.sg_platform.specs.Functions.{amount_or_zero, function_of, master_of, worker_id}
-use Rattle.sg_rows.specs.declared.rows.Function.TheVariants.{Replay, Worker}
-use Rattle.sg_tables.proofs.Greatest.{quantity_within}
-use Rattle.sg_rules.specs.Profiles.{items_at}
-use Rattle.sg_rules.proofs.Kept.{KeysKept}
-use Rattle.sg_rules.proofs.KeptArguments.{HasWorkers, IsNumbered, arguments_fit, master_fits, tasks_within, workers_fit, workers_numbered}
-use Rattle.sg_tree.specs.Workers.{has_function, worker_names}
-use Rattle.sg_rules.specs.Arguments.{are_for_master, are_workers, text_of}
-use Rattle.sg_tree.specs.Names.{Known}
-use Rattle.sg_rules.specs.Rules.{key_kinds}
-use Rattle.sg_tables.specs.Tables.{key, keys_of}
-use Rattle.sg_tables.specs.declared.tables.Need.TheVariants.{Optional}
-use Rattle.sg_tables.specs.Units.{quantity_value}
-use Rattle.sg_tables.specs.declared.units.Quantity.TheVariants.{Amount}
-use Rattle.sg_tables.specs.declared.tables.Rule.TheVariants.{Texts}
-use Rattle.sg_tables.specs.declared.tables.TextsRule.TheVariants.{ArgumentList}
-use Rattle.sg_tables.specs.declared.tables.Table.TheVariants.{Actor}
-use Rattle.sg_tree.specs.NameSpaces.{Finds, found_in, numbered}
+use Rattle.sg_platform_rows.specs.declared.rows.Function.TheVariants.{Replay, Worker}
+use Rattle.sg_toml_keys.proofs.Greatest.{quantity_within}
+use Rattle.sg_toml_rules.specs.Profiles.{items_at}
+use Rattle.sg_toml_rules.proofs.Kept.{KeysKept}
+use Rattle.sg_toml_rules.proofs.KeptArguments.{HasWorkers, IsNumbered, arguments_fit, master_fits, tasks_within, workers_fit, workers_numbered}
+use Rattle.sg_toml_tree.specs.Workers.{has_function, worker_names}
+use Rattle.sg_toml_rules.specs.Arguments.{are_for_master, are_workers, text_of}
+use Rattle.sg_toml_tree.specs.Names.{Known}
+use Rattle.sg_toml_rules.specs.Rules.{key_kinds}
+use Rattle.sg_toml_keys.specs.Tables.{key, keys_of}
+use Rattle.sg_toml_keys.specs.declared.tables.Need.TheVariants.{Optional}
+use Rattle.sg_toml_keys.specs.Units.{quantity_value}
+use Rattle.sg_toml_keys.specs.declared.units.Quantity.TheVariants.{Amount}
+use Rattle.sg_toml_keys.specs.declared.tables.Rule.TheVariants.{Texts}
+use Rattle.sg_toml_keys.specs.declared.tables.TextsRule.TheVariants.{ArgumentList}
+use Rattle.sg_toml_keys.specs.declared.tables.Table.TheVariants.{Actor}
+use Rattle.sg_toml_tree.specs.NameSpaces.{Finds, found_in, numbered}
 use Rattle.toml.specs.Data.{Data}
 
 -- workers are found by their identifiers

@@ -3,11 +3,11 @@ use Rattle.std.proofs.Common.{ℕ, ◌≤◌, nat_le, ℤ, List, [], ◌∷◌, 
 use Rattle.std.proofs.lemmas.Bool.{cases_Bool}
 use Rattle.std.proofs.lemmas.Bool.Decides.{nat_tests}
 use Rattle.sg_platform.specs.Build.{host_power, whole_at, with_off}
-use Rattle.sg_tables.proofs.Greatest.{whole_within}
-use Rattle.sg_tables.specs.Units.{whole_value}
-use Rattle.sg_rows.specs.Platform.{IsPower}
-use Rattle.sg_rules.specs.Power.{milliwatts_in, powers_in, powers_of}
-use Rattle.sg_rules.specs.Profiles.{items_at}
+use Rattle.sg_toml_keys.proofs.Greatest.{whole_within}
+use Rattle.sg_toml_keys.specs.Units.{whole_value}
+use Rattle.sg_platform_rows.specs.Platform.{IsPower}
+use Rattle.sg_toml_rules.specs.Power.{milliwatts_in, powers_in, powers_of}
+use Rattle.sg_toml_rules.specs.Profiles.{items_at}
 use Rattle.toml.specs.Data.{Data, as_integer, get}
 
 abbrev IsLow : ℕ → Type 0

@@ -12,30 +12,30 @@ use Rattle.sg_platform.proofs.KeptRows.{IsCounted, point_under}
 use Rattle.sg_platform.proofs.LinkLists.{and_left, and_right}
 use Rattle.sg_platform.specs.Build.{amounts_at, link_id, point_id, profile_row, state_profile_row}
 use Rattle.sg_platform.specs.Functions.{amount_or_zero}
-use Rattle.sg_rows.specs.Platform.{Counts, HasDates, IsProfileRow, IsProfiled, IsStateProfileRow}
-use Rattle.sg_rows.specs.declared.rows.Profiled.{Profiled}
-use Rattle.sg_rows.specs.declared.rows.Profiled.TheVariants.{Host as OfHost, Link as OfLink}
-use Rattle.sg_tables.proofs.Greatest.{greatest, quantity_within}
-use Rattle.sg_rules.proofs.Kept.{KeysKept, host_there, not_false, optional_text, positive_there, required_at, required_items, some_there, unbroken}
-use Rattle.sg_tree.specs.Names.{Known}
-use Rattle.sg_rules.specs.Profiles.{amount_in, are_rising, dates_kinds, each_date_kinds, items_at, quantity_of, state_in}
-use Rattle.sg_rules.proofs.FaultParts.{kinds_at}
-use Rattle.sg_rules.specs.Rules.{host_kinds, is_below, key_kinds, profiled_link_kinds, text_kinds}
-use Rattle.sg_tables.specs.Tables.{key, keys_of}
-use Rattle.sg_tables.specs.declared.tables.Need.TheVariants.{Required, Optional, Unless}
-use Rattle.sg_tables.specs.Units.{quantity_value}
-use Rattle.sg_tables.specs.declared.tables.Rule.TheVariants as rule
-use Rattle.sg_tables.specs.declared.tables.TextRule.{TextRule}
-use Rattle.sg_tables.specs.declared.tables.TextRule.TheVariants as text_rule
-use Rattle.sg_tables.specs.declared.tables.TextsRule.TheVariants as texts_rule
-use Rattle.sg_tables.specs.declared.tables.Table.TheVariants.{Profile, StateProfile}
-use Rattle.sg_tables.specs.declared.units.Quantity.{Quantity}
-use Rattle.sg_tables.specs.declared.units.Quantity.TheVariants.{Time, Speed, Bandwidth}
-use Rattle.sg_tree.proofs.Kept.{empty_left, empty_right}
-use Rattle.sg_tree.specs.Faults.{kind_if}
-use Rattle.sg_tree.specs.NameSpaces.{Finds}
-use Rattle.sg_tree.specs.Tree.{text_at, text_or_empty}
-use Rattle.sg_tree.specs.declared.fault.Kind.TheVariants.{Duplicate}
+use Rattle.sg_platform_rows.specs.Platform.{Counts, HasDates, IsProfileRow, IsProfiled, IsStateProfileRow}
+use Rattle.sg_platform_rows.specs.declared.rows.Profiled.{Profiled}
+use Rattle.sg_platform_rows.specs.declared.rows.Profiled.TheVariants.{Host as OfHost, Link as OfLink}
+use Rattle.sg_toml_keys.proofs.Greatest.{greatest, quantity_within}
+use Rattle.sg_toml_rules.proofs.Kept.{KeysKept, host_there, not_false, optional_text, positive_there, required_at, required_items, some_there, unbroken}
+use Rattle.sg_toml_tree.specs.Names.{Known}
+use Rattle.sg_toml_rules.specs.Profiles.{amount_in, are_rising, dates_kinds, each_date_kinds, items_at, quantity_of, state_in}
+use Rattle.sg_toml_rules.proofs.FaultParts.{kinds_at}
+use Rattle.sg_toml_rules.specs.Rules.{host_kinds, is_below, key_kinds, profiled_link_kinds, text_kinds}
+use Rattle.sg_toml_keys.specs.Tables.{key, keys_of}
+use Rattle.sg_toml_keys.specs.declared.tables.Need.TheVariants.{Required, Optional, Unless}
+use Rattle.sg_toml_keys.specs.Units.{quantity_value}
+use Rattle.sg_toml_keys.specs.declared.tables.Rule.TheVariants as rule
+use Rattle.sg_toml_keys.specs.declared.tables.TextRule.{TextRule}
+use Rattle.sg_toml_keys.specs.declared.tables.TextRule.TheVariants as text_rule
+use Rattle.sg_toml_keys.specs.declared.tables.TextsRule.TheVariants as texts_rule
+use Rattle.sg_toml_keys.specs.declared.tables.Table.TheVariants.{Profile, StateProfile}
+use Rattle.sg_toml_keys.specs.declared.units.Quantity.{Quantity}
+use Rattle.sg_toml_keys.specs.declared.units.Quantity.TheVariants.{Time, Speed, Bandwidth}
+use Rattle.sg_toml_tree.proofs.Kept.{empty_left, empty_right}
+use Rattle.sg_toml_tree.specs.Faults.{kind_if}
+use Rattle.sg_toml_tree.specs.NameSpaces.{Finds}
+use Rattle.sg_toml_tree.specs.Tree.{text_at, text_or_empty}
+use Rattle.sg_toml_tree.specs.declared.fault.Kind.TheVariants.{Duplicate}
 use Rattle.toml.specs.Data.{Data, as_str, get}
 
 -- ---- of what it is

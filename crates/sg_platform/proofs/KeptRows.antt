@@ -5,36 +5,36 @@ use Rattle.std.specs.Option.{option_map_or}
 use Rattle.std.proofs.lemmas.Bool.{cases_Bool}
 use Rattle.std.proofs.lemmas.Bool.Decides.{nat_tests}
 use Rattle.sg_base.specs.declared.ids.Child.TheVariants.{Point as PointChild, Zone as ZoneChild}
-use Rattle.sg_rows.proofs.EndsBelow.{way_back_kept}
-use Rattle.sg_rows.proofs.Networks.{plain_kept}
+use Rattle.sg_platform_rows.proofs.EndsBelow.{way_back_kept}
+use Rattle.sg_platform_rows.proofs.Networks.{plain_kept}
 use Rattle.sg_platform.proofs.KeptPower.{power_kept, whole_holds}
 use Rattle.sg_platform.proofs.LinkLists.{required_links, value_link_list}
 use Rattle.sg_platform.specs.Build.{actor_row, child_of, gateway, host_row, link_row, links_at, mutex_row, network_row, point_id, route_row, router_row, semaphore_row, spoke_row, value_at, zone_id, zone_route_row, zone_row}
-use Rattle.sg_rows.specs.Deployment.{IsActorRow, IsSemaphoreRow}
-use Rattle.sg_rows.specs.Ends.{link_ends, way_back}
-use Rattle.sg_rows.specs.Network.{IsNetwork, plain_network}
-use Rattle.sg_rows.specs.Platform.{Counts, IsChild, IsHostRow, IsLinkList, IsLinkRow, IsRouteRow, IsRouterRow, IsSpokeRow, IsZoneRouteRow, IsZoneRow}
-use Rattle.sg_rows.specs.declared.rows.ActorRow.{ActorRow}
-use Rattle.sg_rows.specs.declared.rows.LinkRow.{LinkRow}
-use Rattle.sg_tables.proofs.Greatest.{quantity_within}
-use Rattle.sg_rules.proofs.Kept.{KeysKept, end_there, host_there, taken_there, link_name_short, name_short, optional_text, point_there, positive_there, required_text, unbroken, zone_there}
-use Rattle.sg_tree.specs.LinkNames.{is_split}
-use Rattle.sg_tree.specs.Names.{Known}
-use Rattle.sg_rules.proofs.FaultParts.{kinds_at}
-use Rattle.sg_rules.specs.Rules.{end_kinds, is_below, key_kinds, point_kinds, value_kinds}
-use Rattle.sg_tables.specs.Tables.{key, keys_of}
-use Rattle.sg_tables.specs.declared.tables.Need.TheVariants.{Optional, IfZone}
-use Rattle.sg_tables.specs.Units.{quantity_value, whole_value}
-use Rattle.sg_tables.specs.declared.units.Quantity.TheVariants.{Latency, Speed, Bandwidth, Factor, Amount}
-use Rattle.sg_tables.specs.declared.tables.Rule.TheVariants as rule
-use Rattle.sg_tables.specs.declared.tables.TextRule.TheVariants as text_rule
-use Rattle.sg_tables.specs.declared.tables.TextsRule.TheVariants as texts_rule
-use Rattle.sg_tables.specs.declared.tables.Table.TheVariants.{Zone, Host, Router, Link, Route, ZoneRoute, Spoke, Network, Actor, Mutex, Semaphore}
-use Rattle.sg_tree.proofs.Kept.{empty_right}
-use Rattle.sg_tree.specs.Along.{first}
-use Rattle.sg_tree.specs.Faults.{kind_if, of_type}
-use Rattle.sg_tree.specs.declared.fault.Kind.TheVariants.{BadValue, Unknown}
-use Rattle.sg_tree.specs.Tree.{text_at, text_or_empty}
+use Rattle.sg_platform_rows.specs.Deployment.{IsActorRow, IsSemaphoreRow}
+use Rattle.sg_platform_rows.specs.Ends.{link_ends, way_back}
+use Rattle.sg_platform_rows.specs.Network.{IsNetwork, plain_network}
+use Rattle.sg_platform_rows.specs.Platform.{Counts, IsChild, IsHostRow, IsLinkList, IsLinkRow, IsRouteRow, IsRouterRow, IsSpokeRow, IsZoneRouteRow, IsZoneRow}
+use Rattle.sg_platform_rows.specs.declared.rows.ActorRow.{ActorRow}
+use Rattle.sg_platform_rows.specs.declared.rows.LinkRow.{LinkRow}
+use Rattle.sg_toml_keys.proofs.Greatest.{quantity_within}
+use Rattle.sg_toml_rules.proofs.Kept.{KeysKept, end_there, host_there, taken_there, link_name_short, name_short, optional_text, point_there, positive_there, required_text, unbroken, zone_there}
+use Rattle.sg_toml_tree.specs.LinkNames.{is_split}
+use Rattle.sg_toml_tree.specs.Names.{Known}
+use Rattle.sg_toml_rules.proofs.FaultParts.{kinds_at}
+use Rattle.sg_toml_rules.specs.Rules.{end_kinds, is_below, key_kinds, point_kinds, value_kinds}
+use Rattle.sg_toml_keys.specs.Tables.{key, keys_of}
+use Rattle.sg_toml_keys.specs.declared.tables.Need.TheVariants.{Optional, IfZone}
+use Rattle.sg_toml_keys.specs.Units.{quantity_value, whole_value}
+use Rattle.sg_toml_keys.specs.declared.units.Quantity.TheVariants.{Latency, Speed, Bandwidth, Factor, Amount}
+use Rattle.sg_toml_keys.specs.declared.tables.Rule.TheVariants as rule
+use Rattle.sg_toml_keys.specs.declared.tables.TextRule.TheVariants as text_rule
+use Rattle.sg_toml_keys.specs.declared.tables.TextsRule.TheVariants as texts_rule
+use Rattle.sg_toml_keys.specs.declared.tables.Table.TheVariants.{Zone, Host, Router, Link, Route, ZoneRoute, Spoke, Network, Actor, Mutex, Semaphore}
+use Rattle.sg_toml_tree.proofs.Kept.{empty_right}
+use Rattle.sg_toml_tree.specs.Along.{first}
+use Rattle.sg_toml_tree.specs.Faults.{kind_if, of_type}
+use Rattle.sg_toml_tree.specs.declared.fault.Kind.TheVariants.{BadValue, Unknown}
+use Rattle.sg_toml_tree.specs.Tree.{text_at, text_or_empty}
 use Rattle.toml.specs.Data.{Data, as_integer, as_str, get}
 
 -- the numbers of names stay below the counts, and a link that has a name is not the loopback

@@ -8,19 +8,19 @@ use Rattle.std.specs.List.{All, list_any}
 use Rattle.std.specs.Option.{option_map_or}
 use Rattle.sg_base.specs.declared.ids.LinkId.{LinkId}
 use Rattle.sg_platform.specs.Build.{link_id, links_at}
-use Rattle.sg_rows.specs.Platform.{Counts, IsLinkList}
-use Rattle.sg_rules.proofs.Kept.{typed_list, unbroken}
-use Rattle.sg_rules.specs.Arguments.{text_of}
-use Rattle.sg_tree.specs.Names.{Known}
-use Rattle.sg_rules.proofs.FaultParts.{kinds_at}
-use Rattle.sg_rules.specs.Rules.{key_kinds, link_list_kinds, list_kinds, texts_kinds, value_kinds}
-use Rattle.sg_tables.specs.Tables.{key}
-use Rattle.sg_tables.specs.declared.tables.Need.TheVariants.{Required}
-use Rattle.sg_tables.specs.declared.tables.Rule.TheVariants.{Texts}
-use Rattle.sg_tables.specs.declared.tables.TextsRule.TheVariants.{LinkList}
-use Rattle.sg_tree.proofs.Kept.{empty_left, empty_right}
-use Rattle.sg_tree.specs.Faults.{of_type}
-use Rattle.sg_tree.specs.Tree.{list_of}
+use Rattle.sg_platform_rows.specs.Platform.{Counts, IsLinkList}
+use Rattle.sg_toml_rules.proofs.Kept.{typed_list, unbroken}
+use Rattle.sg_toml_rules.specs.Arguments.{text_of}
+use Rattle.sg_toml_tree.specs.Names.{Known}
+use Rattle.sg_toml_rules.proofs.FaultParts.{kinds_at}
+use Rattle.sg_toml_rules.specs.Rules.{key_kinds, link_list_kinds, list_kinds, texts_kinds, value_kinds}
+use Rattle.sg_toml_keys.specs.Tables.{key}
+use Rattle.sg_toml_keys.specs.declared.tables.Need.TheVariants.{Required}
+use Rattle.sg_toml_keys.specs.declared.tables.Rule.TheVariants.{Texts}
+use Rattle.sg_toml_keys.specs.declared.tables.TextsRule.TheVariants.{LinkList}
+use Rattle.sg_toml_tree.proofs.Kept.{empty_left, empty_right}
+use Rattle.sg_toml_tree.specs.Faults.{of_type}
+use Rattle.sg_toml_tree.specs.Tree.{list_of}
 use Rattle.toml.specs.Data.{Data, Items, get, as_array, as_str}
 
 abbrev LinksBelow : Known → Counts → Type 0

@@ -1,13 +1,13 @@
 -- The first fault of a platform is one of a platform's rules.
 use Rattle.std.proofs.Common.{◌≡◌, List, [], ◌∷◌, Some, subst}
 use Rattle.std.specs.List.{AllByRecursion}
-use Rattle.sg_rules.proofs.PlatformKinds.{platform_kinds}
-use Rattle.sg_rules.specs.Faults.{faults_of}
-use Rattle.sg_tree.specs.Names.{Known}
-use Rattle.sg_rules.specs.PlatformKinds.{IsPlatformFault}
-use Rattle.sg_tables.specs.Tables.{platform_tables}
-use Rattle.sg_tree.specs.Along.{first}
-use Rattle.sg_tree.specs.declared.fault.Fault.{Fault}
+use Rattle.sg_toml_rules.proofs.PlatformKinds.{platform_kinds}
+use Rattle.sg_toml_rules.specs.Faults.{faults_of}
+use Rattle.sg_toml_tree.specs.Names.{Known}
+use Rattle.sg_toml_rules.specs.PlatformKinds.{IsPlatformFault}
+use Rattle.sg_toml_keys.specs.Tables.{platform_tables}
+use Rattle.sg_toml_tree.specs.Along.{first}
+use Rattle.sg_toml_tree.specs.declared.fault.Fault.{Fault}
 use Rattle.toml.specs.Data.{Members}
 
 -- what holds of all holds of the first

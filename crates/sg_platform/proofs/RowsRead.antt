@@ -2,13 +2,13 @@
 use Rattle.std.proofs.Common.{◌≡◌, ◌∙◌, ap, codes, map}
 use Rattle.sg_platform.specs.Build.{host_row, network_row, profile_row, route_row, router_row, spoke_row, state_profile_row, zone_route_row, zone_row}
 use Rattle.sg_platform.specs.PlatformOf.{links_of, platform_rows}
-use Rattle.sg_rows.specs.Ends.{link_ends}
-use Rattle.sg_rows.specs.Network.{plain_network}
-use Rattle.sg_rows.specs.Platform.{Platform}
-use Rattle.sg_tree.specs.Along.{first}
+use Rattle.sg_platform_rows.specs.Ends.{link_ends}
+use Rattle.sg_platform_rows.specs.Network.{plain_network}
+use Rattle.sg_platform_rows.specs.Platform.{Platform}
+use Rattle.sg_toml_tree.specs.Along.{first}
 use Rattle.std.specs.Option.{option_map_or}
-use Rattle.sg_tree.specs.Names.{Known}
-use Rattle.sg_tree.specs.Tree.{rows_at}
+use Rattle.sg_toml_tree.specs.Names.{Known}
+use Rattle.sg_toml_tree.specs.Tree.{rows_at}
 use Rattle.toml.specs.Data.{Members}
 
 -- each table was read

@@ -4,27 +4,27 @@ use Rattle.std.proofs.lemmas.List.{length-map}
 use Rattle.std.proofs.lemmas.List.Elements.{All-map}
 use Rattle.std.specs.List.{All, flat_map}
 use Rattle.std.specs.Option.{option_map_or}
-use Rattle.sg_rows.proofs.EndsBelow.{link_ends_count}
+use Rattle.sg_platform_rows.proofs.EndsBelow.{link_ends_count}
 use Rattle.sg_platform.proofs.KeptProfiles.{profile_kept, state_profile_kept}
 use Rattle.sg_platform.proofs.KeptRows.{IsCounted, host_kept, link_kept, network_kept, network_row_kept, route_kept, router_kept, spoke_kept, zone_kept, zone_route_kept}
 use Rattle.sg_platform.specs.Build.{host_row, link_row, network_row, profile_row, route_row, router_row, spoke_row, state_profile_row, zone_route_row, zone_row}
-use Rattle.sg_rows.specs.Ends.{ends_from, ends_of, link_ends}
-use Rattle.sg_rows.specs.Network.{IsNetwork}
-use Rattle.sg_rows.specs.Platform.{Counts, IsHostRow, IsLinkRow, IsPlatform, IsProfileRow, IsRouteRow, IsRouterRow, IsSpokeRow, IsStateProfileRow, IsZoneRouteRow, IsZoneRow, counts_of}
+use Rattle.sg_platform_rows.specs.Ends.{ends_from, ends_of, link_ends}
+use Rattle.sg_platform_rows.specs.Network.{IsNetwork}
+use Rattle.sg_platform_rows.specs.Platform.{Counts, IsHostRow, IsLinkRow, IsPlatform, IsProfileRow, IsRouteRow, IsRouterRow, IsSpokeRow, IsStateProfileRow, IsZoneRouteRow, IsZoneRow, counts_of}
 use Rattle.sg_platform.specs.PlatformOf.{links_of, platform_rows}
-use Rattle.sg_rows.specs.declared.rows.Policy.TheVariants.{Shared, Fatpipe, SplitDuplex}
-use Rattle.sg_rules.proofs.Kept.{rows_few, rows_kept}
-use Rattle.sg_tree.proofs.NumbersBelow.{links_below, points_below}
-use Rattle.sg_rules.specs.Faults.{faults_of, table_faults}
-use Rattle.sg_tree.specs.LinkNames.{is_split, link_names}
-use Rattle.sg_tree.specs.Names.{Known, known_by, platform_known}
-use Rattle.sg_tables.specs.Tables.{platform_tables}
-use Rattle.sg_tables.specs.declared.tables.Table.TheVariants.{Zone, Host, Router, Link, Route, ZoneRoute, Spoke, Network, Profile, StateProfile}
-use Rattle.sg_tree.proofs.Bounds.{below_all}
-use Rattle.sg_tree.proofs.Kept.{empty_left, empty_right, none_empty}
-use Rattle.sg_tree.specs.Along.{first}
-use Rattle.sg_tree.specs.Spelling.{split_names}
-use Rattle.sg_tree.specs.Tree.{rows_at, text_at}
+use Rattle.sg_platform_rows.specs.declared.rows.Policy.TheVariants.{Shared, Fatpipe, SplitDuplex}
+use Rattle.sg_toml_rules.proofs.Kept.{rows_few, rows_kept}
+use Rattle.sg_toml_tree.proofs.NumbersBelow.{links_below, points_below}
+use Rattle.sg_toml_rules.specs.Faults.{faults_of, table_faults}
+use Rattle.sg_toml_tree.specs.LinkNames.{is_split, link_names}
+use Rattle.sg_toml_tree.specs.Names.{Known, known_by, platform_known}
+use Rattle.sg_toml_keys.specs.Tables.{platform_tables}
+use Rattle.sg_toml_keys.specs.declared.tables.Table.TheVariants.{Zone, Host, Router, Link, Route, ZoneRoute, Spoke, Network, Profile, StateProfile}
+use Rattle.sg_toml_tree.proofs.Bounds.{below_all}
+use Rattle.sg_toml_tree.proofs.Kept.{empty_left, empty_right, none_empty}
+use Rattle.sg_toml_tree.specs.Along.{first}
+use Rattle.sg_toml_tree.specs.Spelling.{split_names}
+use Rattle.sg_toml_tree.specs.Tree.{rows_at, text_at}
 use Rattle.toml.specs.Data.{Data, Members}
 
 pub known_zones : (tree : Members) → (platform_known tree).zones ≡ length (rows_at (codes "zone") tree)

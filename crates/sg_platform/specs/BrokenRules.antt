@@ -5,10 +5,10 @@ use Rattle.sg_platform.specs.declared.deployment.DeploymentFault.{DeploymentFaul
 use Rattle.sg_platform.specs.declared.deployment.DeploymentFault.TheVariants as deployment
 use Rattle.sg_platform.specs.declared.platform.PlatformFault.{PlatformFault}
 use Rattle.sg_platform.specs.declared.platform.PlatformFault.TheVariants as platform
-use Rattle.sg_tree.specs.declared.fault.Fault.{Fault}
-use Rattle.sg_tree.specs.declared.fault.Kind.{Kind}
-use Rattle.sg_tree.specs.declared.fault.Kind.TheVariants as kind
-use Rattle.sg_tree.specs.declared.fault.Place.{Place}
+use Rattle.sg_toml_tree.specs.declared.fault.Fault.{Fault}
+use Rattle.sg_toml_tree.specs.declared.fault.Kind.{Kind}
+use Rattle.sg_toml_tree.specs.declared.fault.Kind.TheVariants as kind
+use Rattle.sg_toml_tree.specs.declared.fault.Place.{Place}
 
 abbrev pub broken_at : Place → Kind → Option Fault
 broken_at place kind = Some (record { place = place; kind = kind })

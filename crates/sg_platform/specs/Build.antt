@@ -7,40 +7,40 @@ use Rattle.sg_base.specs.declared.ids.Child.TheVariants.{Point as PointChild, Zo
 use Rattle.sg_base.specs.declared.ids.LinkId.{LinkId}
 use Rattle.sg_base.specs.declared.ids.PointId.{PointId}
 use Rattle.sg_base.specs.declared.ids.ZoneId.{ZoneId}
-use Rattle.sg_rows.specs.Ends.{way_back}
-use Rattle.sg_rows.specs.Network.{plain_network}
+use Rattle.sg_platform_rows.specs.Ends.{way_back}
+use Rattle.sg_platform_rows.specs.Network.{plain_network}
 use Rattle.sg_platform.specs.Functions.{amount_or_zero, function_of}
-use Rattle.sg_rows.specs.declared.ends.LinkEnd.{LinkEnd}
-use Rattle.sg_rows.specs.declared.network.Network.{Network}
-use Rattle.sg_rows.specs.declared.rows.ActorRow.{ActorRow}
-use Rattle.sg_rows.specs.declared.rows.HostRow.{HostRow}
-use Rattle.sg_rows.specs.declared.rows.LinkRow.{LinkRow}
-use Rattle.sg_rows.specs.declared.rows.MutexRow.{MutexRow}
-use Rattle.sg_rows.specs.declared.rows.Policy.{Policy}
-use Rattle.sg_rows.specs.declared.rows.Policy.TheVariants.{Shared, Fatpipe, SplitDuplex}
-use Rattle.sg_rows.specs.declared.rows.Power.{Power}
-use Rattle.sg_rows.specs.declared.rows.ProfileRow.{ProfileRow}
-use Rattle.sg_rows.specs.declared.rows.Profiled.{Profiled}
-use Rattle.sg_rows.specs.declared.rows.Profiled.TheVariants.{Host as OfHost, Link as OfLink}
-use Rattle.sg_rows.specs.declared.rows.RouteRow.{RouteRow}
-use Rattle.sg_rows.specs.declared.rows.RouterRow.{RouterRow}
-use Rattle.sg_rows.specs.declared.rows.Routing.{Routing}
-use Rattle.sg_rows.specs.declared.rows.Routing.TheVariants.{Full, Star, Dijkstra}
-use Rattle.sg_rows.specs.declared.rows.SemaphoreRow.{SemaphoreRow}
-use Rattle.sg_rows.specs.declared.rows.SpokeRow.{SpokeRow}
-use Rattle.sg_rows.specs.declared.rows.StateProfileRow.{StateProfileRow}
-use Rattle.sg_rows.specs.declared.rows.ZoneRouteRow.{ZoneRouteRow}
-use Rattle.sg_rows.specs.declared.rows.ZoneRow.{ZoneRow}
-use Rattle.sg_rules.specs.Arguments.{text_of}
-use Rattle.sg_tree.specs.Pairs.{truth_at}
-use Rattle.sg_tree.specs.Names.{Known}
-use Rattle.sg_rules.specs.Power.{powers_in}
-use Rattle.sg_rules.specs.Profiles.{items_at, quantity_of, state_in}
-use Rattle.sg_rules.specs.declared.power.Powers.{Powers}
-use Rattle.sg_tables.specs.Units.{quantity_value, whole_value}
-use Rattle.sg_tables.specs.declared.units.Quantity.{Quantity}
-use Rattle.sg_tables.specs.declared.units.Quantity.TheVariants.{Time, Latency, Speed, Bandwidth, Factor, Amount}
-use Rattle.sg_tree.specs.Tree.{text_at, text_or_empty}
+use Rattle.sg_platform_rows.specs.declared.ends.LinkEnd.{LinkEnd}
+use Rattle.sg_platform_rows.specs.declared.network.Network.{Network}
+use Rattle.sg_platform_rows.specs.declared.rows.ActorRow.{ActorRow}
+use Rattle.sg_platform_rows.specs.declared.rows.HostRow.{HostRow}
+use Rattle.sg_platform_rows.specs.declared.rows.LinkRow.{LinkRow}
+use Rattle.sg_platform_rows.specs.declared.rows.MutexRow.{MutexRow}
+use Rattle.sg_platform_rows.specs.declared.rows.Policy.{Policy}
+use Rattle.sg_platform_rows.specs.declared.rows.Policy.TheVariants.{Shared, Fatpipe, SplitDuplex}
+use Rattle.sg_platform_rows.specs.declared.rows.Power.{Power}
+use Rattle.sg_platform_rows.specs.declared.rows.ProfileRow.{ProfileRow}
+use Rattle.sg_platform_rows.specs.declared.rows.Profiled.{Profiled}
+use Rattle.sg_platform_rows.specs.declared.rows.Profiled.TheVariants.{Host as OfHost, Link as OfLink}
+use Rattle.sg_platform_rows.specs.declared.rows.RouteRow.{RouteRow}
+use Rattle.sg_platform_rows.specs.declared.rows.RouterRow.{RouterRow}
+use Rattle.sg_platform_rows.specs.declared.rows.Routing.{Routing}
+use Rattle.sg_platform_rows.specs.declared.rows.Routing.TheVariants.{Full, Star, Dijkstra}
+use Rattle.sg_platform_rows.specs.declared.rows.SemaphoreRow.{SemaphoreRow}
+use Rattle.sg_platform_rows.specs.declared.rows.SpokeRow.{SpokeRow}
+use Rattle.sg_platform_rows.specs.declared.rows.StateProfileRow.{StateProfileRow}
+use Rattle.sg_platform_rows.specs.declared.rows.ZoneRouteRow.{ZoneRouteRow}
+use Rattle.sg_platform_rows.specs.declared.rows.ZoneRow.{ZoneRow}
+use Rattle.sg_toml_rules.specs.Arguments.{text_of}
+use Rattle.sg_toml_tree.specs.Pairs.{truth_at}
+use Rattle.sg_toml_tree.specs.Names.{Known}
+use Rattle.sg_toml_rules.specs.Power.{powers_in}
+use Rattle.sg_toml_rules.specs.Profiles.{items_at, quantity_of, state_in}
+use Rattle.sg_toml_rules.specs.declared.power.Powers.{Powers}
+use Rattle.sg_toml_keys.specs.Units.{quantity_value, whole_value}
+use Rattle.sg_toml_keys.specs.declared.units.Quantity.{Quantity}
+use Rattle.sg_toml_keys.specs.declared.units.Quantity.TheVariants.{Time, Latency, Speed, Bandwidth, Factor, Amount}
+use Rattle.sg_toml_tree.specs.Tree.{text_at, text_or_empty}
 use Rattle.toml.specs.Data.{Data, get, as_integer}
 
 -- the zone of a name; an unknown name gives the first zone

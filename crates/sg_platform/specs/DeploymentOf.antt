@@ -2,14 +2,14 @@
 -- it isn't TOML.
 use Rattle.std.specs.Prelude.{ℕ, List, map, length, codes, Option, Result}
 use Rattle.sg_platform.specs.Build.{actor_row, mutex_row, semaphore_row}
-use Rattle.sg_rows.specs.Deployment.{Deployed}
-use Rattle.sg_rows.specs.Index.{host_number}
-use Rattle.sg_rows.specs.Platform.{Platform}
+use Rattle.sg_platform_rows.specs.Deployment.{Deployed}
+use Rattle.sg_platform_rows.specs.Index.{host_number}
+use Rattle.sg_platform_rows.specs.Platform.{Platform}
 use Rattle.sg_platform.specs.PlatformOf.{text_by, tree_by}
-use Rattle.sg_tree.specs.Names.{Known, known_by}
-use Rattle.sg_tables.specs.Tables.{deployment_tables}
-use Rattle.sg_tree.specs.Tree.{rows_at}
-use Rattle.sg_tree.specs.declared.fault.Fault.{Fault}
+use Rattle.sg_toml_tree.specs.Names.{Known, known_by}
+use Rattle.sg_toml_keys.specs.Tables.{deployment_tables}
+use Rattle.sg_toml_tree.specs.Tree.{rows_at}
+use Rattle.sg_toml_tree.specs.declared.fault.Fault.{Fault}
 use Rattle.toml.specs.Data.{Members}
 
 -- the names that a deployment may use on a platform: its hosts, and the names of its own rows

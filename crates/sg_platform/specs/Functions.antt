@@ -1,14 +1,14 @@
 -- What the actors of a tree do, if it has no fault.
 use Rattle.std.specs.Prelude.{ℕ, List, [], ◌∷◌, map, if◌then◌else◌, unwrap_or, codes}
 use Rattle.sg_base.specs.declared.ids.ActorId.{ActorId}
-use Rattle.sg_rows.specs.declared.rows.Function.{Function}
-use Rattle.sg_rows.specs.declared.rows.Function.TheVariants.{Replay, Worker, Master}
-use Rattle.sg_tree.specs.Workers.{has_function}
-use Rattle.sg_rules.specs.Arguments.{text_of}
-use Rattle.sg_tree.specs.Names.{Known}
-use Rattle.sg_rules.specs.Profiles.{amount_in, items_at}
-use Rattle.sg_tables.specs.declared.units.Quantity.{Quantity}
-use Rattle.sg_tables.specs.declared.units.Quantity.TheVariants.{Amount}
+use Rattle.sg_platform_rows.specs.declared.rows.Function.{Function}
+use Rattle.sg_platform_rows.specs.declared.rows.Function.TheVariants.{Replay, Worker, Master}
+use Rattle.sg_toml_tree.specs.Workers.{has_function}
+use Rattle.sg_toml_rules.specs.Arguments.{text_of}
+use Rattle.sg_toml_tree.specs.Names.{Known}
+use Rattle.sg_toml_rules.specs.Profiles.{amount_in, items_at}
+use Rattle.sg_toml_keys.specs.declared.units.Quantity.{Quantity}
+use Rattle.sg_toml_keys.specs.declared.units.Quantity.TheVariants.{Amount}
 use Rattle.toml.specs.Data.{Data}
 
 -- the amount in a value of the tree, or 0 if it is none

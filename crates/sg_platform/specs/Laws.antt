@@ -1,9 +1,9 @@
 -- Laws of both readers.
 use Rattle.std.specs.Prelude.{◌≡◌, ◌≤◌, ◌↔◌, ℕ, List, length, None, Err}
 use Rattle.sg_platform.specs.DeploymentOf.{deployment_of}
-use Rattle.sg_rows.specs.Platform.{Platform}
+use Rattle.sg_platform_rows.specs.Platform.{Platform}
 use Rattle.sg_platform.specs.PlatformOf.{greatest_text, platform_of}
-use Rattle.sg_tree.specs.Tree.{tree_of}
+use Rattle.sg_toml_tree.specs.Tree.{tree_of}
 
 -- not TOML is reported exactly if the bytes have no tree, of texts that are not over the limit
 pub record BadTomlExactly : Type 0 where

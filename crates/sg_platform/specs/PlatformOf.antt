@@ -2,18 +2,18 @@
 use Rattle.std.specs.Prelude.{ℕ, List, map, length, codes, if◌then◌else◌, nat_lt, Option, Some, None, Result, Ok, Err}
 use Rattle.std.specs.Option.{option_map_or}
 use Rattle.sg_platform.specs.Build.{host_row, link_row, network_row, profile_row, route_row, router_row, spoke_row, state_profile_row, zone_route_row, zone_row}
-use Rattle.sg_rows.specs.Ends.{link_ends}
-use Rattle.sg_rows.specs.Network.{plain_network}
-use Rattle.sg_rows.specs.Platform.{Platform}
-use Rattle.sg_rows.specs.declared.rows.LinkRow.{LinkRow}
-use Rattle.sg_rules.specs.Faults.{faults_of}
-use Rattle.sg_tree.specs.Names.{Known, platform_known}
-use Rattle.sg_tables.specs.Tables.{platform_tables}
-use Rattle.sg_tables.specs.declared.tables.Table.{Table}
-use Rattle.sg_tree.specs.Along.{first}
-use Rattle.sg_tree.specs.Tree.{tree_of, rows_at}
-use Rattle.sg_tree.specs.declared.fault.Fault.{Fault}
-use Rattle.sg_tree.specs.declared.fault.Kind.TheVariants.{Limit}
+use Rattle.sg_platform_rows.specs.Ends.{link_ends}
+use Rattle.sg_platform_rows.specs.Network.{plain_network}
+use Rattle.sg_platform_rows.specs.Platform.{Platform}
+use Rattle.sg_platform_rows.specs.declared.rows.LinkRow.{LinkRow}
+use Rattle.sg_toml_rules.specs.Faults.{faults_of}
+use Rattle.sg_toml_tree.specs.Names.{Known, platform_known}
+use Rattle.sg_toml_keys.specs.Tables.{platform_tables}
+use Rattle.sg_toml_keys.specs.declared.tables.Table.{Table}
+use Rattle.sg_toml_tree.specs.Along.{first}
+use Rattle.sg_toml_tree.specs.Tree.{tree_of, rows_at}
+use Rattle.sg_toml_tree.specs.declared.fault.Fault.{Fault}
+use Rattle.sg_toml_tree.specs.declared.fault.Kind.TheVariants.{Limit}
 use Rattle.toml.specs.Data.{Members}
 
 -- the links that a platform text declares, without the loopback

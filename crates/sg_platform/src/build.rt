@@ -3,31 +3,31 @@ ghost use Rattle.std.specs.Prelude.{◌≡◌, ◌∷◌, [], List, IfOk, codes,
 ghost use Rattle.std.specs.Option.{option_map_or};
 ghost use Rattle.std.specs.HashMap.{get_by_text};
 ghost use Rattle.sg_platform.specs.Build.{actor_row, amounts_at, child_of, gateway, host_row, link_id, link_row, links_at, mutex_row, network_row, point_id, policy_of, host_power, profile_row, route_row, router_row, routing_of, semaphore_row, spoke_row, state_profile_row, subject_of, value_at, whole_at, zone_id, zone_route_row, zone_row};
-ghost use Rattle.sg_rows.specs.Ends.{way_back};
-ghost use Rattle.sg_rows.specs.Network.{plain_network};
-ghost use Rattle.sg_rows.specs.declared.ends.LinkEnd.{LinkEnd};
-ghost use Rattle.sg_rules.specs.Profiles.{items_at, state_in};
-ghost use Rattle.sg_tree.specs.Names.{Known};
-ghost use Rattle.sg_tables.specs.Units.{quantity_value};
-ghost use Rattle.sg_tables.specs.declared.units.Quantity.TheVariants as quantity;
-ghost use Rattle.sg_tree.specs.kept.NamesView.{names_view};
-ghost use Rattle.sg_tree.specs.Along.{first};
-ghost use Rattle.sg_tree.specs.Tree.{rows_at, text_at};
-ghost use Rattle.sg_tree.specs.kept.Rows.{KeepsBut};
+ghost use Rattle.sg_platform_rows.specs.Ends.{way_back};
+ghost use Rattle.sg_platform_rows.specs.Network.{plain_network};
+ghost use Rattle.sg_platform_rows.specs.declared.ends.LinkEnd.{LinkEnd};
+ghost use Rattle.sg_toml_rules.specs.Profiles.{items_at, state_in};
+ghost use Rattle.sg_toml_tree.specs.Names.{Known};
+ghost use Rattle.sg_toml_keys.specs.Units.{quantity_value};
+ghost use Rattle.sg_toml_keys.specs.declared.units.Quantity.TheVariants as quantity;
+ghost use Rattle.sg_toml_tree.specs.kept.NamesView.{names_view};
+ghost use Rattle.sg_toml_tree.specs.Along.{first};
+ghost use Rattle.sg_toml_tree.specs.Tree.{rows_at, text_at};
+ghost use Rattle.sg_toml_tree.specs.kept.Rows.{KeepsBut};
 ghost use Rattle.toml.specs.Data.{Data, get};
 ghost use Rattle.toml.specs.View.{table_view, view};
 
 use crate::functions::function_of;
 use indexmap::IndexMap;
 use sg_base::{Child, LinkId, Links, Memory, PointId, Text, ZoneId};
-use sg_rows::{
+use sg_platform_rows::{
     ActorRow, HostRow, LinkEnd, LinkRow, MutexRow, Network, Numbers, Policy, Power, ProfileRow,
     Profiled, RouteRow, RouterRow, Routing, SemaphoreRow, SpokeRow, StateProfileRow, States,
     ZoneRouteRow, ZoneRow, way_back,
 };
-use sg_rules::{amount_in, items_at, powers_in, quantity_of, state_in, text_of};
-use sg_tables::{Quantity, whole_value};
-use sg_tree::{Names, is_symmetrical, take_rows, text_at, text_or_empty, truth_at};
+use sg_toml_keys::{Quantity, whole_value};
+use sg_toml_rules::{amount_in, items_at, powers_in, quantity_of, state_in, text_of};
+use sg_toml_tree::{Names, is_symmetrical, take_rows, text_at, text_or_empty, truth_at};
 use std::alloc::Global;
 use toml::{Table, Value};
 

@@ -1,21 +1,21 @@
 //! Reads deployments.
 ghost use Rattle.std.specs.Prelude.{◌≡◌, ◌≢◌, Err, IfOk, Some};
 ghost use Rattle.std.specs.Result.{result_map_both};
-ghost use Rattle.sg_rows.specs.Deployment.{IsDeployedOn, IsDeployment};
+ghost use Rattle.sg_platform_rows.specs.Deployment.{IsDeployedOn, IsDeployment};
 ghost use Rattle.sg_platform.specs.BrokenRules.{deployment_rule};
 ghost use Rattle.sg_platform.specs.DeploymentOf.{deployment_of, names_on, deployment_rows};
 ghost use Rattle.sg_platform.specs.PlatformOf.{tree_by};
 ghost use Rattle.sg_platform.specs.declared.deployment.DeploymentFault.TheVariants.{Memory};
-ghost use Rattle.sg_tables.specs.Tables.{deployment_tables};
-ghost use Rattle.sg_tree.specs.kept.NamesView.{names_view};
+ghost use Rattle.sg_toml_keys.specs.Tables.{deployment_tables};
+ghost use Rattle.sg_toml_tree.specs.kept.NamesView.{names_view};
 ghost use Rattle.toml.specs.View.{table_view};
 
 use crate::build::read_table;
 use crate::platform::GREATEST_TEXT;
-use sg_rows::{ActorRow, Deployment, MutexRow, PlatformText, SemaphoreRow, hosts_by_name};
-use sg_rules::first_fault;
-use sg_tables::DEPLOYMENT;
-use sg_tree::{Fault, Kind, Names, NoTree, Place, deployment_names, read_tree};
+use sg_platform_rows::{ActorRow, Deployment, MutexRow, PlatformText, SemaphoreRow, hosts_by_name};
+use sg_toml_keys::DEPLOYMENT;
+use sg_toml_rules::first_fault;
+use sg_toml_tree::{Fault, Kind, Names, NoTree, Place, deployment_names, read_tree};
 use std::alloc::Global;
 use thiserror::Error;
 

@@ -1,15 +1,15 @@
 //! What the actors of a tree do, if it has no fault.
 ghost use Rattle.std.specs.Prelude.{◌≡◌, IfOk, map};
 ghost use Rattle.sg_platform.specs.Functions.{amount_or_zero, function_of, master_of, worker_id};
-ghost use Rattle.sg_tree.specs.kept.NamesView.{names_view};
-ghost use Rattle.sg_tables.specs.declared.units.Quantity.TheVariants.{Amount};
+ghost use Rattle.sg_toml_tree.specs.kept.NamesView.{names_view};
+ghost use Rattle.sg_toml_keys.specs.declared.units.Quantity.TheVariants.{Amount};
 ghost use Rattle.toml.specs.View.{view};
 
 use sg_base::{ActorId, Ids, Memory};
-use sg_rows::Function;
-use sg_rules::{amount_in, items_at, text_of};
-use sg_tables::Quantity;
-use sg_tree::{Names, has_function};
+use sg_platform_rows::Function;
+use sg_toml_keys::Quantity;
+use sg_toml_rules::{amount_in, items_at, text_of};
+use sg_toml_tree::{Names, has_function};
 use std::alloc::Global;
 use toml::Value;
 

@@ -1,28 +1,28 @@
 //! Reads platforms.
 ghost use Rattle.std.specs.Prelude.{◌≡◌, ◌≢◌, ◌≤◌, ◌∷◌, [], Err, IfErr, IfOk, OnOk, Some, codes, length, map};
 ghost use Rattle.std.specs.Result.{result_map_both};
-ghost use Rattle.sg_rows.specs.Platform.{IsPlatform, rows_view};
-ghost use Rattle.sg_rows.specs.Ends.{link_ends};
+ghost use Rattle.sg_platform_rows.specs.Platform.{IsPlatform, rows_view};
+ghost use Rattle.sg_platform_rows.specs.Ends.{link_ends};
 ghost use Rattle.sg_platform.specs.Build.{host_row, profile_row, route_row, router_row, spoke_row, state_profile_row, zone_route_row, zone_row};
 ghost use Rattle.sg_platform.specs.BrokenRules.{platform_rule};
 ghost use Rattle.sg_platform.specs.PlatformOf.{links_of, platform_of, platform_rows, tree_by};
 ghost use Rattle.sg_platform.specs.declared.platform.PlatformFault.TheVariants.{Memory};
-ghost use Rattle.sg_tree.specs.Names.{platform_known};
-ghost use Rattle.sg_rules.specs.PlatformKinds.{IsPlatformFault};
-ghost use Rattle.sg_tables.specs.Tables.{platform_tables};
-ghost use Rattle.sg_tree.specs.kept.NamesView.{names_view};
-ghost use Rattle.sg_tree.specs.Tree.{rows_at};
-ghost use Rattle.sg_tree.specs.kept.Rows.{KeepsBut};
+ghost use Rattle.sg_toml_tree.specs.Names.{platform_known};
+ghost use Rattle.sg_toml_rules.specs.PlatformKinds.{IsPlatformFault};
+ghost use Rattle.sg_toml_keys.specs.Tables.{platform_tables};
+ghost use Rattle.sg_toml_tree.specs.kept.NamesView.{names_view};
+ghost use Rattle.sg_toml_tree.specs.Tree.{rows_at};
+ghost use Rattle.sg_toml_tree.specs.kept.Rows.{KeepsBut};
 ghost use Rattle.toml.specs.View.{table_view};
 
 use crate::build::{network_of, read_table};
-use sg_rows::{
+use sg_platform_rows::{
     HostRow, LinkEnd, LinkRow, PlatformRows, PlatformText, ProfileRow, RouteRow, RouterRow,
     SpokeRow, StateProfileRow, ZoneRouteRow, ZoneRow, link_ends,
 };
-use sg_rules::first_fault;
-use sg_tables::PLATFORM;
-use sg_tree::{Fault, Kind, Names, NoTree, Place, platform_names, read_tree, rows_at};
+use sg_toml_keys::PLATFORM;
+use sg_toml_rules::first_fault;
+use sg_toml_tree::{Fault, Kind, Names, NoTree, Place, platform_names, read_tree, rows_at};
 use std::alloc::Global;
 use std::mem;
 use thiserror::Error;

@@ -5,8 +5,8 @@ use Rattle.std.specs.Prelude.{map, min}
 use Rattle.sg_profile.specs.Profiles.{profile_of, state_profile_of}
 use Rattle.sg_profile.specs.declared.profile.Profile.{Profile}
 use Rattle.sg_profile.specs.declared.turn.Turn.{Turn}
-use Rattle.sg_rows.specs.declared.rows.ProfileRow.{ProfileRow}
-use Rattle.sg_rows.specs.declared.rows.StateProfileRow.{StateProfileRow}
+use Rattle.sg_platform_rows.specs.declared.rows.ProfileRow.{ProfileRow}
+use Rattle.sg_platform_rows.specs.declared.rows.StateProfileRow.{StateProfileRow}
 
 abbrev pub profiles_of : List ProfileRow → List StateProfileRow → List Profile
 profiles_of rows states = map profile_of rows ++ map state_profile_of states

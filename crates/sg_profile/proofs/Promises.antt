@@ -4,11 +4,11 @@ use Rattle.std.proofs.lemmas.List.{get_or_past, length-map}
 use Rattle.std.proofs.lemmas.List.Elements.{All-append, All-map}
 use Rattle.std.proofs.lemmas.Option.{get_or_from_slice_get, slice_get_within}
 use Rattle.sg_heap.proofs.Changes.{lt_cases}
-use Rattle.sg_rows.specs.Platform.{Counts, HasDates, IsProfileRow, IsProfiled, IsStateProfileRow, counts_of}
-use Rattle.sg_rows.specs.declared.rows.ProfileRow.{ProfileRow}
-use Rattle.sg_rows.specs.declared.rows.Profiled.{Profiled}
-use Rattle.sg_rows.specs.declared.rows.Profiled.TheVariants.{Host, Link}
-use Rattle.sg_rows.specs.declared.rows.StateProfileRow.{StateProfileRow}
+use Rattle.sg_platform_rows.specs.Platform.{Counts, HasDates, IsProfileRow, IsProfiled, IsStateProfileRow, counts_of}
+use Rattle.sg_platform_rows.specs.declared.rows.ProfileRow.{ProfileRow}
+use Rattle.sg_platform_rows.specs.declared.rows.Profiled.{Profiled}
+use Rattle.sg_platform_rows.specs.declared.rows.Profiled.TheVariants.{Host, Link}
+use Rattle.sg_platform_rows.specs.declared.rows.StateProfileRow.{StateProfileRow}
 use Rattle.sg_profile.specs.declared.entry.Entry.{Entry}
 use Rattle.sg_profile.specs.declared.profile.Profile.{Profile}
 use Rattle.sg_profile.specs.Laws.{EntriesExist, PlatformsPromise}

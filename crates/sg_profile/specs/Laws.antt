@@ -1,6 +1,6 @@
 -- Laws of profiles: how dates and rows follow one another.
 use Rattle.std.specs.Prelude.{◌≡◌, ℕ, zero, suc, ◌+◌, ◌-◌, ◌*◌, ◌^◌, ◌<◌, ◌≤◌, None, Some, IfSome, List, [], ◌∷◌, length, slice_get, slice_index}
-use Rattle.sg_rows.specs.Platform.{IsPlatform, Platform, counts_of}
+use Rattle.sg_platform_rows.specs.Platform.{IsPlatform, Platform, counts_of}
 use Rattle.sg_profile.specs.declared.entry.Entry.{Entry}
 use Rattle.sg_profile.specs.declared.profile.Profile.{Profile}
 use Rattle.sg_profile.specs.declared.turn.Turn.{Turn}

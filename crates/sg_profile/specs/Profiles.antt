@@ -5,11 +5,11 @@ use Rattle.std.specs.List.Sorted.{IsStrictlyIncreasing}
 use Rattle.std.specs.Option.{option_map_or}
 use Rattle.sg_base.specs.declared.ids.LinkId.{LinkId}
 use Rattle.sg_base.specs.declared.ids.PointId.{PointId}
-use Rattle.sg_rows.specs.Platform.{Platform}
-use Rattle.sg_rows.specs.declared.rows.Profiled.{Profiled}
-use Rattle.sg_rows.specs.declared.rows.Profiled.TheVariants.{Host, Link}
-use Rattle.sg_rows.specs.declared.rows.ProfileRow.{ProfileRow}
-use Rattle.sg_rows.specs.declared.rows.StateProfileRow.{StateProfileRow}
+use Rattle.sg_platform_rows.specs.Platform.{Platform}
+use Rattle.sg_platform_rows.specs.declared.rows.Profiled.{Profiled}
+use Rattle.sg_platform_rows.specs.declared.rows.Profiled.TheVariants.{Host, Link}
+use Rattle.sg_platform_rows.specs.declared.rows.ProfileRow.{ProfileRow}
+use Rattle.sg_platform_rows.specs.declared.rows.StateProfileRow.{StateProfileRow}
 use Rattle.sg_profile.specs.declared.entry.Entry.{Entry}
 use Rattle.sg_profile.specs.declared.entry.Entry.TheVariants.{Speed, Bandwidth, HostOn, LinkOn}
 use Rattle.sg_profile.specs.declared.profile.Profile.{Profile}

@@ -1,7 +1,7 @@
 //! How the speeds of hosts and the bandwidths of links change during a run, and when they are turned on or off: which
 //! entries come, and when.
 //! One enters by `Profiles`: `next` is the entry of least date, `step` goes past it.
-//! It stands on `sg_rows` for the rows of a platform, and on `sg_heap` for whose entry is next.
+//! It stands on `sg_platform_rows` for the rows of a platform, and on `sg_heap` for whose entry is next.
 #![tactic(auto)]
 
 mod entry;

@@ -6,7 +6,7 @@ ghost use Rattle.sg_profile.specs.declared.entry.Entry.TheVariants.{Bandwidth, H
 use crate::entry::{Entries, Entry};
 use crate::turn::Turn;
 use sg_base::Memory;
-use sg_rows::{Numbers, ProfileRow, Profiled, StateProfileRow};
+use sg_platform_rows::{Numbers, ProfileRow, Profiled, StateProfileRow};
 use std::alloc::Global;
 
 /// What changes of a host or a link during a run, and when.

@@ -1,7 +1,7 @@
 //! The profiles of a platform.
 ghost use Rattle.std.specs.Prelude.{◌≡◌, ◌≤◌, ◌<◌, ◌^◌, ℕ, All, IfOk, IfSome, IsSomeAnd, MatchOption, vec_len};
 ghost use Rattle.sg_profile.specs.Profiles.{AreProfiles, IsEntry, IsNextEntry, IsSchedule, first_table, next_date, past_next, profiles_in};
-ghost use Rattle.sg_rows.specs.Platform.{counts_of};
+ghost use Rattle.sg_platform_rows.specs.Platform.{counts_of};
 
 use crate::entry::Entry;
 use crate::profile::{Profile, entry_at, profiles_of};
@@ -9,7 +9,7 @@ use crate::slots::{agenda_of, first_turns, step_row};
 use crate::turn::Turn;
 use sg_base::Memory;
 use sg_heap::Agenda;
-use sg_rows::PlatformText;
+use sg_platform_rows::PlatformText;
 use std::alloc::Global;
 use std::marker::Model;
 

@@ -1,10 +1,10 @@
 -- How many links there are.
 use Rattle.std.proofs.Common.{◌+◌, ◌*◌, ◌≤◌, ℕ, List, [], ◌∷◌, length, length-append, arith}
-use Rattle.sg_rows.proofs.EndsBelow.{link_ends_count}
-use Rattle.sg_rows.specs.Ends.{ends_from, ends_of, link_ends}
-use Rattle.sg_rows.specs.declared.rows.LinkRow.{LinkRow}
-use Rattle.sg_rows.specs.declared.rows.Policy.{Policy}
-use Rattle.sg_rows.specs.declared.rows.Policy.TheVariants.{Shared, Fatpipe, SplitDuplex}
+use Rattle.sg_platform_rows.proofs.EndsBelow.{link_ends_count}
+use Rattle.sg_platform_rows.specs.Ends.{ends_from, ends_of, link_ends}
+use Rattle.sg_platform_rows.specs.declared.rows.LinkRow.{LinkRow}
+use Rattle.sg_platform_rows.specs.declared.rows.Policy.{Policy}
+use Rattle.sg_platform_rows.specs.declared.rows.Policy.TheVariants.{Shared, Fatpipe, SplitDuplex}
 
 two_of : (first latency : ℕ) (policy : Policy) → length (ends_of first latency policy) ≤ 2
 two_of first latency Shared = omega arith

@@ -4,12 +4,12 @@ use Rattle.std.proofs.lemmas.Bool.Decides.{nat_tests}
 use Rattle.std.specs.Prelude.{fold, nat_lt, sum_by}
 use Rattle.sg_base.specs.declared.ids.LinkId.{LinkId}
 use Rattle.sg_base.specs.declared.ids.PointId.{PointId}
-use Rattle.sg_rows.specs.Ends.{ends_from, ends_of, link_end, link_ends}
-use Rattle.sg_rows.specs.Platform.{IsPlatform, Platform}
-use Rattle.sg_rows.specs.declared.ends.LinkEnd.{LinkEnd}
-use Rattle.sg_rows.specs.declared.rows.LinkRow.{LinkRow}
-use Rattle.sg_rows.specs.declared.rows.Policy.{Policy}
-use Rattle.sg_rows.specs.declared.rows.Policy.TheVariants.{Shared, Fatpipe, SplitDuplex}
+use Rattle.sg_platform_rows.specs.Ends.{ends_from, ends_of, link_end, link_ends}
+use Rattle.sg_platform_rows.specs.Platform.{IsPlatform, Platform}
+use Rattle.sg_platform_rows.specs.declared.ends.LinkEnd.{LinkEnd}
+use Rattle.sg_platform_rows.specs.declared.rows.LinkRow.{LinkRow}
+use Rattle.sg_platform_rows.specs.declared.rows.Policy.{Policy}
+use Rattle.sg_platform_rows.specs.declared.rows.Policy.TheVariants.{Shared, Fatpipe, SplitDuplex}
 use Rattle.sg_route.specs.DistinctLinks.{distinct_links}
 use Rattle.sg_route.specs.Roads.{Roads, roads_of}
 use Rattle.sg_route.specs.Route.{Route, RouteLinks, route_or_fault, latency_of, route_of, whole_way}

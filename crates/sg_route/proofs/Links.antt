@@ -6,14 +6,14 @@ use Rattle.sg_base.specs.declared.ids.Child.{Child}
 use Rattle.sg_base.specs.declared.ids.Child.TheVariants.{Point, Zone}
 use Rattle.sg_base.specs.declared.ids.LinkId.{LinkId}
 use Rattle.sg_base.specs.declared.ids.PointId.{PointId}
-use Rattle.sg_rows.proofs.EndsBelow.{link_ends_count, way_back_kept}
-use Rattle.sg_rows.specs.Ends.{link_ends, way_back}
-use Rattle.sg_rows.specs.Platform.{IsLinkList, IsPlatform, Platform, counts_of}
-use Rattle.sg_rows.specs.declared.rows.RouteRow.{RouteRow}
-use Rattle.sg_rows.specs.declared.rows.Routing.{Routing}
-use Rattle.sg_rows.specs.declared.rows.Routing.TheVariants.{Full, Star, Dijkstra}
-use Rattle.sg_rows.specs.declared.rows.SpokeRow.{SpokeRow}
-use Rattle.sg_rows.specs.declared.rows.ZoneRouteRow.{ZoneRouteRow}
+use Rattle.sg_platform_rows.proofs.EndsBelow.{link_ends_count, way_back_kept}
+use Rattle.sg_platform_rows.specs.Ends.{link_ends, way_back}
+use Rattle.sg_platform_rows.specs.Platform.{IsLinkList, IsPlatform, Platform, counts_of}
+use Rattle.sg_platform_rows.specs.declared.rows.RouteRow.{RouteRow}
+use Rattle.sg_platform_rows.specs.declared.rows.Routing.{Routing}
+use Rattle.sg_platform_rows.specs.declared.rows.Routing.TheVariants.{Full, Star, Dijkstra}
+use Rattle.sg_platform_rows.specs.declared.rows.SpokeRow.{SpokeRow}
+use Rattle.sg_platform_rows.specs.declared.rows.ZoneRouteRow.{ZoneRouteRow}
 use Rattle.sg_route.specs.Equal.{child_eq}
 use Rattle.sg_route.specs.DistinctLinks.{distinct_links, is_among}
 use Rattle.sg_route.specs.Local.{row_locals, declared_route, route_local, spoke_at, zone_route_local}

@@ -1,5 +1,5 @@
 -- Steps join points that there are.
-use Rattle.sg_rows.specs.declared.rows.Routing.TheVariants.{Dijkstra}
+use Rattle.sg_platform_rows.specs.declared.rows.Routing.TheVariants.{Dijkstra}
 use Rattle.std.specs.List.{flat_map}
 use Rattle.std.proofs.Common.{◌≡◌, ◌+◌, ◌<◌, Bool, true, false, cond, List, [], ◌∷◌, length, length-append, arith}
 use Rattle.std.specs.Prelude.{All, map}
@@ -9,12 +9,12 @@ use Rattle.sg_base.specs.declared.ids.Child.TheVariants.{Point, Zone}
 use Rattle.sg_base.specs.declared.ids.LinkId.{LinkId}
 use Rattle.sg_base.specs.declared.ids.ZoneId.{ZoneId}
 use Rattle.sg_paths.specs.declared.route.PathRoute.{PathRoute}
-use Rattle.sg_rows.specs.Ends.{link_ends}
-use Rattle.sg_rows.specs.Platform.{IsChild, IsPlatform, Platform, counts_of}
-use Rattle.sg_rows.specs.declared.rows.HostRow.{HostRow}
-use Rattle.sg_rows.specs.declared.rows.RouteRow.{RouteRow}
-use Rattle.sg_rows.specs.declared.rows.RouterRow.{RouterRow}
-use Rattle.sg_rows.specs.declared.rows.ZoneRouteRow.{ZoneRouteRow}
+use Rattle.sg_platform_rows.specs.Ends.{link_ends}
+use Rattle.sg_platform_rows.specs.Platform.{IsChild, IsPlatform, Platform, counts_of}
+use Rattle.sg_platform_rows.specs.declared.rows.HostRow.{HostRow}
+use Rattle.sg_platform_rows.specs.declared.rows.RouteRow.{RouteRow}
+use Rattle.sg_platform_rows.specs.declared.rows.RouterRow.{RouterRow}
+use Rattle.sg_platform_rows.specs.declared.rows.ZoneRouteRow.{ZoneRouteRow}
 use Rattle.sg_route.specs.Local.{row_locals, route_local, zone_route_local}
 use Rattle.sg_route.specs.Roads.{roads_of}
 use Rattle.sg_route.specs.PathRoutes.{path_routes_between, path_routes}

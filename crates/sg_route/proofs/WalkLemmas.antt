@@ -6,8 +6,8 @@ use Rattle.sg_base.specs.declared.ids.PointId.{PointId}
 use Rattle.sg_base.specs.declared.ids.LinkId.{LinkId}
 use Rattle.sg_route.specs.declared.leg.Leg.{Leg}
 use Rattle.sg_route.specs.Roads.{Roads}
-use Rattle.sg_rows.specs.declared.rows.Routing.{Routing}
-use Rattle.sg_rows.specs.declared.rows.Routing.TheVariants.{Dijkstra}
+use Rattle.sg_platform_rows.specs.declared.rows.Routing.{Routing}
+use Rattle.sg_platform_rows.specs.declared.rows.Routing.TheVariants.{Dijkstra}
 use Rattle.sg_base.specs.declared.ids.Child.{Child}
 use Rattle.sg_base.specs.declared.ids.Child.TheVariants.{Point, Zone}
 use Rattle.sg_paths.proofs.LeastLemmas.{least_path_is, no_least_path}

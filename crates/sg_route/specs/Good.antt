@@ -1,8 +1,8 @@
 -- What each route keeps to.
 use Rattle.std.specs.Prelude.{◌≡◌, ◌<◌, ◌≤◌, Ok, length, All}
 use Rattle.sg_base.specs.declared.ids.PointId.{PointId}
-use Rattle.sg_rows.specs.Ends.{link_ends}
-use Rattle.sg_rows.specs.Platform.{Platform}
+use Rattle.sg_platform_rows.specs.Ends.{link_ends}
+use Rattle.sg_platform_rows.specs.Platform.{Platform}
 use Rattle.sg_route.specs.Roads.{roads_of}
 use Rattle.sg_route.specs.Route.{Route, route_of}
 

@@ -2,11 +2,11 @@
 use Rattle.std.specs.Prelude.{◌&&◌, Bool, if◌then◌else◌, Option, List, [], ◌∷◌, find}
 use Rattle.sg_base.specs.declared.ids.Child.{Child}
 use Rattle.sg_base.specs.declared.ids.Child.TheVariants.{Point}
-use Rattle.sg_rows.specs.Ends.{way_back}
-use Rattle.sg_rows.specs.declared.ends.LinkEnd.{LinkEnd}
-use Rattle.sg_rows.specs.declared.rows.RouteRow.{RouteRow}
-use Rattle.sg_rows.specs.declared.rows.SpokeRow.{SpokeRow}
-use Rattle.sg_rows.specs.declared.rows.ZoneRouteRow.{ZoneRouteRow}
+use Rattle.sg_platform_rows.specs.Ends.{way_back}
+use Rattle.sg_platform_rows.specs.declared.ends.LinkEnd.{LinkEnd}
+use Rattle.sg_platform_rows.specs.declared.rows.RouteRow.{RouteRow}
+use Rattle.sg_platform_rows.specs.declared.rows.SpokeRow.{SpokeRow}
+use Rattle.sg_platform_rows.specs.declared.rows.ZoneRouteRow.{ZoneRouteRow}
 use Rattle.sg_route.specs.declared.locals.Local.{Local}
 use Rattle.sg_route.specs.declared.locals.Pair.{Pair}
 use Rattle.sg_route.specs.Equal.{child_eq}

@@ -5,7 +5,7 @@ use Rattle.sg_base.specs.declared.ids.Child.TheVariants.{Point, Zone}
 use Rattle.sg_base.specs.declared.ids.LinkId.{LinkId}
 use Rattle.sg_base.specs.declared.ids.PointId.{PointId}
 use Rattle.sg_paths.specs.Path.{HasNoPath, HasPath, IsLeast}
-use Rattle.sg_rows.specs.declared.rows.Routing.TheVariants.{Dijkstra}
+use Rattle.sg_platform_rows.specs.declared.rows.Routing.TheVariants.{Dijkstra}
 use Rattle.sg_route.specs.declared.leg.Leg.{Leg}
 use Rattle.sg_route.specs.declared.router.RouteFault.{RouteFault}
 use Rattle.sg_route.specs.declared.router.RouteFault.TheVariants.{NoRoute, TooLong}

@@ -6,7 +6,7 @@ use Rattle.sg_base.specs.declared.ids.Child.TheVariants.{Point}
 use Rattle.sg_base.specs.declared.ids.LinkId.{LinkId}
 use Rattle.sg_paths.specs.Path.{Net}
 use Rattle.sg_paths.specs.declared.route.PathRoute.{PathRoute}
-use Rattle.sg_rows.specs.declared.rows.Routing.TheVariants.{Dijkstra}
+use Rattle.sg_platform_rows.specs.declared.rows.Routing.TheVariants.{Dijkstra}
 use Rattle.sg_route.specs.declared.locals.Local.{Local}
 use Rattle.sg_route.specs.Roads.{Roads}
 use Rattle.sg_zones.specs.Faults.{is_routing}

@@ -1,10 +1,10 @@
 -- What a router knows of a platform.
 use Rattle.std.specs.Prelude.{List, ◌++◌}
 use Rattle.std.specs.List.{flat_map}
-use Rattle.sg_rows.specs.Ends.{link_ends}
-use Rattle.sg_rows.specs.Platform.{Platform}
-use Rattle.sg_rows.specs.declared.ends.LinkEnd.{LinkEnd}
-use Rattle.sg_rows.specs.declared.rows.SpokeRow.{SpokeRow}
+use Rattle.sg_platform_rows.specs.Ends.{link_ends}
+use Rattle.sg_platform_rows.specs.Platform.{Platform}
+use Rattle.sg_platform_rows.specs.declared.ends.LinkEnd.{LinkEnd}
+use Rattle.sg_platform_rows.specs.declared.rows.SpokeRow.{SpokeRow}
 use Rattle.sg_route.specs.declared.locals.Local.{Local}
 use Rattle.sg_route.specs.Local.{route_local, row_locals, zone_route_local}
 use Rattle.sg_zones.specs.Tree.{Tree, zone_tree}

@@ -12,7 +12,7 @@ use crate::spokes::Spokes;
 use crate::ways::Ways;
 use sg_base::{Child, LinkId, Links, Memory};
 use sg_paths::{PathRoute, Paths};
-use sg_rows::{
+use sg_platform_rows::{
     LinkEnd, PlatformText, RouteRow, Routing, SpokeRow, ZoneRouteRow, link_ends, way_back,
 };
 use sg_zones::Zones;

@@ -7,7 +7,7 @@ ghost use Rattle.sg_route.specs.kept.Index.{IsIndexOfChildren, row_of};
 ghost use Rattle.sg_route.specs.Local.{spoke_at};
 
 use sg_base::{Child, Memory};
-use sg_rows::SpokeRow;
+use sg_platform_rows::SpokeRow;
 use std::alloc::Global;
 use std::marker::Model;
 
@@ -27,7 +27,7 @@ pub(crate) struct Spokes {
 
 impl Model for Spokes {
     ghost use Rattle.std.specs.Prelude.{List};
-    ghost use Rattle.sg_rows.specs.declared.rows.SpokeRow.{SpokeRow};
+    ghost use Rattle.sg_platform_rows.specs.declared.rows.SpokeRow.{SpokeRow};
     ghost use Rattle.sg_route.specs.kept.Index.{IsIndexOfChildren};
 
     ghost Value = { List SpokeRow };

@@ -11,7 +11,7 @@ use crate::ways::Ways;
 use arrayvec::ArrayVec;
 use sg_base::{LinkId, PointId};
 use sg_paths::Paths;
-use sg_rows::Routing;
+use sg_platform_rows::Routing;
 
 /// From where to where.
 #[derive(Clone, Copy)]

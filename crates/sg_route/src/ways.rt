@@ -1,6 +1,6 @@
 //! What a router knows of a platform, and the local routes that rows declare.
 ghost use Rattle.std.specs.Prelude.{◌≡◌, ◌≢◌, ◌≤◌, length, option_map, sum_by};
-ghost use Rattle.sg_rows.specs.declared.rows.Routing.TheVariants.{Dijkstra};
+ghost use Rattle.sg_platform_rows.specs.declared.rows.Routing.TheVariants.{Dijkstra};
 ghost use Rattle.sg_route.specs.kept.Found.{found_passage};
 ghost use Rattle.sg_route.specs.kept.Kept.{keep_all};
 ghost use Rattle.sg_route.specs.Route.{latency_of, leg, loopback, passage_on, to_itself};
@@ -12,7 +12,7 @@ use crate::locals::{Locals, Pair};
 use crate::spokes::Spokes;
 use arrayvec::ArrayVec;
 use sg_base::{Child, LinkId, PointId};
-use sg_rows::{LinkEnd, Routing};
+use sg_platform_rows::{LinkEnd, Routing};
 use sg_zones::Zones;
 use std::marker::Model;
 

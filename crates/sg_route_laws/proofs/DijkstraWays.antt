@@ -10,7 +10,7 @@ use Rattle.sg_paths.proofs.LeastLemmas.{least_found, none_found}
 use Rattle.sg_paths.specs.Least.{least_path}
 use Rattle.sg_paths.specs.Path.{HasNoPath, IsLeastPath}
 use Rattle.sg_paths.specs.declared.route.PathRoute.{PathRoute}
-use Rattle.sg_rows.specs.Platform.{Platform}
+use Rattle.sg_platform_rows.specs.Platform.{Platform}
 use Rattle.sg_route.specs.Roads.{Roads, roads_of}
 use Rattle.sg_route.specs.Route.{Passage, RouteLinks, by_path, leg, passage, passage_on, way, whole_way}
 use Rattle.sg_route.proofs.Passages.{by_passage}

@@ -5,7 +5,7 @@ use Rattle.std.proofs.lemmas.Bool.Decides.{nat_tests}
 use Rattle.sg_base.specs.declared.ids.Child.{Child}
 use Rattle.sg_base.specs.declared.ids.Child.TheVariants.{Point}
 use Rattle.sg_base.specs.declared.ids.PointId.{PointId}
-use Rattle.sg_rows.specs.Platform.{Platform}
+use Rattle.sg_platform_rows.specs.Platform.{Platform}
 use Rattle.sg_route.specs.Equal.{child_eq}
 use Rattle.sg_route.specs.Local.{declared_route}
 use Rattle.sg_route.specs.Roads.{Roads, roads_of}

@@ -9,13 +9,13 @@ use Rattle.sg_base.specs.declared.ids.Child.{Child}
 use Rattle.sg_base.specs.declared.ids.Child.TheVariants.{Point, Zone}
 use Rattle.sg_base.specs.declared.ids.PointId.{PointId}
 use Rattle.sg_base.specs.declared.ids.ZoneId.{ZoneId}
-use Rattle.sg_rows.specs.Ends.{link_ends}
-use Rattle.sg_rows.specs.Platform.{IsPlatform, Platform}
-use Rattle.sg_rows.specs.declared.ends.LinkEnd.{LinkEnd}
-use Rattle.sg_rows.specs.declared.rows.Routing.{Routing}
-use Rattle.sg_rows.specs.declared.rows.Routing.TheVariants.{Full, Star, Dijkstra}
-use Rattle.sg_rows.specs.declared.rows.SpokeRow.{SpokeRow}
-use Rattle.sg_rows.specs.declared.rows.ZoneRow.{ZoneRow}
+use Rattle.sg_platform_rows.specs.Ends.{link_ends}
+use Rattle.sg_platform_rows.specs.Platform.{IsPlatform, Platform}
+use Rattle.sg_platform_rows.specs.declared.ends.LinkEnd.{LinkEnd}
+use Rattle.sg_platform_rows.specs.declared.rows.Routing.{Routing}
+use Rattle.sg_platform_rows.specs.declared.rows.Routing.TheVariants.{Full, Star, Dijkstra}
+use Rattle.sg_platform_rows.specs.declared.rows.SpokeRow.{SpokeRow}
+use Rattle.sg_platform_rows.specs.declared.rows.ZoneRow.{ZoneRow}
 use Rattle.sg_route.specs.Equal.{child_eq}
 use Rattle.sg_route.specs.Local as local
 use Rattle.sg_route.specs.Local.{row_locals, declared_route, route_local, zone_route_local}
@@ -25,7 +25,7 @@ use Rattle.sg_paths.specs.Least.{least_path}
 use Rattle.sg_paths.specs.Path.{IsPath}
 use Rattle.sg_paths.specs.declared.route.PathRoute.{PathRoute}
 use Rattle.sg_base.specs.declared.ids.LinkId.{LinkId}
-use Rattle.sg_rows.specs.Platform.{counts_of}
+use Rattle.sg_platform_rows.specs.Platform.{counts_of}
 use Rattle.sg_route.proofs.StepsLemmas.{IsWithin, steps_join}
 use Rattle.sg_route.specs.Route.{Passage, by_path, by_spokes, leg, passage}
 use Rattle.sg_route.proofs.Passages.{by_declared}

@@ -5,10 +5,10 @@ use Rattle.sg_base.specs.declared.ids.Child.TheVariants.{Point}
 use Rattle.sg_base.specs.declared.ids.LinkId.{LinkId}
 use Rattle.sg_base.specs.declared.ids.PointId.{PointId}
 use Rattle.sg_base.specs.declared.ids.ZoneId.{ZoneId}
-use Rattle.sg_rows.specs.Ends.{link_ends, way_back}
-use Rattle.sg_rows.specs.Platform.{Platform}
-use Rattle.sg_rows.specs.declared.rows.Routing.TheVariants.{Full, Star, Dijkstra}
-use Rattle.sg_rows.specs.declared.rows.SpokeRow.{SpokeRow}
+use Rattle.sg_platform_rows.specs.Ends.{link_ends, way_back}
+use Rattle.sg_platform_rows.specs.Platform.{Platform}
+use Rattle.sg_platform_rows.specs.declared.rows.Routing.TheVariants.{Full, Star, Dijkstra}
+use Rattle.sg_platform_rows.specs.declared.rows.SpokeRow.{SpokeRow}
 use Rattle.sg_route.specs.declared.leg.Leg.{Leg}
 use Rattle.sg_route.specs.declared.locals.Local.{Local}
 use Rattle.sg_route.specs.Equal.{child_eq}

@@ -4,7 +4,7 @@ ghost use Rattle.sg_route.specs.Roads.{roads_of};
 ghost use Rattle.sg_route_laws.specs.Laws.{DijkstraTakesLeastPaths, FollowsLowestZone, FullGoesAsDeclared, FullJoinsGateways, HasRoutes, LegsAreLowest, StarGoesUpAndDown, StarJoinsGateways, WayBackReturns};
 ghost use Rattle.sg_zones.specs.Faults.{zone_fault};
 
-use sg_rows::PlatformText;
+use sg_platform_rows::PlatformText;
 
 /// A route is the local route of the lowest zone that holds both points, with the route to its first gateway before it
 /// and that from its second gateway after it. No count of levels is in this.

@@ -3,9 +3,9 @@ use Rattle.std.proofs.Common.{◌≡◌, ◌<◌, ◌+◌, ◌∷◌, [], refl, 
 use Rattle.std.specs.Prelude.{IfSome, option_map}
 use Rattle.sg_base.specs.declared.ids.ActorId.{ActorId}
 use Rattle.sg_base.specs.Limits.{Extent, IsActorIn}
-use Rattle.sg_rows.proofs.RowsBelow.{row_below}
-use Rattle.sg_rows.specs.Deployment.{Deployed, actor_named, extent_of, mutex_named, replay_actor_named, replay_names, semaphore_named}
-use Rattle.sg_rows.specs.Index.{number_by}
+use Rattle.sg_platform_rows.proofs.RowsBelow.{row_below}
+use Rattle.sg_platform_rows.specs.Deployment.{Deployed, actor_named, extent_of, mutex_named, replay_actor_named, replay_names, semaphore_named}
+use Rattle.sg_platform_rows.specs.Index.{number_by}
 
 -- the actors of a deployment are numbered from 1
 numbered_from_1 : (extent : Extent) (row : Option ℕ) → ((i : ℕ) → row ≡ Some i → i < extent.actors) → IfSome (option_map (λ i. record { 0 = i + 1 }) row) (IsActorIn extent)

@@ -21,11 +21,11 @@ use Rattle.sg_collectives.specs.Expansion.{expansion}
 use Rattle.sg_collectives.specs.Laws.{is_irecv, is_isend, is_recv, is_send, NamesOther, receives_from as receives_at, sends_to as sends_at}
 use Rattle.sg_collectives.specs.Members.{actions_of, rank_of}
 use Rattle.sg_collectives.proofs.Ranges.{count_by-map}
-use Rattle.sg_rows.specs.declared.rows.ActorRow.{ActorRow}
-use Rattle.sg_rows.specs.declared.rows.Function.{Function}
-use Rattle.sg_rows.specs.declared.rows.Function.TheVariants.{Replay, Worker, Master, Churn}
-use Rattle.sg_rows.specs.Deployment.{Deployed, is_replay, member_ids, members_among}
-use Rattle.sg_tree.specs.Along.{along}
+use Rattle.sg_platform_rows.specs.declared.rows.ActorRow.{ActorRow}
+use Rattle.sg_platform_rows.specs.declared.rows.Function.{Function}
+use Rattle.sg_platform_rows.specs.declared.rows.Function.TheVariants.{Replay, Worker, Master, Churn}
+use Rattle.sg_platform_rows.specs.Deployment.{Deployed, is_replay, member_ids, members_among}
+use Rattle.sg_toml_tree.specs.Along.{along}
 use Rattle.sg_script.proofs.Splits.{none_cases}
 use Rattle.sg_script.specs.Laws.{CollectivesMeet, receives_from, sends_to}
 

@@ -1,7 +1,7 @@
 -- What the names of a script stand for.
 use Rattle.std.specs.Prelude.{ℕ, List, Option, length}
 use Rattle.sg_base.specs.declared.ids.ActorId.{ActorId}
-use Rattle.sg_rows.specs.Deployment.{Deployed, actor_named, members_among, mutex_named, replay_actor_named, semaphore_named}
+use Rattle.sg_platform_rows.specs.Deployment.{Deployed, actor_named, members_among, mutex_named, replay_actor_named, semaphore_named}
 
 -- the replay actor of a name, the actor of a name whatever it does, and the number of the mutex, or
 -- semaphore, of a name; and who takes part in collectives

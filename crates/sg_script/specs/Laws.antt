@@ -5,7 +5,7 @@ use Rattle.sg_base.specs.declared.call.Action.TheVariants.{ISend, IRecv, Recv, S
 use Rattle.sg_collectives.specs.declared.collective.Collective.{Collective}
 use Rattle.sg_edge.specs.Files.{PartView}
 use Rattle.sg_edge.specs.Sources.{Source}
-use Rattle.sg_rows.specs.Deployment.{Deployed, members_among}
+use Rattle.sg_platform_rows.specs.Deployment.{Deployed, members_among}
 use Rattle.sg_script.specs.Answer.{answer_of}
 use Rattle.sg_script.specs.Fetched.{fetches_of, one_more}
 use Rattle.sg_script.specs.Known.{ScriptNames}

@@ -2,7 +2,7 @@
 ghost use Rattle.std.specs.Prelude.{◌≡◌, IfOk, Ok};
 ghost use Rattle.std.specs.Result.{result_ok};
 ghost use Rattle.sg_base.specs.Limits.{IsActorIn, IsAmount, IsMutexIn, IsPriority, IsRate, IsSemaphoreIn, IsTime};
-ghost use Rattle.sg_rows.specs.Deployment.{extent_of};
+ghost use Rattle.sg_platform_rows.specs.Deployment.{extent_of};
 ghost use Rattle.sg_script.specs.Known.{known_in};
 ghost use Rattle.sg_script.specs.Line.{actor_in, alone, both, computing_of, from_one_to, no_words, one_of, rate_in, receiving_of, script_amount, sending_of, then_go};
 ghost use Rattle.sg_script.specs.declared.fault.LineFault.TheVariants.{BadAmount, UnknownActor, UnknownObject};
@@ -13,7 +13,7 @@ use crate::fault::LineFault;
 use crate::operation::Operation;
 use crate::words::{Arguments, cut_arguments, none, one};
 use sg_base::{Action, ActorId};
-use sg_rows::Deployment;
+use sg_platform_rows::Deployment;
 use sg_units::{read_amount, read_bandwidth, read_time};
 
 pub fn amount(text: &[u8]) -> Result<u64, LineFault>

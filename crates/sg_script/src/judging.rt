@@ -8,7 +8,7 @@ ghost use Rattle.sg_script.specs.kept.Asks.{IsJudged};
 
 use crate::fault::LineFault;
 use crate::line::{Entry, read_known_line};
-use sg_rows::Deployment;
+use sg_platform_rows::Deployment;
 
 /// The most lines of a script.
 pub const MOST_LINES: u64 = 100_000_000;

@@ -1,7 +1,7 @@
 //! Scripts: what their lines say, and the answers to actors that fetch their next lines, read on demand.
 //! One enters by `Script`: `next_of` is the next action of an actor, for which it reads on if need be; `read_line`
 //! judges one line.
-//! It stands on `sg_edge` for reading, `sg_units` for amounts, `sg_rows` for names, and what is below these.
+//! It stands on `sg_edge` for reading, `sg_units` for amounts, `sg_platform_rows` for names, and what is below these.
 #![tactic(auto)]
 
 mod arguments;

@@ -1,7 +1,7 @@
 //! What one line of a script says.
 ghost use Rattle.std.specs.Prelude.{◌≡◌, IfOk, IsTrue, Ok, true};
 ghost use Rattle.std.specs.List.{list_all};
-ghost use Rattle.sg_rows.specs.Deployment.{extent_of};
+ghost use Rattle.sg_platform_rows.specs.Deployment.{extent_of};
 ghost use Rattle.sg_script.specs.Known.{known_in};
 ghost use Rattle.sg_script.specs.Line.{entry_of, is_plain, KeepsLimits, line_judgement, text_judgement, without_return};
 ghost use Rattle.sg_script.specs.Operation.{IsOperation};
@@ -21,7 +21,7 @@ use crate::verbs::{Verb, read_verb};
 use crate::words::next_word;
 use sg_base::{Action, ActorId};
 use sg_collectives::Collective;
-use sg_rows::Deployment;
+use sg_platform_rows::Deployment;
 
 /// The most bytes of a line, its newline not counted.
 pub const LONGEST_LINE: usize = 4096;

@@ -3,7 +3,7 @@ ghost use Rattle.std.specs.Prelude.{◌≡◌, ◌≢◌, ◌<◌, ◌≤◌, �
 ghost use Rattle.sg_base.specs.Limits.{Extent, IsAction};
 ghost use Rattle.sg_edge.specs.declared.files.Stage.TheVariants.{Fresh, Begun};
 ghost use Rattle.sg_edge.specs.Files.{Only};
-ghost use Rattle.sg_rows.specs.Deployment.{extent_of};
+ghost use Rattle.sg_platform_rows.specs.Deployment.{extent_of};
 ghost use Rattle.sg_script.specs.Answer.{judgement_of};
 ghost use Rattle.sg_script.specs.Known.{known_in, actors_in};
 ghost use Rattle.sg_script.specs.declared.operation.Operation.TheVariants.{Alone};
@@ -19,7 +19,7 @@ use crate::pending::{PIECE, Pending};
 use crate::queues::Queues;
 use sg_base::{Action, ActorId, Memory};
 use sg_edge::{Failed, Files, Part};
-use sg_rows::Deployment;
+use sg_platform_rows::Deployment;
 use std::alloc::Global;
 
 // The answer to an actor that fetches its next line.

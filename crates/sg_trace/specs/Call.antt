@@ -5,7 +5,7 @@ use Rattle.sg_base.specs.declared.call.Call.{Call}
 use Rattle.sg_base.specs.declared.call.Call.TheVariants as call
 use Rattle.sg_base.specs.declared.ids.BoxId.{BoxId}
 use Rattle.sg_base.specs.declared.ids.BoxId.TheVariants as box
-use Rattle.sg_rows.specs.Deployment.{Deployed}
+use Rattle.sg_platform_rows.specs.Deployment.{Deployed}
 use Rattle.sg_trace.specs.Names.{actor_name, mutex_id, semaphore_id}
 
 -- the peer that a mailbox names: the receiver if the call sends, else the sender; or the actor whose name the mailbox has

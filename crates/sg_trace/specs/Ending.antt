@@ -2,8 +2,8 @@
 use Rattle.std.specs.Prelude.{⊤, ℕ, ◌<◌, ◌^◌, List, ◌++◌, decimal, codes, length, None}
 use Rattle.sg_base.specs.Limits.{IsActorIn, IsCall}
 use Rattle.sg_base.specs.Lines.{HasLine}
-use Rattle.sg_rows.specs.Deployment.{Deployed, extent_of}
-use Rattle.sg_rows.specs.Platform.{Platform}
+use Rattle.sg_platform_rows.specs.Deployment.{Deployed, extent_of}
+use Rattle.sg_platform_rows.specs.Platform.{Platform}
 use Rattle.sg_units.specs.Date.{date_of}
 use Rattle.sg_trace.specs.declared.last.Last.{Last}
 use Rattle.sg_trace.specs.declared.last.Last.TheVariants.{Time, Deadlock, Starved, Budget, Blocked, Suspended, Summary, Energy}

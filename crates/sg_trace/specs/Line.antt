@@ -5,8 +5,8 @@ use Rattle.sg_base.specs.declared.trace_record.End.TheVariants as end
 use Rattle.sg_base.specs.declared.trace_record.Record.{Record}
 use Rattle.sg_base.specs.Limits.{IsActorIn, IsCall, IsEnd}
 use Rattle.sg_base.specs.Lines.{HasLine}
-use Rattle.sg_rows.specs.Deployment.{Deployed, extent_of}
-use Rattle.sg_rows.specs.Platform.{Platform}
+use Rattle.sg_platform_rows.specs.Deployment.{Deployed, extent_of}
+use Rattle.sg_platform_rows.specs.Platform.{Platform}
 use Rattle.sg_units.specs.Date.{date_of}
 use Rattle.sg_trace.specs.Call.{call_text}
 use Rattle.sg_trace.specs.Names.{actor_label}

@@ -3,7 +3,7 @@ ghost use Rattle.std.specs.Prelude.{◌≡◌, ◌≤◌, ◌++◌, [], codes, d
 ghost use Rattle.std.specs.Option.{option_map_or};
 ghost use Rattle.sg_base.specs.Limits.{IsBoxIn, IsCall};
 ghost use Rattle.sg_base.specs.Lines.{HasLine};
-ghost use Rattle.sg_rows.specs.Deployment.{extent_of};
+ghost use Rattle.sg_platform_rows.specs.Deployment.{extent_of};
 ghost use Rattle.sg_trace.specs.Call.{call_text, peer_name};
 ghost use Rattle.sg_trace.specs.kept.Room.{HasRoom, GrowsBy};
 
@@ -11,7 +11,7 @@ use crate::names::{Name, actor_name, mutex_name, push_name, semaphore_name};
 use crate::pieces::push_number;
 use arrayvec::ArrayString;
 use sg_base::{BoxId, Call};
-use sg_rows::Deployment;
+use sg_platform_rows::Deployment;
 
 // Returns the name of whom a sender names.
 fn receiver_name(deployment: &Deployment, mailbox: BoxId) -> Name<'_>

@@ -1,6 +1,6 @@
 //! The lines on standard output.
 ghost use Rattle.std.specs.Prelude.{◌≡◌, ◌≤◌, ◌++◌, codes, length};
-ghost use Rattle.sg_rows.specs.Deployment.{IsDeployedOn};
+ghost use Rattle.sg_platform_rows.specs.Deployment.{IsDeployedOn};
 ghost use Rattle.sg_trace.specs.Ending.{IsLastOf, ending_of, last_text};
 ghost use Rattle.sg_trace.specs.Line.{IsDate, IsOfDeployment, line_of};
 ghost use Rattle.sg_units.specs.Date.{date_of};
@@ -12,7 +12,7 @@ use crate::names::{host_name, push_actor, push_name};
 use crate::pieces::{push_date, push_end, push_energy, push_number};
 use arrayvec::ArrayString;
 use sg_base::Record;
-use sg_rows::{Deployment, PlatformText};
+use sg_platform_rows::{Deployment, PlatformText};
 
 /// Appends the trace line of a record, with its newline. It takes no memory.
 pub fn push_line<const N: usize>(

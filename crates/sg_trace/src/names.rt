@@ -2,14 +2,14 @@
 ghost use Rattle.std.specs.Prelude.{◌≡◌, ◌-◌, ◌<◌, ◌≤◌, ◌++◌, [], length, slice_get};
 ghost use Rattle.std.specs.Option.{option_map_or};
 ghost use Rattle.sg_base.specs.Limits.{IsActorIn, IsMutexIn, IsSemaphoreIn};
-ghost use Rattle.sg_rows.specs.Deployment.{IsDeployedOn, extent_of};
+ghost use Rattle.sg_platform_rows.specs.Deployment.{IsDeployedOn, extent_of};
 ghost use Rattle.sg_trace.specs.Names.{actor_label, actor_name, host_name, mutex_id, semaphore_id};
 ghost use Rattle.sg_trace.specs.kept.Room.{HasRoom, GrowsBy};
 
 use crate::pieces::push_number;
 use arrayvec::ArrayString;
 use sg_base::{ActorId, PointId, Text};
-use sg_rows::{Deployment, PlatformText};
+use sg_platform_rows::{Deployment, PlatformText};
 
 /// A name that a platform or a deployment declares.
 #[derive(Clone, Copy)]

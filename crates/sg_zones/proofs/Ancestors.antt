@@ -8,8 +8,8 @@ use Rattle.std.proofs.lemmas.Nat.{pow_pos}
 use Rattle.std.proofs.lemmas.Option.{slice_get_past, slice_get-get_or}
 use Rattle.std.proofs.lemmas.Simd.{map-map}
 use Rattle.sg_base.specs.declared.ids.ZoneId.{ZoneId}
-use Rattle.sg_rows.specs.declared.rows.Routing.TheVariants.{Full}
-use Rattle.sg_rows.specs.declared.rows.ZoneRow.{ZoneRow}
+use Rattle.sg_platform_rows.specs.declared.rows.Routing.TheVariants.{Full}
+use Rattle.sg_platform_rows.specs.declared.rows.ZoneRow.{ZoneRow}
 use Rattle.sg_zones.specs.Paths.{ancestor, ancestors_of, parent_zone}
 
 -- so many steps up, and then so many more

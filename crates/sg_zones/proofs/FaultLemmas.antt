@@ -1,7 +1,7 @@
 -- The tree is bad, its rows are wrong, or all is good.
 use Rattle.std.proofs.Common.{◌≡◌, None, Some, Ok, Err, ◌∙◌, ap}
 use Rattle.std.specs.Option.{option_map_or, option_or}
-use Rattle.sg_rows.specs.Platform.{Platform}
+use Rattle.sg_platform_rows.specs.Platform.{Platform}
 use Rattle.sg_zones.specs.Faults.{tree_fault, row_fault, zones_of}
 use Rattle.sg_zones.specs.Tree.{zone_tree}
 use Rattle.sg_zones.specs.declared.fault.ZoneFault.{ZoneFault}

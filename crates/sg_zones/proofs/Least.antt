@@ -3,10 +3,10 @@ use Rattle.std.proofs.Common.{◌≡◌, ℕ, ◌+◌, ◌<◌, ◌≤◌, ◌�
 use Rattle.std.specs.Option.{option_or}
 use Rattle.std.specs.Prelude.{is_none, is_some}
 use Rattle.sg_base.specs.declared.ids.ZoneId.{ZoneId}
-use Rattle.sg_rows.specs.Platform.{Platform}
-use Rattle.sg_rows.specs.declared.rows.ZoneRouteRow.{ZoneRouteRow}
-use Rattle.sg_rows.specs.declared.rows.ZoneRow.{ZoneRow}
-use Rattle.sg_tree.specs.Along.{along, first}
+use Rattle.sg_platform_rows.specs.Platform.{Platform}
+use Rattle.sg_platform_rows.specs.declared.rows.ZoneRouteRow.{ZoneRouteRow}
+use Rattle.sg_platform_rows.specs.declared.rows.ZoneRow.{ZoneRow}
+use Rattle.sg_toml_tree.specs.Along.{along, first}
 use Rattle.sg_zones.specs.AllFaults.{TellsLeast, IsBefore, IsRising, faults_along, gateway_faults, kind_number, as_list, place_of, root_faults, row_faults, tree_faults}
 use Rattle.sg_zones.specs.Faults.{child_zone_fault, ancestor_fault, first_along, spoke_gateway_fault, gateway_fault, zone_route_gateway_fault, place, root_fault, roots, route_fault, row_fault, spoke_fault, fault_if, tree_fault, zone_route_fault}
 use Rattle.sg_zones.specs.Paths.{ancestors_of}

@@ -2,7 +2,7 @@
 use Rattle.std.proofs.Common.{◌≡◌, ◌<◌, ◌-◌, ◌++◌, ◌∷◌, ℕ, zero, suc, List, [], arith, refl, ap, sym, ◌∙◌, append_assoc, Option, None, Some, length, length-append, ◌≤◌}
 use Rattle.std.specs.Option.{option_map_or}
 use Rattle.sg_base.specs.declared.ids.ZoneId.{ZoneId}
-use Rattle.sg_rows.specs.declared.rows.ZoneRow.{ZoneRow}
+use Rattle.sg_platform_rows.specs.declared.rows.ZoneRow.{ZoneRow}
 use Rattle.sg_zones.specs.Paths.{path, parent_zone}
 
 -- a path through one level at least

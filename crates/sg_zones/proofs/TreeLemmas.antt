@@ -2,7 +2,7 @@
 use Rattle.std.proofs.Common.{◌≡◌, ◌<◌, ◌≤◌, ◌⊎◌, inl, inr, ℕ, zero, suc, List, [], ◌∷◌, ◌++◌, length, take, get_or, Option, None, Some, arith, refl, sym, ◌∙◌, ap, subst, length-append}
 use Rattle.std.specs.Option.{option_map_or}
 use Rattle.std.specs.Prelude.{option_and_then}
-use Rattle.sg_rows.specs.declared.rows.ZoneRow.{ZoneRow}
+use Rattle.sg_platform_rows.specs.declared.rows.ZoneRow.{ZoneRow}
 use Rattle.sg_base.specs.declared.ids.ZoneId.{ZoneId}
 use Rattle.sg_zones.specs.Paths.{ancestor, parent_zone, path}
 

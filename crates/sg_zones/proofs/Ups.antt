@@ -8,10 +8,10 @@ use Rattle.std.proofs.lemmas.List.{get_or-map, get_or_append_left, get_or-append
 use Rattle.std.proofs.lemmas.List.Folds.{list_any-append}
 use Rattle.sg_base.specs.declared.ids.PointId.{PointId}
 use Rattle.sg_base.specs.declared.ids.ZoneId.{ZoneId}
-use Rattle.sg_rows.specs.Platform.{IsPlatform, Platform}
-use Rattle.sg_rows.specs.declared.rows.HostRow.{HostRow}
-use Rattle.sg_rows.specs.declared.rows.RouterRow.{RouterRow}
-use Rattle.sg_rows.specs.declared.rows.ZoneRow.{ZoneRow}
+use Rattle.sg_platform_rows.specs.Platform.{IsPlatform, Platform}
+use Rattle.sg_platform_rows.specs.declared.rows.HostRow.{HostRow}
+use Rattle.sg_platform_rows.specs.declared.rows.RouterRow.{RouterRow}
+use Rattle.sg_platform_rows.specs.declared.rows.ZoneRow.{ZoneRow}
 use Rattle.sg_zones.specs.Faults.{row_fault, tree_fault, zone_fault}
 use Rattle.sg_zones.specs.Laws.{DepthByStepsUp, HoldsByStepsUp}
 use Rattle.sg_zones.specs.Paths.{ancestor, parent_zone, path}

@@ -1,11 +1,11 @@
 -- All faults of the rows, and their order: by kind, and within a kind by table, row and key.
 use Rattle.std.specs.Prelude.{◌≡◌, ℕ, ◌<◌, ◌⊎◌, Option, None, Some, List, [], ◌∷◌, ◌++◌, map, ◌+◌, unwrap_or, ⊤}
 use Rattle.std.specs.List.{AllByRecursion}
-use Rattle.sg_rows.specs.Platform.{Platform}
-use Rattle.sg_rows.specs.declared.rows.ZoneRouteRow.{ZoneRouteRow}
-use Rattle.sg_rows.specs.declared.rows.ZoneRow.{ZoneRow}
-use Rattle.sg_tree.specs.Along.{along, first}
-use Rattle.sg_tree.specs.declared.fault.Place.{Place}
+use Rattle.sg_platform_rows.specs.Platform.{Platform}
+use Rattle.sg_platform_rows.specs.declared.rows.ZoneRouteRow.{ZoneRouteRow}
+use Rattle.sg_platform_rows.specs.declared.rows.ZoneRow.{ZoneRow}
+use Rattle.sg_toml_tree.specs.Along.{along, first}
+use Rattle.sg_toml_tree.specs.declared.fault.Place.{Place}
 use Rattle.sg_zones.specs.Faults.{place, roots, ancestor_fault, gateway_fault, spoke_gateway_fault, child_zone_fault, route_fault, zone_route_fault, spoke_fault, zone_fault}
 use Rattle.sg_zones.specs.FaultWords.{zone_place}
 use Rattle.sg_zones.specs.Paths.{ancestors_of}

@@ -1,6 +1,6 @@
 -- Why zones are no tree, in words, and where.
 use Rattle.std.specs.Prelude.{ℕ, List, [], Option, Some, None, codes}
-use Rattle.sg_tree.specs.declared.fault.Place.{Place}
+use Rattle.sg_toml_tree.specs.declared.fault.Place.{Place}
 use Rattle.sg_zones.specs.declared.fault.ZoneFault.{ZoneFault}
 use Rattle.sg_zones.specs.declared.fault.ZoneFault.TheVariants.{NoRoot, TwoRoots, ParentCycle, TooDeep, GatewayOutside, WrongRouting, Memory}
 

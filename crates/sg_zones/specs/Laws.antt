@@ -2,7 +2,7 @@
 use Rattle.std.specs.Prelude.{◌≡◌, ◌≢◌, ◌<◌, ◌↔◌, ◌+◌, ℕ, None, Some, length, true}
 use Rattle.sg_base.specs.declared.ids.PointId.{PointId}
 use Rattle.sg_base.specs.declared.ids.ZoneId.{ZoneId}
-use Rattle.sg_rows.specs.Platform.{Platform}
+use Rattle.sg_platform_rows.specs.Platform.{Platform}
 use Rattle.sg_zones.specs.Paths.{ancestor, parent_zone}
 use Rattle.sg_zones.specs.Tree.{depth, holds, home, zone_tree}
 

@@ -3,7 +3,7 @@ use Rattle.std.specs.Prelude.{ℕ, suc, zero, Option, Some, List, [], ◌∷◌,
 use Rattle.std.specs.List.{range_with_len}
 use Rattle.std.specs.Option.{option_map_or}
 use Rattle.sg_base.specs.declared.ids.ZoneId.{ZoneId}
-use Rattle.sg_rows.specs.declared.rows.ZoneRow.{ZoneRow}
+use Rattle.sg_platform_rows.specs.declared.rows.ZoneRow.{ZoneRow}
 
 -- the zone above this one; the root has none
 abbrev pub parent_zone : List ZoneRow → ZoneId → Option ZoneId

@@ -3,9 +3,9 @@ use Rattle.std.specs.Prelude.{◌==◌, ℕ, Bool, Option, List, [], ◌++◌, l
 use Rattle.std.specs.List.{list_any, range_with_len}
 use Rattle.sg_base.specs.declared.ids.PointId.{PointId}
 use Rattle.sg_base.specs.declared.ids.ZoneId.{ZoneId}
-use Rattle.sg_rows.specs.Platform.{Platform}
-use Rattle.sg_rows.specs.declared.rows.Routing.{Routing}
-use Rattle.sg_rows.specs.declared.rows.Routing.TheVariants.{Full}
+use Rattle.sg_platform_rows.specs.Platform.{Platform}
+use Rattle.sg_platform_rows.specs.declared.rows.Routing.{Routing}
+use Rattle.sg_platform_rows.specs.declared.rows.Routing.TheVariants.{Full}
 use Rattle.sg_zones.specs.Paths.{path}
 
 -- of each zone its parent, its routing and the path down to it, and of each point its zone

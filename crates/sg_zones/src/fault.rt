@@ -3,7 +3,7 @@ ghost use Rattle.std.specs.Prelude.{◌≡◌, ◌+◌, ◌<◌, ◌-◌, ◌^�
 ghost use Rattle.sg_zones.specs.FaultWords.{zone_place, zone_words};
 ghost use Rattle.sg_zones.specs.declared.fault.ZoneFault.TheVariants.{Memory};
 
-use sg_tree::Place;
+use sg_toml_tree::Place;
 use thiserror::Error;
 
 /// Why rows give no zone tree.

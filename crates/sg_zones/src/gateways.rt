@@ -4,7 +4,7 @@ ghost use Rattle.sg_zones.specs.Faults.{first_along, zone_route_gateway_fault, s
 
 use crate::fault::{ZoneFault, place};
 use crate::zones::Zones;
-use sg_rows::{SpokeRow, ZoneRouteRow};
+use sg_platform_rows::{SpokeRow, ZoneRouteRow};
 
 /// Reports that a gateway of a zone_route isn't held by its end.
 fn zone_route_gateway_fault(zones: &Zones, i: usize, row: &ZoneRouteRow) -> Option<ZoneFault>

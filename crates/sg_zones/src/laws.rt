@@ -4,7 +4,7 @@ ghost use Rattle.sg_zones.specs.AllFaults.{TellsLeast};
 ghost use Rattle.sg_zones.specs.Faults.{zone_fault};
 ghost use Rattle.sg_zones.specs.Laws.{CyclesNeverEnd, DepthByStepsUp, HoldsByStepsUp};
 
-use sg_rows::PlatformText;
+use sg_platform_rows::PlatformText;
 
 /// A zone from which 1,024 steps up don't lead past the root never reaches it, however far one goes up: such a zone is
 /// on a cycle, or below one.

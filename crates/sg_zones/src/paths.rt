@@ -4,7 +4,7 @@ ghost use Rattle.std.specs.List.{range_with_len};
 ghost use Rattle.sg_zones.specs.Paths.{ancestors_of, parent_zone, path};
 
 use sg_base::{Memory, ZoneId};
-use sg_rows::ZoneRow;
+use sg_platform_rows::ZoneRow;
 use std::alloc::Global;
 use std::marker::Model;
 

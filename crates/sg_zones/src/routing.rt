@@ -5,7 +5,7 @@ ghost use Rattle.sg_zones.specs.Faults.{first_along, child_zone_fault, route_fau
 use crate::fault::{ZoneFault, place};
 use crate::zones::Zones;
 use sg_base::Child;
-use sg_rows::{RouteRow, SpokeRow, ZoneRouteRow, ZoneRow};
+use sg_platform_rows::{RouteRow, SpokeRow, ZoneRouteRow, ZoneRow};
 
 fn is_point(child: Child) -> bool
     ensures { result ≡ is_point child }

@@ -6,8 +6,8 @@ ghost use Rattle.sg_zones.specs.declared.fault.ZoneFault.TheVariants.{ParentCycl
 use crate::fault::{ZoneFault, place};
 use crate::paths::ancestors_of;
 use sg_base::{Memory, ZoneId};
-use sg_rows::ZoneRow;
-use sg_tree::Place;
+use sg_platform_rows::ZoneRow;
+use sg_toml_tree::Place;
 use std::alloc::Global;
 
 /// Reports that there is no root, or a second one.

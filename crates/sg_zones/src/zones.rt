@@ -2,7 +2,7 @@
 ghost use Rattle.std.specs.Prelude.{◌≡◌, ◌≢◌, ◌≤◌, ◌++◌, ◌==◌, false, length, map, not, slice_index_or, None, Err, IfOk};
 ghost use Rattle.std.specs.Option.{option_map_or};
 ghost use Rattle.sg_zones.specs.Faults.{child_holds, in_one_full, in_one_routed, is_routing, row_fault, zone_above, zones_of};
-ghost use Rattle.sg_rows.specs.declared.rows.Routing.TheVariants.{Dijkstra, Full, Star};
+ghost use Rattle.sg_platform_rows.specs.declared.rows.Routing.TheVariants.{Dijkstra, Full, Star};
 ghost use Rattle.sg_zones.specs.Tree.{depth, holds, home, path_in, routing_in, zone_tree};
 ghost use Rattle.sg_zones.specs.declared.fault.ZoneFault.TheVariants.{Memory};
 
@@ -12,7 +12,7 @@ use crate::paths::{Path, parents_of, paths_of};
 use crate::routing::{first_child_zone, first_route, first_spoke, first_zone_route};
 use crate::tree::tree_fault;
 use sg_base::{Child, Memory as NoMemory, PointId, ZoneId};
-use sg_rows::{HostRow, PlatformText, RouterRow, Routing, ZoneRow};
+use sg_platform_rows::{HostRow, PlatformText, RouterRow, Routing, ZoneRow};
 use std::alloc::Global;
 use std::marker::Model;
 

@@ -11,9 +11,9 @@ use Rattle.sg_edge.specs.declared.files.Part.TheVariants as part
 use Rattle.sg_words.specs.CommandLine.{Request}
 use Rattle.simgrid_replay.specs.PartSources.{IsNamedBy, source_name}
 use Rattle.sg_engine.specs.declared.setup.Setup.{Setup}
-use Rattle.sg_rows.specs.Deployment.{Deployed}
+use Rattle.sg_platform_rows.specs.Deployment.{Deployed}
 use Rattle.sg_platform.specs.DeploymentOf.{deployment_of}
-use Rattle.sg_rows.specs.Platform.{Platform}
+use Rattle.sg_platform_rows.specs.Platform.{Platform}
 use Rattle.sg_platform.specs.PlatformOf.{platform_of, too_long}
 use Rattle.simgrid_replay.specs.Settings.{platform_given, deployment_given, or_platform_fault, unless_refused, on_platform, fitting, Setting}
 use Rattle.simgrid_replay.specs.kept.Setups.{setting_in}

@@ -33,8 +33,8 @@ use Rattle.simgrid_replay.specs.kept.Reading.{LeavesContexts, PlatformDecides}
 use Rattle.simgrid_replay.specs.PartOrder.{IsTextBroken, SparesRest, StopsOnDemand}
 use Rattle.simgrid_replay.specs.Settings.{Setting, platform_given}
 use Rattle.sg_engine.specs.declared.setup.Setup.{Setup}
-use Rattle.sg_rows.specs.Deployment.{started_number}
-use Rattle.sg_rows.specs.Platform.{Platform as Loaded}
+use Rattle.sg_platform_rows.specs.Deployment.{started_number}
+use Rattle.sg_platform_rows.specs.Platform.{Platform as Loaded}
 use Rattle.simgrid_replay.specs.Requests.{has_parts, has_script, show_of}
 
 -- prefixes of nothing are prefixes of anything

@@ -3,7 +3,7 @@ use Rattle.std.proofs.Common.{◌≡◌, ◌≢◌, refl, Option, None, Some, Re
 use Rattle.std.proofs.Common as C
 use Rattle.std.specs.Option.{option_map_or}
 use Rattle.std.specs.Result.{result_map_both}
-use Rattle.sg_rows.specs.Platform.{Platform}
+use Rattle.sg_platform_rows.specs.Platform.{Platform}
 use Rattle.sg_zones.specs.Faults.{zone_fault, zones_of}
 use Rattle.sg_zones.specs.Tree.{Tree, zone_tree}
 use Rattle.sg_zones.specs.declared.fault.ZoneFault.{ZoneFault}

@@ -2,7 +2,7 @@
 use Rattle.std.specs.Prelude.{◌≡◌, ◌≢◌, ◌≤◌, ℕ, false, List, length, drop, Result, IfOk, MatchResult}
 use Rattle.sg_base.specs.declared.status.Status.{Status}
 use Rattle.sg_base.specs.declared.status.Status.TheVariants as status
-use Rattle.sg_rows.specs.Deployment.{started_number}
+use Rattle.sg_platform_rows.specs.Deployment.{started_number}
 use Rattle.simgrid_replay.specs.Outcome.{Outcome, cuts_output_short}
 use Rattle.simgrid_replay.specs.Settings.{Setting}
 use Rattle.simgrid_replay.specs.declared.refusal.Refusal.{Refusal}

@@ -1,9 +1,9 @@
 -- The lines that report why a platform or a deployment is refused.
 use Rattle.std.specs.Prelude.{ℕ, List, ◌++◌, Option, Some, None, option_map, codes, decimal}
 use Rattle.std.specs.Option.{option_map_or}
-use Rattle.sg_tree.specs.Faults.{kind_words}
-use Rattle.sg_tree.specs.declared.fault.Fault.{Fault}
-use Rattle.sg_tree.specs.declared.fault.Place.{Place}
+use Rattle.sg_toml_tree.specs.Faults.{kind_words}
+use Rattle.sg_toml_tree.specs.declared.fault.Fault.{Fault}
+use Rattle.sg_toml_tree.specs.declared.fault.Place.{Place}
 
 -- PART: WORDS (table T, row R, key K), or PART: WORDS alone
 abbrev pub refusal_line : List ℕ → List ℕ → Option Place → List ℕ

@@ -2,14 +2,14 @@
 use Rattle.std.specs.Prelude.{◌+◌, ◌&&◌, ℕ, Bool, length, Option, None, Result, Ok, Err, if◌then◌else◌, true, nat_le, nat_lt, position}
 use Rattle.std.specs.Option.{option_map_or}
 use Rattle.std.specs.Result.{result_map_both}
-use Rattle.sg_churn.specs.Generated.{platform_of_seed, deployed_of_seed}
+use Rattle.sg_platform_churn.specs.Generated.{platform_of_seed, deployed_of_seed}
 use Rattle.sg_edge.specs.Sources.{Source}
-use Rattle.sg_calls.specs.Setup.{replays}
-use Rattle.sg_rows.specs.Deployment.{Deployed, started_number}
+use Rattle.sg_kernel_calls.specs.Setup.{replays}
+use Rattle.sg_platform_rows.specs.Deployment.{Deployed, started_number}
 use Rattle.sg_platform.specs.DeploymentOf.{deployment_of}
-use Rattle.sg_rows.specs.Platform.{Platform}
+use Rattle.sg_platform_rows.specs.Platform.{Platform}
 use Rattle.sg_platform.specs.PlatformOf.{platform_of, greatest_text}
-use Rattle.sg_tree.specs.declared.fault.Fault.{Fault}
+use Rattle.sg_toml_tree.specs.declared.fault.Fault.{Fault}
 use Rattle.sg_words.specs.CommandLine as line
 use Rattle.sg_words.specs.CommandLine.{Request}
 use Rattle.sg_zones.specs.Faults.{zones_of}

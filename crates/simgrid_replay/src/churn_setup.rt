@@ -1,6 +1,6 @@
 //! What a churn runs: it is made from three numbers.
 ghost use Rattle.std.specs.Prelude.{◌≡◌, ◌≤◌, false, true, IfOk, IfErr, length};
-ghost use Rattle.sg_churn.specs.Generated.{deployed_of_seed, platform_of_seed};
+ghost use Rattle.sg_platform_churn.specs.Generated.{deployed_of_seed, platform_of_seed};
 ghost use Rattle.sg_words.specs.Ranges.{AreChurnNumbers};
 ghost use Rattle.simgrid_replay.specs.kept.Reading.{IsOfDeployment};
 ghost use Rattle.simgrid_replay.specs.Settings.{fitting as fitting_spec, on_platform};
@@ -10,9 +10,9 @@ use crate::fitting::fitting;
 use crate::refusal::Refusal;
 use crate::routed_platform::RoutedPlatform;
 use sg_base::Memory;
-use sg_churn::{churn_deployment, churn_has_no_zone_fault, churn_platform};
 use sg_engine::Setup;
-use sg_rows::PlatformText;
+use sg_platform_churn::{churn_deployment, churn_has_no_zone_fault, churn_platform};
+use sg_platform_rows::PlatformText;
 use std::alloc::Global;
 
 // Returns the platform of a churn with its routes. It has no zone fault.

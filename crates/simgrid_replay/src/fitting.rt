@@ -1,12 +1,12 @@
 //! Whether a deployment suits a run.
 ghost use Rattle.std.specs.Prelude.{◌≡◌, ◌<◌, ◌≤◌, if◌then◌else◌, count_by, length, position, None, IfOk, IfErr, IfSome};
-ghost use Rattle.sg_calls.specs.Setup.{replays};
-ghost use Rattle.sg_rows.specs.Deployment.{is_replay as is_replay_spec, starts, started_number};
+ghost use Rattle.sg_kernel_calls.specs.Setup.{replays};
+ghost use Rattle.sg_platform_rows.specs.Deployment.{is_replay as is_replay_spec, starts, started_number};
 ghost use Rattle.simgrid_replay.specs.kept.Reading.{IsOfDeployment};
 ghost use Rattle.simgrid_replay.specs.Settings.{fitting as fitting_spec};
 
 use crate::refusal::Refusal;
-use sg_rows::{ActorRow, Deployment, Function};
+use sg_platform_rows::{ActorRow, Deployment, Function};
 
 fn is_replay(function: &Function) -> bool
     ensures { result ≡ is_replay_spec function.now }

@@ -4,7 +4,7 @@ ghost use Rattle.std.specs.Result.{result_map_both};
 ghost use Rattle.sg_edge.specs.declared.files.Stage.TheVariants.{Fresh, Broken};
 ghost use Rattle.sg_edge.specs.Files.{IsNamed, KeepsTelling, Only, TakesUpTo};
 ghost use Rattle.sg_edge.specs.Sources.{Source, Gives};
-ghost use Rattle.sg_rows.specs.Deployment.{IsDeployedOn};
+ghost use Rattle.sg_platform_rows.specs.Deployment.{IsDeployedOn};
 ghost use Rattle.sg_platform.specs.DeploymentOf.{deployment_of as deployment_of_text};
 ghost use Rattle.sg_platform.specs.PlatformOf.{greatest_text, platform_of as platform_of_text};
 ghost use Rattle.simgrid_replay.specs.kept.Reading.{Broke, IsOfDeployment, IsOfPlatform, IsReadFault};
@@ -14,8 +14,8 @@ use crate::refusal::Refusal;
 use crate::routed_platform::RoutedPlatform;
 use sg_edge::{Files, Loaded, Part, load};
 use sg_platform::{DeploymentFault, GREATEST_TEXT, PlatformFault, read_deployment, take_platform};
-use sg_rows::{Deployment, PlatformText};
-use sg_tree::{Fault, Kind, Place};
+use sg_platform_rows::{Deployment, PlatformText};
+use sg_toml_tree::{Fault, Kind, Place};
 use std::alloc::Global;
 
 /// A text is over the limit as a whole.

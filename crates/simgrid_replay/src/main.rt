@@ -1,7 +1,7 @@
 //! SimGrid's S4U simulation kernel and trace replay, in whole numbers, as a program.
 //! One enters by `simgrid`, the whole call, over any files and streams: it reads the command line, reads or makes the
 //! input of the job, and runs it. `main` calls it over the real ones.
-//! It stands on `sg_words` for the job, `sg_platform`, `sg_zones` and `sg_churn` for its input, `sg_engine` for the
+//! It stands on `sg_words` for the job, `sg_platform`, `sg_zones` and `sg_platform_churn` for its input, `sg_engine` for the
 //! run; and for its tests on `sg_job_cases`.
 #![tactic(auto)]
 

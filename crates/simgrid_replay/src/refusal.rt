@@ -1,12 +1,12 @@
 //! Why a platform or a deployment isn't there, and the lines that report it.
 ghost use Rattle.std.specs.Prelude.{◌≡◌, ◌++◌, IfOk, codes, decimal, option_map, string_bytes};
 ghost use Rattle.std.specs.Option.{option_map_or};
-ghost use Rattle.sg_tree.specs.Faults.{kind_words};
+ghost use Rattle.sg_toml_tree.specs.Faults.{kind_words};
 ghost use Rattle.sg_zones.specs.FaultWords.{zone_words, zone_place};
 ghost use Rattle.simgrid_replay.specs.RefusalLines.{refusal_line as refusal_line_spec, text_line};
 
 use sg_base::Memory;
-use sg_tree::{Fault, Place};
+use sg_toml_tree::{Fault, Place};
 use sg_zones::ZoneFault;
 use std::alloc::Global;
 

@@ -1,15 +1,15 @@
 //! A platform and its routes.
 ghost use Rattle.std.specs.Prelude.{◌≡◌, ◌≢◌};
 ghost use Rattle.std.specs.Result.{result_map_both};
-ghost use Rattle.sg_rows.specs.Deployment.{IsDeployedOn};
+ghost use Rattle.sg_platform_rows.specs.Deployment.{IsDeployedOn};
 ghost use Rattle.sg_route.specs.Roads.{roads_of};
 ghost use Rattle.sg_zones.specs.Faults.{zones_of};
 
 use crate::refusal::Refusal;
 use sg_base::Memory;
 use sg_engine::Setup;
+use sg_platform_rows::{Deployment, PlatformText};
 use sg_route::Router;
-use sg_rows::{Deployment, PlatformText};
 use sg_zones::{ZoneFault, Zones};
 use std::alloc::Global;
 use std::marker::Model;
@@ -23,7 +23,7 @@ pub struct RoutedPlatform {
 
 impl Model for RoutedPlatform {
     ghost use Rattle.std.specs.Prelude.{◌≡◌};
-    ghost use Rattle.sg_rows.specs.Platform.{Platform};
+    ghost use Rattle.sg_platform_rows.specs.Platform.{Platform};
     ghost use Rattle.sg_route.specs.Roads.{roads_of};
 
     ghost Value = { Platform };

@@ -2,15 +2,15 @@
 ghost use Rattle.std.specs.Prelude.{◌≡◌, ◌≢◌, ◌<◌, ◌≤◌, IfOk, IsTrue};
 ghost use Rattle.sg_edge.specs.declared.files.Stage.TheVariants.{Fresh};
 ghost use Rattle.sg_route.specs.Roads.{roads_of};
-ghost use Rattle.sg_rows.specs.Deployment.{started_number};
+ghost use Rattle.sg_platform_rows.specs.Deployment.{started_number};
 
 use sg_actor::{Actor, PlainContext, all_blank};
 use sg_base::{Memory, Steps};
 use sg_edge::{Files, MemFiles, MemSinks, Part, Sinks, Stream};
 use sg_engine::{Ended, Setup, Show, run};
 use sg_platform::{read_deployment, read_platform};
+use sg_platform_rows::{Deployment, PlatformText};
 use sg_route::Router;
-use sg_rows::{Deployment, PlatformText};
 use sg_zones::Zones;
 use std::alloc::Global;
 use std::marker::Brand;

@@ -4,13 +4,13 @@ use Rattle.std.specs.List.{list_any}
 use Rattle.sg_base.specs.MarkSet.{is_in}
 use Rattle.sg_lazy.specs.RunningFlow.{RunningFlow, is_same_bound, running_at}
 use Rattle.sg_activity.specs.declared.activity_state.Kept.{Kept}
-use Rattle.sg_lives.specs.declared.lives.Live.{Live}
+use Rattle.sg_activity_table.specs.declared.lives.Live.{Live}
 use Rattle.sg_activity.specs.Links.{Capacities, link_at}
 use Rattle.sg_activity.specs.Task.{Place, nowhere, on_host, over}
-use Rattle.sg_lives.specs.Kinds.{takes_share}
+use Rattle.sg_activity_table.specs.Kinds.{takes_share}
 use Rattle.sg_activity.specs.Underway.{with_capacities}
 use Rattle.sg_activity.specs.kept.Index.{used_in}
-use Rattle.sg_lives.specs.Pool.{slot_at}
+use Rattle.sg_activity_table.specs.Pool.{slot_at}
 use Rattle.sg_activity.specs.kept.Rows.{row_at}
 use Rattle.sg_activity.specs.kept.State.{state_of, asked_by, under_of}
 use Rattle.sg_activity.specs.kept.Sound.{IsPlace, IsSound, place_at}

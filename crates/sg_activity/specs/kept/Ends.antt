@@ -1,11 +1,11 @@
 -- Which phase completes first, and what its end changes.
 use Rattle.std.specs.Prelude.{◌≡◌, ℕ, ◌-◌, ◌<◌, false, Option, Some, IsTrue}
-use Rattle.sg_lives.specs.declared.kinds.PhaseKind.TheVariants as phase
+use Rattle.sg_activity_table.specs.declared.kinds.PhaseKind.TheVariants as phase
 use Rattle.sg_activity.specs.declared.activity_state.Kept.{Kept}
-use Rattle.sg_lives.specs.declared.lives.Live.{Live}
+use Rattle.sg_activity_table.specs.declared.lives.Live.{Live}
 use Rattle.sg_activity.specs.Task.{Task, rekinded}
 use Rattle.sg_activity.specs.Underway.{with_task}
-use Rattle.sg_lives.specs.Pool.{slot_at}
+use Rattle.sg_activity_table.specs.Pool.{slot_at}
 use Rattle.sg_activity.specs.kept.State.{State, state_of, task_of, under_of, is_now}
 use Rattle.sg_activity.specs.kept.Sound.{IsSound}
 use Rattle.sg_activity.specs.kept.Turns.{Turns}

@@ -3,7 +3,7 @@ use Rattle.std.specs.Prelude.{◌≡◌, ℕ, ◌≤◌, length, slice_index}
 use Rattle.sg_heap.specs.Agenda.{key_at}
 use Rattle.sg_lazy.specs.RunningFlow.{running_at}
 use Rattle.sg_activity.specs.declared.activity_state.Kept.{Kept}
-use Rattle.sg_lives.specs.Pool.{slot_at}
+use Rattle.sg_activity_table.specs.Pool.{slot_at}
 use Rattle.sg_activity.specs.kept.Rows.{IsWider}
 
 pub record Grows (old new : Kept) : Type 0 where

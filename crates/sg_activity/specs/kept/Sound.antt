@@ -8,12 +8,12 @@ use Rattle.sg_maxmin.specs.Fill.{share_of}
 use Rattle.sg_maxmin.specs.Sharing.{HasLimit}
 use Rattle.sg_lazy.specs.RunningFlow.{RunningFlow, running_at, flows_in}
 use Rattle.sg_activity.specs.declared.activity_state.Kept.{Kept}
-use Rattle.sg_lives.specs.declared.kinds.PhaseKind.TheVariants as phase
-use Rattle.sg_lives.specs.declared.lives.Live.{Live}
+use Rattle.sg_activity_table.specs.declared.kinds.PhaseKind.TheVariants as phase
+use Rattle.sg_activity_table.specs.declared.lives.Live.{Live}
 use Rattle.sg_activity.specs.Links.{Capacities, capacities_of}
 use Rattle.sg_activity.specs.Task.{Place, Way, nowhere, on_host, over}
-use Rattle.sg_lives.specs.Kinds.{flows_ahead, takes_share, pace}
-use Rattle.sg_lives.specs.Pool.{slot_at, uses_ahead}
+use Rattle.sg_activity_table.specs.Kinds.{flows_ahead, takes_share, pace}
+use Rattle.sg_activity_table.specs.Pool.{slot_at, uses_ahead}
 use Rattle.sg_activity.specs.kept.State.{State, state_of, links_at, place_of, asked_by, dated, due_at}
 
 -- all different links that exist, one at least and 64 at most; links are counted in 32 bits

@@ -6,18 +6,18 @@ use Rattle.sg_heap.specs.Agenda.{Key, key_at}
 use Rattle.sg_maxmin.specs.Fill.{Flow}
 use Rattle.sg_lazy.specs.RunningFlow.{RunningFlow, running_at}
 use Rattle.sg_activity.specs.declared.activity_state.Kept.{Kept}
-use Rattle.sg_lives.specs.declared.kinds.PhaseKind.{PhaseKind}
-use Rattle.sg_lives.specs.declared.kinds.PhaseKind.TheVariants as phase
-use Rattle.sg_lives.specs.declared.lives.Live.{Live}
+use Rattle.sg_activity_table.specs.declared.kinds.PhaseKind.{PhaseKind}
+use Rattle.sg_activity_table.specs.declared.kinds.PhaseKind.TheVariants as phase
+use Rattle.sg_activity_table.specs.declared.lives.Live.{Live}
 use Rattle.sg_activity.specs.Doing.{Doing}
 use Rattle.sg_activity.specs.Links.{Capacities, Switches, machines}
-use Rattle.sg_lives.specs.Slots.{listed, passes, serials}
+use Rattle.sg_activity_table.specs.Slots.{listed, passes, serials}
 use Rattle.sg_activity.specs.Stamp.{Stamp}
 use Rattle.sg_activity.specs.Task.{Place, nowhere, on_host, over, Task, flow_of}
-use Rattle.sg_lives.specs.Kinds.{is_held, takes_share}
+use Rattle.sg_activity_table.specs.Kinds.{is_held, takes_share}
 use Rattle.sg_activity.specs.Underway.{Underway}
 use Rattle.sg_activity.specs.kept.Stamps.{left_at, due_of}
-use Rattle.sg_lives.specs.Pool.{slot_at}
+use Rattle.sg_activity_table.specs.Pool.{slot_at}
 use Rattle.sg_activity.specs.kept.Rows.{row_at, way_in}
 
 -- The kept state: by key the activities, the links of their routes and their dates; by number the flows, and their keys; the keys under which phases began since the rates were brought up to date, the flows that ended since, and the resources whose capacity changed since; and whether those whose date is now

@@ -4,15 +4,15 @@ use Rattle.sg_base.specs.MarkSet.{MarkSet}
 use Rattle.sg_heap.specs.Agenda.{Key}
 use Rattle.sg_energy.specs.Meter.{Metered}
 use Rattle.sg_activity.specs.declared.activity_state.Kept.{Kept}
-use Rattle.sg_lives.specs.declared.kinds.HostCap.{HostCap}
-use Rattle.sg_lives.specs.declared.kinds.LinkCap.{LinkCap}
-use Rattle.sg_lives.specs.declared.lives.Live.{Live}
+use Rattle.sg_activity_table.specs.declared.kinds.HostCap.{HostCap}
+use Rattle.sg_activity_table.specs.declared.kinds.LinkCap.{LinkCap}
+use Rattle.sg_activity_table.specs.declared.lives.Live.{Live}
 use Rattle.sg_activity.specs.Doing.{idle_on}
 use Rattle.sg_activity.specs.Hosts.{IsHost}
 use Rattle.sg_activity.specs.kept.Hits.{AreHit, AreSwitches}
 use Rattle.sg_activity.specs.kept.Index.{IsIndexed}
 use Rattle.sg_activity.specs.kept.Metered.{IsMetered, metered_in}
-use Rattle.sg_lives.specs.Pool.{slot_at}
+use Rattle.sg_activity_table.specs.Pool.{slot_at}
 use Rattle.sg_activity.specs.kept.Rows.{Indexed}
 use Rattle.sg_activity.specs.kept.Sound.{IsSound}
 use Rattle.sg_activity.specs.kept.State.{doing_of, state_of, ways_of}

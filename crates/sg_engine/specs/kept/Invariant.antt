@@ -14,20 +14,20 @@ use Rattle.sg_edge.specs.declared.files.Part.TheVariants.{Script}
 use Rattle.sg_edge.specs.declared.files.Stage.TheVariants.{Broken}
 use Rattle.sg_edge.specs.declared.sinks.Stream.{Stream}
 use Rattle.sg_edge.specs.declared.sinks.Stream.TheVariants.{Out, Err}
-use Rattle.sg_rows.specs.Deployment.{Deployed, extent_of, started_number}
-use Rattle.sg_rows.specs.Ends.{link_ends}
-use Rattle.sg_rows.specs.Platform.{Platform}
+use Rattle.sg_platform_rows.specs.Deployment.{Deployed, extent_of, started_number}
+use Rattle.sg_platform_rows.specs.Ends.{link_ends}
+use Rattle.sg_platform_rows.specs.Platform.{Platform}
 use Rattle.sg_script.specs.Known.{ScriptNames as Names, known_in}
 use Rattle.sg_script.specs.Stands.{kept_of}
 use Rattle.sg_engine.specs.declared.ended.Ended.{Ended}
 use Rattle.sg_engine.specs.declared.ended.Ended.TheVariants as ended
 use Rattle.sg_engine.specs.declared.plan.Plan.{Plan}
 use Rattle.sg_engine.specs.declared.simulation.Simulation.{Simulation}
-use Rattle.sg_calls.specs.Known.{Known}
-use Rattle.sg_calls.specs.Setup.{setup_of}
-use Rattle.sg_calls.specs.World.{Core, MayCall, extent, state_of}
-use Rattle.sg_states.specs.Actors.{is_unstarted}
-use Rattle.sg_states.specs.declared.state.Actor.{Actor}
+use Rattle.sg_kernel_calls.specs.Known.{Known}
+use Rattle.sg_kernel_calls.specs.Setup.{setup_of}
+use Rattle.sg_kernel_calls.specs.World.{Core, MayCall, extent, state_of}
+use Rattle.sg_actor_states.specs.Actors.{is_unstarted}
+use Rattle.sg_actor_states.specs.declared.state.Actor.{Actor}
 use Rattle.sg_engine.specs.World.{World}
 use Rattle.sg_engine.specs.Output.{first_of}
 use Rattle.sg_engine.specs.RunContract.{IsBroken, TakesScript}
@@ -37,7 +37,7 @@ use Rattle.sg_engine.specs.Run.{Answering, Progress, are_completed, work_behind}
 use Rattle.sg_engine.specs.kept.Stretches.{Trace, trace_in, Advances, CutsOff}
 use Rattle.sg_engine.specs.kept.Writing.{HasReason}
 use Rattle.sg_route.specs.Roads.{Roads, roads_of}
-use Rattle.sg_calls.specs.Roads.{AreOver}
+use Rattle.sg_kernel_calls.specs.Roads.{AreOver}
 
 -- what the slots of a simulation show, if this shows the minds of actors, and what the actors there have in mind
 abbrev pub places_in : {A : Type 0} → (A → Option Mind) → Simulation A → List SeatView

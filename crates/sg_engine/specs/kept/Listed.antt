@@ -3,12 +3,12 @@ use Rattle.std.specs.Prelude.{ℕ, ◌+◌, ◌++◌, Bool, true, false, Option,
 use Rattle.std.specs.List.{enumerate_from}
 use Rattle.std.specs.Option.{option_map_or}
 use Rattle.sg_base.specs.Mind.{Mind}
-use Rattle.sg_calls.specs.World.{Core}
-use Rattle.sg_rows.specs.Deployment.{Deployed}
-use Rattle.sg_rows.specs.Platform.{Platform}
-use Rattle.sg_rows.specs.declared.rows.ActorRow.{ActorRow}
-use Rattle.sg_rows.specs.declared.rows.HostRow.{HostRow}
-use Rattle.sg_states.specs.declared.state.Actor.{Actor}
+use Rattle.sg_kernel_calls.specs.World.{Core}
+use Rattle.sg_platform_rows.specs.Deployment.{Deployed}
+use Rattle.sg_platform_rows.specs.Platform.{Platform}
+use Rattle.sg_platform_rows.specs.declared.rows.ActorRow.{ActorRow}
+use Rattle.sg_platform_rows.specs.declared.rows.HostRow.{HostRow}
+use Rattle.sg_actor_states.specs.declared.state.Actor.{Actor}
 use Rattle.sg_trace.specs.Ending.{ending_of}
 use Rattle.sg_trace.specs.declared.last.Last.{Last}
 use Rattle.sg_trace.specs.declared.last.Last.TheVariants as last

@@ -10,11 +10,11 @@ use Rattle.sg_edge.specs.declared.files.Part.TheVariants.{Script}
 use Rattle.sg_edge.specs.Sources.{Source}
 use Rattle.sg_edge.specs.declared.files.Stage.{Stage}
 use Rattle.sg_edge.specs.declared.files.Stage.TheVariants.{Fresh, Begun, Broken}
-use Rattle.sg_calls.specs.Known.{Known}
-use Rattle.sg_calls.specs.World.{Core, IsActor, extent, state_of}
-use Rattle.sg_states.specs.Actors.{is_answered, is_ended}
+use Rattle.sg_kernel_calls.specs.Known.{Known}
+use Rattle.sg_kernel_calls.specs.World.{Core, IsActor, extent, state_of}
+use Rattle.sg_actor_states.specs.Actors.{is_answered, is_ended}
 use Rattle.sg_engine.specs.World.{World}
-use Rattle.sg_rows.specs.Deployment.{Deployed, extent_of}
+use Rattle.sg_platform_rows.specs.Deployment.{Deployed, extent_of}
 use Rattle.sg_script.specs.Fetched.{fetches_of}
 use Rattle.sg_script.specs.Answer.{answer_of}
 use Rattle.sg_script.specs.Needed.{need_of}

@@ -6,9 +6,9 @@ use Rattle.sg_base.specs.declared.call.Call.{Call}
 use Rattle.sg_base.specs.Limits.{Extent}
 use Rattle.sg_base.specs.Mind.{Mind}
 use Rattle.sg_actor.specs.Seats.{SeatView, KeepsLimits}
-use Rattle.sg_states.specs.Actors.{is_ready, not_suspended}
-use Rattle.sg_states.specs.declared.state.State.TheVariants.{Ended}
-use Rattle.sg_states.specs.declared.state.Actor.{Actor}
+use Rattle.sg_actor_states.specs.Actors.{is_ready, not_suspended}
+use Rattle.sg_actor_states.specs.declared.state.State.TheVariants.{Ended}
+use Rattle.sg_actor_states.specs.declared.state.Actor.{Actor}
 
 -- what the actor of a place has in mind
 abbrev pub mind_in : SeatView → Option Mind

@@ -7,7 +7,7 @@ use Rattle.sg_edge.specs.declared.sinks.Stream.{Stream}
 use Rattle.sg_edge.specs.declared.sinks.Stream.TheVariants.{Out, Err}
 use Rattle.sg_edge.specs.Sinks.{gain, GainsFront}
 use Rattle.sg_edge.specs.Sources.{Source}
-use Rattle.sg_calls.specs.World.{Core}
+use Rattle.sg_kernel_calls.specs.World.{Core}
 use Rattle.sg_engine.specs.World.{World}
 use Rattle.sg_script.specs.Answer.{answer_of}
 use Rattle.sg_script.specs.Known.{ScriptNames as Names, known_in}

@@ -5,8 +5,8 @@ use Rattle.sg_base.specs.Limits.{IsCall}
 use Rattle.sg_base.specs.Mind.{Mind}
 use Rattle.sg_actor.specs.Seats.{seat_views}
 use Rattle.sg_actor.specs.declared.seat.Seat.{Seat}
-use Rattle.sg_calls.specs.Known.{Known}
-use Rattle.sg_calls.specs.World.{extent}
+use Rattle.sg_kernel_calls.specs.Known.{Known}
+use Rattle.sg_kernel_calls.specs.World.{extent}
 use Rattle.sg_engine.specs.declared.actor_call.ActorCall.{ActorCall}
 use Rattle.sg_engine.specs.kept.CallList.{call_list}
 use Rattle.sg_engine.specs.kept.SeatRules.{minds_of, IsSeated}

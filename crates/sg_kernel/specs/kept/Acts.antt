@@ -1,17 +1,17 @@
 -- What the functions of a time advance ask for, and what they do.
 use Rattle.std.specs.Prelude.{◌≡◌, ℕ, Result, drop}
-use Rattle.sg_lives.specs.declared.kinds.Phase.{Phase}
+use Rattle.sg_activity_table.specs.declared.kinds.Phase.{Phase}
 use Rattle.sg_activity.specs.Doing.{IsDue}
 use Rattle.sg_activity.specs.Task.{phase_after, task_at}
 use Rattle.sg_profile.specs.declared.entry.Entry.{Entry}
-use Rattle.sg_calls.specs.declared.simulation_state.Fields.{Fields}
-use Rattle.sg_calls.specs.declared.stop.Stop.{Stop}
-use Rattle.sg_calls.specs.Steps.{Step, result_of}
-use Rattle.sg_calls.specs.World.{Core}
+use Rattle.sg_kernel_calls.specs.declared.simulation_state.Fields.{Fields}
+use Rattle.sg_kernel_calls.specs.declared.stop.Stop.{Stop}
+use Rattle.sg_kernel_calls.specs.Steps.{Step, result_of}
+use Rattle.sg_kernel_calls.specs.World.{Core}
 use Rattle.sg_kernel.specs.Passes.{ends_in}
 use Rattle.sg_kernel.specs.kept.Coming.{IsDueEntry, LeavesDue}
-use Rattle.sg_calls.specs.kept.Sound.{core_of, StepsBy}
-use Rattle.sg_calls.specs.kept.Whole.{IsPassing}
+use Rattle.sg_kernel_calls.specs.kept.Sound.{core_of, StepsBy}
+use Rattle.sg_kernel_calls.specs.kept.Whole.{IsPassing}
 
 -- ---- what is asked for
 -- in a time advance this entry comes next, and is counted

@@ -2,10 +2,10 @@
 use Rattle.std.specs.Prelude.{◌≡◌, ◌≢◌, ◌⊎◌, ℕ, false, IsTrue, []}
 use Rattle.std.specs.List.{list_any}
 use Rattle.sg_activity.specs.Doing.{IsHit}
-use Rattle.sg_states.specs.Actors.{is_ready}
-use Rattle.sg_calls.specs.declared.simulation_state.Fields.{Fields}
+use Rattle.sg_actor_states.specs.Actors.{is_ready}
+use Rattle.sg_kernel_calls.specs.declared.simulation_state.Fields.{Fields}
 use Rattle.sg_kernel.specs.kept.Coming.{rows_now}
-use Rattle.sg_calls.specs.kept.Whole.{IsPassing, IsWhole}
+use Rattle.sg_kernel_calls.specs.kept.Whole.{IsPassing, IsWhole}
 
 -- the rates are up to date, and no actor is ready
 pub record CanMoveOn (fields : Fields) : Type 0 where

@@ -4,12 +4,12 @@ use Rattle.sg_activity.specs.Doing.{Doing}
 use Rattle.sg_activity.specs.Task.{task_at}
 use Rattle.sg_profile.specs.declared.entry.Entry.{Entry}
 use Rattle.sg_profile.specs.Profiles.{IsEntry, IsNextEntry, next_row, rows_due}
-use Rattle.sg_rows.specs.declared.network.Network.{Network}
-use Rattle.sg_calls.specs.declared.simulation_state.Fields.{Fields}
-use Rattle.sg_calls.specs.World.{Core}
+use Rattle.sg_platform_rows.specs.declared.network.Network.{Network}
+use Rattle.sg_kernel_calls.specs.declared.simulation_state.Fields.{Fields}
+use Rattle.sg_kernel_calls.specs.World.{Core}
 use Rattle.sg_kernel.specs.Passes.{applied, changes, ends, next_span}
-use Rattle.sg_calls.specs.Steps.{Step, each}
-use Rattle.sg_calls.specs.kept.Sound.{core_of, latest, setup_in}
+use Rattle.sg_kernel_calls.specs.Steps.{Step, each}
+use Rattle.sg_kernel_calls.specs.kept.Sound.{core_of, latest, setup_in}
 
 -- the rows whose next entry is of the date
 abbrev pub rows_now : Fields → List ℕ

@@ -4,16 +4,16 @@ use Rattle.std.specs.List.{count_by}
 use Rattle.sg_base.specs.declared.ids.BoxId.{BoxId}
 use Rattle.sg_activity.specs.Doing.{idle_on}
 use Rattle.sg_mailbox.specs.Posts.{waiters}
-use Rattle.sg_rows.specs.declared.rows.ActorRow.{ActorRow}
-use Rattle.sg_rows.specs.Deployment.{Deployed, starts}
-use Rattle.sg_rows.specs.Platform.{Platform}
-use Rattle.sg_states.specs.Actors.{first_actor}
-use Rattle.sg_states.specs.States.{ActorStates}
+use Rattle.sg_platform_rows.specs.declared.rows.ActorRow.{ActorRow}
+use Rattle.sg_platform_rows.specs.Deployment.{Deployed, starts}
+use Rattle.sg_platform_rows.specs.Platform.{Platform}
+use Rattle.sg_actor_states.specs.Actors.{first_actor}
+use Rattle.sg_actor_states.specs.States.{ActorStates}
 use Rattle.sg_sync.specs.Objects.{Objects}
 use Rattle.sg_kernel.specs.declared.beginning.FirstActors.{FirstActors}
 use Rattle.sg_kernel.specs.declared.beginning.FirstObjects.{FirstObjects}
 use Rattle.sg_kernel.specs.declared.beginning.Idle.{Idle}
-use Rattle.sg_calls.specs.Setup.{host_cap, link_caps, capacity_of, replays}
+use Rattle.sg_kernel_calls.specs.Setup.{host_cap, link_caps, capacity_of, replays}
 
 -- no activity runs on the hosts and links of the platform, and nobody is in the mailboxes
 pub record IsIdle (platform : Platform) (idle : Idle) : Type 0 where

@@ -2,11 +2,11 @@
 use Rattle.std.proofs.Common.{◌≢◌, ℕ, ◌-◌, true, false, true≢false, IsTrue, refl, sym, subst, ◌∙◌, arith}
 use Rattle.std.proofs.lemmas.List.{length-set}
 use Rattle.sg_base.specs.declared.call.Answer.TheVariants as answer
-use Rattle.sg_states.specs.declared.state.State.{State}
-use Rattle.sg_states.specs.declared.state.State.TheVariants.{Unstarted, Ready, Blocked, Ended}
-use Rattle.sg_states.specs.Actors.{actor_at, is_answered, is_unstarted, put_state}
-use Rattle.sg_calls.specs.World.{Core, MayCall, state_of}
-use Rattle.sg_calls.proofs.Stated.{state_other, state_same}
+use Rattle.sg_actor_states.specs.declared.state.State.{State}
+use Rattle.sg_actor_states.specs.declared.state.State.TheVariants.{Unstarted, Ready, Blocked, Ended}
+use Rattle.sg_actor_states.specs.Actors.{actor_at, is_answered, is_unstarted, put_state}
+use Rattle.sg_kernel_calls.specs.World.{Core, MayCall, state_of}
+use Rattle.sg_kernel_calls.proofs.Stated.{state_other, state_same}
 use Rattle.sg_kernel_laws.specs.actors.Creates.{CreatesAreExact}
 
 not_both : (state : State) → IsTrue (is_answered state) → IsTrue (is_unstarted state) → ⊥

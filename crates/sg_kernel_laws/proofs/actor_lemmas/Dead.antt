@@ -7,14 +7,14 @@ use Rattle.sg_base.specs.declared.call.Answer.{Answer}
 use Rattle.sg_base.specs.declared.call.Call.{Call}
 use Rattle.sg_requests.specs.Requested.{queue_at}
 use Rattle.sg_route.specs.Roads.{Roads}
-use Rattle.sg_states.specs.declared.state.State.{State}
-use Rattle.sg_states.specs.declared.state.State.TheVariants.{Ready, Ended}
-use Rattle.sg_states.specs.Actors.{blocking_in, is_alive, is_answered, is_unstarted}
-use Rattle.sg_calls.specs.declared.stop.Stop.TheVariants.{Budget}
-use Rattle.sg_calls.specs.Calls.{answer_of_ask, answered, answered_call, told}
-use Rattle.sg_calls.specs.Steps.{Step, goes_on, stops, counted, readied}
-use Rattle.sg_calls.specs.Setup.{Setup}
-use Rattle.sg_calls.specs.World.{Core, MayCall, state_of}
+use Rattle.sg_actor_states.specs.declared.state.State.{State}
+use Rattle.sg_actor_states.specs.declared.state.State.TheVariants.{Ready, Ended}
+use Rattle.sg_actor_states.specs.Actors.{blocking_in, is_alive, is_answered, is_unstarted}
+use Rattle.sg_kernel_calls.specs.declared.stop.Stop.TheVariants.{Budget}
+use Rattle.sg_kernel_calls.specs.Calls.{answer_of_ask, answered, answered_call, told}
+use Rattle.sg_kernel_calls.specs.Steps.{Step, goes_on, stops, counted, readied}
+use Rattle.sg_kernel_calls.specs.Setup.{Setup}
+use Rattle.sg_kernel_calls.specs.World.{Core, MayCall, state_of}
 use Rattle.sg_kernel_laws.specs.actors.Dead.{AnswersStay, DeadStayDead, HasEnded, IsOfAnother, LeavesDead}
 use Rattle.sg_kernel_laws.proofs.actor_lemmas.Kept.{either, finishes_kept, pass_kept, still}
 use Rattle.sg_kernel_laws.proofs.actor_lemmas.Others.{Apart, Rests, Spares, Stays, apart_fresh, call_spares, closed, create_spares, flowing, put_stays, same_state}

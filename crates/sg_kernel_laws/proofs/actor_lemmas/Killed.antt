@@ -4,15 +4,15 @@ use Rattle.sg_base.specs.declared.ids.ActorId.{ActorId}
 use Rattle.sg_base.specs.declared.call.Call.TheVariants as call
 use Rattle.sg_base.specs.declared.call.Answer.TheVariants as answer
 use Rattle.sg_base.specs.declared.trace_record.Record.{Record}
-use Rattle.sg_states.specs.declared.state.State.TheVariants.{Ended}
+use Rattle.sg_actor_states.specs.declared.state.State.TheVariants.{Ended}
 use Rattle.sg_sync.specs.Objects.{Objects, waiting}
 use Rattle.sg_sync.proofs.Leaving.{waits_nowhere}
-use Rattle.sg_calls.specs.Kills.{awaited, gives_up, kill_done, kill_stretches, kills_alive, withdrawn}
-use Rattle.sg_calls.specs.Locks.{joiners_wake}
-use Rattle.sg_calls.specs.Steps.{goes_on, each, all_of, at_once}
-use Rattle.sg_calls.specs.World.{Core, IsActor, MayCall}
-use Rattle.sg_calls.proofs.Alone.{kill_stretches_go}
-use Rattle.sg_calls.proofs.Stated.{state_same}
+use Rattle.sg_kernel_calls.specs.Kills.{awaited, gives_up, kill_done, kill_stretches, kills_alive, withdrawn}
+use Rattle.sg_kernel_calls.specs.Locks.{joiners_wake}
+use Rattle.sg_kernel_calls.specs.Steps.{goes_on, each, all_of, at_once}
+use Rattle.sg_kernel_calls.specs.World.{Core, IsActor, MayCall}
+use Rattle.sg_kernel_calls.proofs.Alone.{kill_stretches_go}
+use Rattle.sg_kernel_calls.proofs.Stated.{state_same}
 use Rattle.sg_kernel_laws.specs.actors.Kills.{EndsBy, KillsEnd}
 use Rattle.sg_kernel_laws.proofs.actor_lemmas.Dead.{IsDead, dead_rests}
 use Rattle.sg_kernel_laws.proofs.actor_lemmas.Others.{let_go, stretches_spare}

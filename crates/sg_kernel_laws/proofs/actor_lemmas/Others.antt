@@ -18,28 +18,28 @@ use Rattle.sg_requests.specs.Requested.{oldest, queue_at, queues_without_oldest,
 use Rattle.sg_route.specs.declared.router.RouteFault.{RouteFault}
 use Rattle.sg_route.specs.Roads.{Roads}
 use Rattle.sg_route.specs.Route.{Route}
-use Rattle.sg_states.specs.declared.state.Actor.{Actor}
-use Rattle.sg_states.specs.declared.state.Blocking.{Blocking}
-use Rattle.sg_states.specs.declared.state.State.{State}
-use Rattle.sg_states.specs.declared.state.State.TheVariants.{Ended}
-use Rattle.sg_states.specs.Actors.{actor_at, blocking_in, is_alive, is_ended, is_unstarted, not_suspended, put_state, put_suspended, state_at}
-use Rattle.sg_states.specs.Records.{record_of}
+use Rattle.sg_actor_states.specs.declared.state.Actor.{Actor}
+use Rattle.sg_actor_states.specs.declared.state.Blocking.{Blocking}
+use Rattle.sg_actor_states.specs.declared.state.State.{State}
+use Rattle.sg_actor_states.specs.declared.state.State.TheVariants.{Ended}
+use Rattle.sg_actor_states.specs.Actors.{actor_at, blocking_in, is_alive, is_ended, is_unstarted, not_suspended, put_state, put_suspended, state_at}
+use Rattle.sg_actor_states.specs.Records.{record_of}
 use Rattle.sg_sync.specs.declared.outcome.Outcome.{Outcome}
 use Rattle.sg_sync.specs.declared.outcome.Outcome.TheVariants.{GoesOn, Waits, Refused}
 use Rattle.sg_sync.specs.Objects.{Done, locked, unlocked, acquired, released, arrived}
-use Rattle.sg_calls.specs.declared.meetings.Comer.{Comer}
+use Rattle.sg_kernel_calls.specs.declared.meetings.Comer.{Comer}
 use Rattle.sg_mailbox.specs.declared.owners.How.TheVariants as how
-use Rattle.sg_calls.specs.declared.stop.Stop.{Stop}
-use Rattle.sg_calls.specs.Answers.{answers_side, for_receiver, side_of, with_over}
-use Rattle.sg_calls.specs.Calls.{answered_call, computes, executed, executes}
-use Rattle.sg_calls.specs.Kills.{awaited, gives_up, kill_done, kill_stretches, kills, kills_alive, withdrawn}
-use Rattle.sg_calls.specs.Lives.{begins, created, joins_by, with_actor_ended}
-use Rattle.sg_calls.specs.Locks.{all_wake, caller_first, caller_gets, caller_last, joiners_wake, with_objects}
-use Rattle.sg_calls.specs.Meetings.{answer_of_over, both_fail, comer_fails, comes, comes_by, fails_with, joined, joins_over, joins_with, other_fails, posted, posts_at, receiver_of, receives_by, route_between, sender_of, sends_by, takes_part, takes_part_failed, waits_by, waits_until, way_with}
-use Rattle.sg_calls.specs.Steps.{Step, goes_on, counted, and_then, each, all_of, at_once, blocked_by}
-use Rattle.sg_calls.specs.Suspensions.{held_by, held_if, held_on, suspended_to}
-use Rattle.sg_calls.specs.Setup.{Setup}
-use Rattle.sg_calls.specs.World.{Core, host_of, is_suspended, state_of, whose_at, with_suspended}
+use Rattle.sg_kernel_calls.specs.declared.stop.Stop.{Stop}
+use Rattle.sg_kernel_calls.specs.Answers.{answers_side, for_receiver, side_of, with_over}
+use Rattle.sg_kernel_calls.specs.Calls.{answered_call, computes, executed, executes}
+use Rattle.sg_kernel_calls.specs.Kills.{awaited, gives_up, kill_done, kill_stretches, kills, kills_alive, withdrawn}
+use Rattle.sg_kernel_calls.specs.Lives.{begins, created, joins_by, with_actor_ended}
+use Rattle.sg_kernel_calls.specs.Locks.{all_wake, caller_first, caller_gets, caller_last, joiners_wake, with_objects}
+use Rattle.sg_kernel_calls.specs.Meetings.{answer_of_over, both_fail, comer_fails, comes, comes_by, fails_with, joined, joins_over, joins_with, other_fails, posted, posts_at, receiver_of, receives_by, route_between, sender_of, sends_by, takes_part, takes_part_failed, waits_by, waits_until, way_with}
+use Rattle.sg_kernel_calls.specs.Steps.{Step, goes_on, counted, and_then, each, all_of, at_once, blocked_by}
+use Rattle.sg_kernel_calls.specs.Suspensions.{held_by, held_if, held_on, suspended_to}
+use Rattle.sg_kernel_calls.specs.Setup.{Setup}
+use Rattle.sg_kernel_calls.specs.World.{Core, host_of, is_suspended, state_of, whose_at, with_suspended}
 use Rattle.sg_kernel_laws.specs.actors.Dead.{IsOfAnother}
 use Rattle.sg_kernel_laws.proofs.actor_lemmas.Kept.{Kept, Closed, Replying, Flowing, still, one_made, either, both, each_kept, none_kept, more_kept, all_kept, joiners_kept, side_kept, gives_up_kept}
 use Rattle.sg_base.specs.Turn.{actor_of}

@@ -4,13 +4,13 @@ use Rattle.sg_base.specs.declared.call.Answer.{Answer}
 use Rattle.sg_base.specs.declared.call.Answer.TheVariants as answer
 use Rattle.sg_base.specs.declared.call.Call.{Call}
 use Rattle.sg_base.specs.declared.trace_record.Record.{Record}
-use Rattle.sg_states.specs.declared.state.Actor.{Actor}
-use Rattle.sg_states.specs.declared.state.State.{State}
-use Rattle.sg_states.specs.declared.state.State.TheVariants.{Ready, Blocked, Ended}
-use Rattle.sg_states.specs.Actors.{put_state, put_suspended, not_suspended, state_at}
-use Rattle.sg_states.specs.Records.{end_by, record_of}
-use Rattle.sg_calls.specs.Steps.{readied}
-use Rattle.sg_calls.specs.World.{Core, state_of}
+use Rattle.sg_actor_states.specs.declared.state.Actor.{Actor}
+use Rattle.sg_actor_states.specs.declared.state.State.{State}
+use Rattle.sg_actor_states.specs.declared.state.State.TheVariants.{Ready, Blocked, Ended}
+use Rattle.sg_actor_states.specs.Actors.{put_state, put_suspended, not_suspended, state_at}
+use Rattle.sg_actor_states.specs.Records.{end_by, record_of}
+use Rattle.sg_kernel_calls.specs.Steps.{readied}
+use Rattle.sg_kernel_calls.specs.World.{Core, state_of}
 use Rattle.sg_kernel_laws.specs.failures.Answers.{FailedAnswersHaveRecords, FailuresHaveRecords, HasFailed}
 use Rattle.sg_kernel_laws.specs.failures.Laws.{is_failed}
 use Rattle.sg_kernel_laws.proofs.failure_lemmas.Between.{Between, Calling, answered_so, created_so, fails_by, pass_so, told_so}

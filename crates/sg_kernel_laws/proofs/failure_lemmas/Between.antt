@@ -22,10 +22,10 @@ use Rattle.sg_requests.specs.Requested.{oldest, queue_at, queues_without_oldest}
 use Rattle.sg_route.specs.declared.router.RouteFault.{RouteFault}
 use Rattle.sg_route.specs.Roads.{Roads}
 use Rattle.sg_route.specs.Route.{Route}
-use Rattle.sg_states.specs.declared.state.Blocking.{Blocking}
-use Rattle.sg_states.specs.declared.state.State.TheVariants.{Ended}
-use Rattle.sg_states.specs.Actors.{blocking_in, is_alive, is_ended, joiners, put_state}
-use Rattle.sg_states.specs.Records.{record_of}
+use Rattle.sg_actor_states.specs.declared.state.Blocking.{Blocking}
+use Rattle.sg_actor_states.specs.declared.state.State.TheVariants.{Ended}
+use Rattle.sg_actor_states.specs.Actors.{blocking_in, is_alive, is_ended, joiners, put_state}
+use Rattle.sg_actor_states.specs.Records.{record_of}
 use Rattle.sg_sync.specs.declared.outcome.Outcome.{Outcome}
 use Rattle.sg_sync.specs.declared.outcome.Outcome.TheVariants.{GoesOn, Waits, Refused}
 use Rattle.sg_sync.specs.Objects.{Done, locked, unlocked, acquired, released, arrived}
@@ -33,20 +33,20 @@ use Rattle.sg_mailbox.specs.declared.owners.How.{How}
 use Rattle.sg_mailbox.specs.declared.owners.How.TheVariants as how
 use Rattle.sg_mailbox.specs.declared.owners.Whose.{Whose}
 use Rattle.sg_mailbox.specs.declared.owners.Whose.TheVariants.{Over, Alone, Posted, Pair}
-use Rattle.sg_calls.specs.declared.meetings.Comer.{Comer}
-use Rattle.sg_calls.specs.declared.stop.Stop.{Stop}
-use Rattle.sg_calls.specs.declared.stop.Stop.TheVariants.{Budget}
-use Rattle.sg_calls.specs.Answers.{answer_to, answers, answers_by, answers_side, bare_side, finishes, for_receiver, awaits_side, side_of, tells_bytes, with_over}
-use Rattle.sg_calls.specs.Calls.{answer_of_ask, answered, answered_call, computes, executed, executes, told, with_execution}
-use Rattle.sg_calls.specs.Kills.{awaited, gives_up, gives_up_by, kill_done, kills, kills_alive, withdrawn}
-use Rattle.sg_calls.specs.Lives.{begins, created, joins_by, with_actor_ended}
-use Rattle.sg_calls.specs.Locks.{all_wake, caller_first, caller_gets, caller_last, joiners_wake, wakes, wakes_from, with_objects}
-use Rattle.sg_calls.specs.Meetings.{answer_of_over, both_fail, comer_fails, comes, comes_by, fails_with, joined, joins_over, joins_with, other_fails, posted, posts_at, receiver_of, receives_by, route_between, sender_of, sends_by, takes_part, takes_part_failed, waits_by, waits_until, way_with}
-use Rattle.sg_calls.specs.Steps.{Step, all_of, and_then, at_once, blocked_by, counted, each, follows, goes_on, readied, replied, stops}
-use Rattle.sg_calls.specs.Suspensions.{held_by, held_if, held_on, suspended_to}
+use Rattle.sg_kernel_calls.specs.declared.meetings.Comer.{Comer}
+use Rattle.sg_kernel_calls.specs.declared.stop.Stop.{Stop}
+use Rattle.sg_kernel_calls.specs.declared.stop.Stop.TheVariants.{Budget}
+use Rattle.sg_kernel_calls.specs.Answers.{answer_to, answers, answers_by, answers_side, bare_side, finishes, for_receiver, awaits_side, side_of, tells_bytes, with_over}
+use Rattle.sg_kernel_calls.specs.Calls.{answer_of_ask, answered, answered_call, computes, executed, executes, told, with_execution}
+use Rattle.sg_kernel_calls.specs.Kills.{awaited, gives_up, gives_up_by, kill_done, kills, kills_alive, withdrawn}
+use Rattle.sg_kernel_calls.specs.Lives.{begins, created, joins_by, with_actor_ended}
+use Rattle.sg_kernel_calls.specs.Locks.{all_wake, caller_first, caller_gets, caller_last, joiners_wake, wakes, wakes_from, with_objects}
+use Rattle.sg_kernel_calls.specs.Meetings.{answer_of_over, both_fail, comer_fails, comes, comes_by, fails_with, joined, joins_over, joins_with, other_fails, posted, posts_at, receiver_of, receives_by, route_between, sender_of, sends_by, takes_part, takes_part_failed, waits_by, waits_until, way_with}
+use Rattle.sg_kernel_calls.specs.Steps.{Step, all_of, and_then, at_once, blocked_by, counted, each, follows, goes_on, readied, replied, stops}
+use Rattle.sg_kernel_calls.specs.Suspensions.{held_by, held_if, held_on, suspended_to}
 use Rattle.sg_kernel.specs.Passes.{all_fail, changes, core_later, ends, ends_by, ends_in, ends_one, enters_one, entry_stretches, fails, fails_one, next_span, pass_at, pass_of, settled, stretches}
-use Rattle.sg_calls.specs.Setup.{Setup}
-use Rattle.sg_calls.specs.World.{Core, host_of, is_suspended, state_of, whose_at, with_suspended}
+use Rattle.sg_kernel_calls.specs.Setup.{Setup}
+use Rattle.sg_kernel_calls.specs.World.{Core, host_of, is_suspended, state_of, whose_at, with_suspended}
 
 -- it holds where the actors do the same and no record is made, for one stretch and the next, and for an answer to an actor that is blocked
 pub record Between (R : Core → Core → List Record → Type 0) : Type 0 where

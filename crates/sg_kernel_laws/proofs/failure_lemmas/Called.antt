@@ -18,29 +18,29 @@ use Rattle.sg_requests.specs.Requested.{oldest, queue_at, queues_without_oldest}
 use Rattle.sg_route.specs.declared.router.RouteFault.{RouteFault}
 use Rattle.sg_route.specs.Roads.{Roads}
 use Rattle.sg_route.specs.Route.{Route}
-use Rattle.sg_states.specs.declared.state.Blocking.{Blocking}
-use Rattle.sg_states.specs.Actors.{blocking_in, is_alive, is_ended, joiners}
-use Rattle.sg_states.specs.Records.{record_of}
+use Rattle.sg_actor_states.specs.declared.state.Blocking.{Blocking}
+use Rattle.sg_actor_states.specs.Actors.{blocking_in, is_alive, is_ended, joiners}
+use Rattle.sg_actor_states.specs.Records.{record_of}
 use Rattle.sg_sync.specs.declared.outcome.Outcome.{Outcome}
 use Rattle.sg_sync.specs.declared.outcome.Outcome.TheVariants.{GoesOn, Waits, Refused}
 use Rattle.sg_sync.specs.Objects.{Done, locked, unlocked, acquired, released, arrived}
-use Rattle.sg_calls.specs.declared.meetings.Comer.{Comer}
+use Rattle.sg_kernel_calls.specs.declared.meetings.Comer.{Comer}
 use Rattle.sg_mailbox.specs.declared.owners.How.TheVariants as how
 use Rattle.sg_mailbox.specs.declared.owners.Whose.{Whose}
 use Rattle.sg_mailbox.specs.declared.owners.Whose.TheVariants.{Over, Alone, Posted, Pair}
-use Rattle.sg_calls.specs.declared.stop.Stop.{Stop}
-use Rattle.sg_calls.specs.declared.stop.Stop.TheVariants.{Budget}
-use Rattle.sg_calls.specs.Answers.{answers_by, answers_side, for_receiver, awaits_side, side_of, with_over}
-use Rattle.sg_calls.specs.Calls.{answered_call, executes}
-use Rattle.sg_calls.specs.Kills.{awaited, kill_stretches, withdrawn}
-use Rattle.sg_calls.specs.Lives.{joins_by, with_actor_ended}
-use Rattle.sg_calls.specs.Locks.{all_wake, caller_first, caller_gets, caller_last, wakes, wakes_from, with_objects}
-use Rattle.sg_calls.specs.Meetings.{answer_of_over, both_fail, comer_fails, comes, comes_by, fails_with, joined, joins_over, joins_with, other_fails, posts_at, receiver_of, receives_by, route_between, sender_of, sends_by, takes_part, takes_part_failed, waits_by, waits_until}
-use Rattle.sg_calls.specs.Steps.{Step, stops, counted, follows, and_then, each, all_of, at_once}
-use Rattle.sg_calls.specs.Setup.{Setup}
-use Rattle.sg_calls.specs.World.{Core, state_of, whose_at}
-use Rattle.sg_calls.proofs.Each.{eq_no}
-use Rattle.sg_calls.proofs.Finishes.{answers_side_goes}
+use Rattle.sg_kernel_calls.specs.declared.stop.Stop.{Stop}
+use Rattle.sg_kernel_calls.specs.declared.stop.Stop.TheVariants.{Budget}
+use Rattle.sg_kernel_calls.specs.Answers.{answers_by, answers_side, for_receiver, awaits_side, side_of, with_over}
+use Rattle.sg_kernel_calls.specs.Calls.{answered_call, executes}
+use Rattle.sg_kernel_calls.specs.Kills.{awaited, kill_stretches, withdrawn}
+use Rattle.sg_kernel_calls.specs.Lives.{joins_by, with_actor_ended}
+use Rattle.sg_kernel_calls.specs.Locks.{all_wake, caller_first, caller_gets, caller_last, wakes, wakes_from, with_objects}
+use Rattle.sg_kernel_calls.specs.Meetings.{answer_of_over, both_fail, comer_fails, comes, comes_by, fails_with, joined, joins_over, joins_with, other_fails, posts_at, receiver_of, receives_by, route_between, sender_of, sends_by, takes_part, takes_part_failed, waits_by, waits_until}
+use Rattle.sg_kernel_calls.specs.Steps.{Step, stops, counted, follows, and_then, each, all_of, at_once}
+use Rattle.sg_kernel_calls.specs.Setup.{Setup}
+use Rattle.sg_kernel_calls.specs.World.{Core, state_of, whose_at}
+use Rattle.sg_kernel_calls.proofs.Each.{eq_no}
+use Rattle.sg_kernel_calls.proofs.Finishes.{answers_side_goes}
 use Rattle.sg_kernel_laws.specs.failures.Laws.{CallsTell, TellsCaller, TellsKill, call_fails, has_failed, is_failed, kills_one, meeting_fails, only_posts, side_fails, wait_fails, way_fails}
 use Rattle.sg_kernel_laws.proofs.failure_lemmas.Killed.{kill_tells}
 use Rattle.sg_kernel_laws.proofs.failure_lemmas.Passed.{just}

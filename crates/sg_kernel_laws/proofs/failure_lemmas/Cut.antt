@@ -4,9 +4,9 @@ use Rattle.std.specs.Prelude.{IsSome}
 use Rattle.std.specs.List.{list_any}
 use Rattle.std.proofs.lemmas.Bool.{cases_lt, or_parts, or_right}
 use Rattle.std.proofs.lemmas.List.{get_or-set_same, get_or-set_other, get_or_past}
-use Rattle.sg_lives.specs.declared.kinds.PhaseKind.{PhaseKind}
-use Rattle.sg_lives.specs.declared.kinds.PhaseKind.TheVariants as phase
-use Rattle.sg_lives.specs.Slots.{is_over_after, passes, serials}
+use Rattle.sg_activity_table.specs.declared.kinds.PhaseKind.{PhaseKind}
+use Rattle.sg_activity_table.specs.declared.kinds.PhaseKind.TheVariants as phase
+use Rattle.sg_activity_table.specs.Slots.{is_over_after, passes, serials}
 use Rattle.sg_activity.specs.Links.{Switches}
 use Rattle.sg_activity.specs.Task.{Task, is_hit, next_phase, phase_after, task_at}
 use Rattle.sg_activity.specs.Underway.{Underway, due_in, hits, passed, wait_in}
@@ -14,24 +14,24 @@ use Rattle.sg_profile.specs.declared.entry.Entry.{Entry}
 use Rattle.sg_profile.specs.declared.entry.Entry.TheVariants as entry
 use Rattle.sg_profile.specs.declared.turn.Turn.{Turn}
 use Rattle.sg_profile.specs.Profiles.{entry_at, rows_due, turns_after_row}
-use Rattle.sg_rows.specs.declared.network.Network.{Network}
+use Rattle.sg_platform_rows.specs.declared.network.Network.{Network}
 use Rattle.sg_mailbox.specs.declared.owners.How.{How}
 use Rattle.sg_mailbox.specs.declared.owners.How.TheVariants as how
 use Rattle.sg_mailbox.specs.declared.owners.Whose.{Whose}
 use Rattle.sg_mailbox.specs.declared.owners.Whose.TheVariants.{Over, Alone, Posted, Pair}
-use Rattle.sg_calls.specs.declared.stop.Stop.{Stop}
-use Rattle.sg_calls.specs.declared.stop.Stop.TheVariants.{Budget}
+use Rattle.sg_kernel_calls.specs.declared.stop.Stop.{Stop}
+use Rattle.sg_kernel_calls.specs.declared.stop.Stop.TheVariants.{Budget}
 use Rattle.sg_base.specs.declared.awaits.Party.{Party}
 use Rattle.sg_base.specs.declared.awaits.Party.TheVariants as party
 use Rattle.sg_mailbox.specs.declared.sides.Side.{Side}
-use Rattle.sg_states.specs.declared.state.Blocking.{Blocking}
-use Rattle.sg_states.specs.Actors.{blocking_in}
-use Rattle.sg_calls.specs.Answers.{answers, answers_by, answers_side, bare_side, finishes, for_receiver, awaits_side, with_over}
+use Rattle.sg_actor_states.specs.declared.state.Blocking.{Blocking}
+use Rattle.sg_actor_states.specs.Actors.{blocking_in}
+use Rattle.sg_kernel_calls.specs.Answers.{answers, answers_by, answers_side, bare_side, finishes, for_receiver, awaits_side, with_over}
 use Rattle.sg_kernel.specs.Passes.{all_fail, applied_if, changes, core_later, ends, ends_by, ends_in, ends_one, enters_one, entry_stretches, fails, pass_at, settled, stretches}
-use Rattle.sg_calls.specs.Steps.{Step, stops, counted, follows, and_then, each, all_of}
-use Rattle.sg_calls.specs.Setup.{Setup}
-use Rattle.sg_calls.specs.World.{Core, state_of, whose_at}
-use Rattle.sg_calls.proofs.Each.{all_of-two}
+use Rattle.sg_kernel_calls.specs.Steps.{Step, stops, counted, follows, and_then, each, all_of}
+use Rattle.sg_kernel_calls.specs.Setup.{Setup}
+use Rattle.sg_kernel_calls.specs.World.{Core, state_of, whose_at}
+use Rattle.sg_kernel_calls.proofs.Each.{all_of-two}
 use Rattle.sg_kernel.proofs.Skips.{finishes_leaves, none_there}
 use Rattle.sg_kernel_laws.specs.failures.Cut.{EndsBy, TimeAdvancesFailWhatIsOff, is_cut_in, is_done_in, is_last, over_in, switched, switches_behind}
 use Rattle.sg_kernel_laws.specs.failures.Laws.{is_over}

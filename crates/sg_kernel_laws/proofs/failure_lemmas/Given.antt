@@ -7,21 +7,21 @@ use Rattle.std.proofs.lemmas.List.Elements.{All-head, All-tail}
 use Rattle.sg_base.specs.declared.call.Answer.TheVariants as answer
 use Rattle.sg_base.specs.declared.call.Call.TheVariants as call
 use Rattle.sg_base.specs.declared.ids.ActorId.{ActorId}
-use Rattle.sg_states.specs.declared.state.Blocking.{Blocking}
-use Rattle.sg_states.specs.Actors.{blocking_in, joiners}
+use Rattle.sg_actor_states.specs.declared.state.Blocking.{Blocking}
+use Rattle.sg_actor_states.specs.Actors.{blocking_in, joiners}
 use Rattle.sg_mailbox.specs.declared.owners.How.TheVariants as how
 use Rattle.sg_mailbox.specs.declared.owners.Whose.{Whose}
 use Rattle.sg_mailbox.specs.declared.owners.Whose.TheVariants.{Over, Alone, Posted, Pair}
-use Rattle.sg_calls.specs.declared.stop.Stop.{Stop}
-use Rattle.sg_calls.specs.declared.stop.Stop.TheVariants.{Budget}
-use Rattle.sg_calls.specs.Answers.{finishes}
-use Rattle.sg_calls.specs.Calls.{answered}
-use Rattle.sg_calls.specs.Kills.{awaited, gives_up, gives_up_by, kill_stretches, kills, withdrawn}
-use Rattle.sg_calls.specs.Locks.{joiners_wake, wakes, wakes_from}
-use Rattle.sg_calls.specs.Steps.{Step, all_of, and_then, at_once, counted, each, follows, goes_on, stops}
-use Rattle.sg_calls.specs.World.{Core, state_of, whose_at}
-use Rattle.sg_calls.proofs.Each.{all_of-two, each_on, eq_no}
-use Rattle.sg_calls.proofs.Finishes.{finishes_goes}
+use Rattle.sg_kernel_calls.specs.declared.stop.Stop.{Stop}
+use Rattle.sg_kernel_calls.specs.declared.stop.Stop.TheVariants.{Budget}
+use Rattle.sg_kernel_calls.specs.Answers.{finishes}
+use Rattle.sg_kernel_calls.specs.Calls.{answered}
+use Rattle.sg_kernel_calls.specs.Kills.{awaited, gives_up, gives_up_by, kill_stretches, kills, withdrawn}
+use Rattle.sg_kernel_calls.specs.Locks.{joiners_wake, wakes, wakes_from}
+use Rattle.sg_kernel_calls.specs.Steps.{Step, all_of, and_then, at_once, counted, each, follows, goes_on, stops}
+use Rattle.sg_kernel_calls.specs.World.{Core, state_of, whose_at}
+use Rattle.sg_kernel_calls.proofs.Each.{all_of-two, each_on, eq_no}
+use Rattle.sg_kernel_calls.proofs.Finishes.{finishes_goes}
 use Rattle.sg_kernel_laws.specs.failures.Given.{FailsByKill, KillsFailWhatIsAwaited}
 use Rattle.sg_kernel_laws.specs.failures.Laws.{is_over}
 use Rattle.sg_kernel_laws.proofs.failure_lemmas.Cut.{finishes_mark, has, within}

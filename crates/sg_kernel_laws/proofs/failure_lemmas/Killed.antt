@@ -12,22 +12,22 @@ use Rattle.sg_base.specs.declared.call.Call.TheVariants as call
 use Rattle.sg_base.specs.declared.ids.ActorId.{ActorId}
 use Rattle.sg_base.specs.declared.trace_record.Record.{Record}
 use Rattle.sg_mailbox.specs.declared.sides.Side.{Side}
-use Rattle.sg_states.specs.declared.state.Actor.{Actor}
-use Rattle.sg_states.specs.declared.state.Blocking.{Blocking}
-use Rattle.sg_states.specs.declared.state.State.{State}
-use Rattle.sg_states.specs.declared.state.State.TheVariants.{Unstarted, Ready, Blocked, Ended}
-use Rattle.sg_states.specs.Actors.{actor_at, blocking_in, is_alive, is_id, joined_by, joiners, joins, not_suspended, put_state, state_at}
+use Rattle.sg_actor_states.specs.declared.state.Actor.{Actor}
+use Rattle.sg_actor_states.specs.declared.state.Blocking.{Blocking}
+use Rattle.sg_actor_states.specs.declared.state.State.{State}
+use Rattle.sg_actor_states.specs.declared.state.State.TheVariants.{Unstarted, Ready, Blocked, Ended}
+use Rattle.sg_actor_states.specs.Actors.{actor_at, blocking_in, is_alive, is_id, joined_by, joiners, joins, not_suspended, put_state, state_at}
 use Rattle.sg_mailbox.specs.declared.owners.How.TheVariants as how
 use Rattle.sg_mailbox.specs.declared.owners.Whose.{Whose}
 use Rattle.sg_mailbox.specs.declared.owners.Whose.TheVariants.{Over, Alone, Posted, Pair}
-use Rattle.sg_calls.specs.declared.stop.Stop.{Stop}
-use Rattle.sg_calls.specs.Answers.{answer_to, answers, answers_by, answers_side, bare_side, finishes, for_receiver, awaits_side, tells_bytes, with_over}
-use Rattle.sg_calls.specs.Kills.{awaited, gives_up, gives_up_by, kill_done, kill_stretches, kills, withdrawn}
-use Rattle.sg_calls.specs.Locks.{joiners_wake, wakes, wakes_from}
-use Rattle.sg_calls.specs.Steps.{Step, goes_on, counted, follows, and_then, each, all_of, at_once, readied, replied}
-use Rattle.sg_calls.specs.World.{Core, state_of, whose_at}
-use Rattle.sg_calls.proofs.Each.{eq_yes}
-use Rattle.sg_calls.proofs.Stated.{blocking_is}
+use Rattle.sg_kernel_calls.specs.declared.stop.Stop.{Stop}
+use Rattle.sg_kernel_calls.specs.Answers.{answer_to, answers, answers_by, answers_side, bare_side, finishes, for_receiver, awaits_side, tells_bytes, with_over}
+use Rattle.sg_kernel_calls.specs.Kills.{awaited, gives_up, gives_up_by, kill_done, kill_stretches, kills, withdrawn}
+use Rattle.sg_kernel_calls.specs.Locks.{joiners_wake, wakes, wakes_from}
+use Rattle.sg_kernel_calls.specs.Steps.{Step, goes_on, counted, follows, and_then, each, all_of, at_once, readied, replied}
+use Rattle.sg_kernel_calls.specs.World.{Core, state_of, whose_at}
+use Rattle.sg_kernel_calls.proofs.Each.{eq_yes}
+use Rattle.sg_kernel_calls.proofs.Stated.{blocking_is}
 use Rattle.sg_kernel_laws.specs.failures.Laws.{TellsJoiner, TellsKill, TellsKiller, TellsOther, is_over}
 use Rattle.sg_kernel_laws.proofs.failure_lemmas.Passed.{Awaits, all_so, awaits, just, put_there, ready_after, set_there}
 

@@ -16,10 +16,10 @@ use Rattle.sg_base.specs.declared.ids.ActorId.{ActorId}
 use Rattle.sg_base.specs.declared.ids.Serial.{Serial}
 use Rattle.sg_base.specs.declared.trace_record.End.{End}
 use Rattle.sg_base.specs.declared.trace_record.End.TheVariants as end
-use Rattle.sg_lives.specs.declared.kinds.PhaseKind.{PhaseKind}
-use Rattle.sg_lives.specs.declared.kinds.PhaseKind.TheVariants as phase
+use Rattle.sg_activity_table.specs.declared.kinds.PhaseKind.{PhaseKind}
+use Rattle.sg_activity_table.specs.declared.kinds.PhaseKind.TheVariants as phase
 use Rattle.sg_activity.specs.Links.{Capacities, Switches, is_off}
-use Rattle.sg_lives.specs.Slots.{passes, serials}
+use Rattle.sg_activity_table.specs.Slots.{passes, serials}
 use Rattle.sg_activity.specs.Task.{Place, Task, exec_of, is_cut, is_hit, next_phase, nowhere, on_host, over, phase_after, rekinded, task_at, timer_of, uses_off}
 use Rattle.sg_activity.specs.Underway.{Underway, due_in, gone_on, held, hits, is_computing, is_kept, passed, with_phase_kind}
 use Rattle.sg_base.specs.Turn.{actor_of}
@@ -31,38 +31,38 @@ use Rattle.sg_requests.specs.Requested.{awaited_with, rising_numbers_with, oldes
 use Rattle.sg_route.specs.declared.router.RouteFault.{RouteFault}
 use Rattle.sg_route.specs.Roads.{Roads}
 use Rattle.sg_route.specs.Route.{Route}
-use Rattle.sg_states.specs.declared.state.Actor.{Actor}
-use Rattle.sg_states.specs.declared.state.Blocking.{Blocking}
-use Rattle.sg_states.specs.declared.state.State.{State}
-use Rattle.sg_states.specs.declared.state.State.TheVariants.{Unstarted, Ready, Blocked, Ended}
-use Rattle.sg_states.specs.Actors.{blocking_in, first_actor, is_alive, is_ended, joiners, not_suspended, put_state, put_suspended, state_at}
-use Rattle.sg_states.specs.Records.{end_by}
+use Rattle.sg_actor_states.specs.declared.state.Actor.{Actor}
+use Rattle.sg_actor_states.specs.declared.state.Blocking.{Blocking}
+use Rattle.sg_actor_states.specs.declared.state.State.{State}
+use Rattle.sg_actor_states.specs.declared.state.State.TheVariants.{Unstarted, Ready, Blocked, Ended}
+use Rattle.sg_actor_states.specs.Actors.{blocking_in, first_actor, is_alive, is_ended, joiners, not_suspended, put_state, put_suspended, state_at}
+use Rattle.sg_actor_states.specs.Records.{end_by}
 use Rattle.sg_sync.specs.declared.outcome.Outcome.{Outcome}
 use Rattle.sg_sync.specs.declared.outcome.Outcome.TheVariants.{GoesOn, Waits, Refused}
 use Rattle.sg_sync.specs.Objects.{Done, locked, unlocked, acquired, released, arrived}
-use Rattle.sg_calls.specs.declared.meetings.Comer.{Comer}
+use Rattle.sg_kernel_calls.specs.declared.meetings.Comer.{Comer}
 use Rattle.sg_mailbox.specs.declared.owners.How.{How}
 use Rattle.sg_mailbox.specs.declared.owners.How.TheVariants as how
 use Rattle.sg_mailbox.specs.declared.owners.Whose.{Whose}
 use Rattle.sg_mailbox.specs.declared.owners.Whose.TheVariants.{Over, Alone, Posted, Pair}
-use Rattle.sg_calls.specs.declared.stop.Stop.{Stop}
-use Rattle.sg_calls.specs.declared.stop.Stop.TheVariants.{Budget}
-use Rattle.sg_calls.specs.Answers.{answer_to, answers, answers_by, answers_side, bare_side, finishes, for_receiver, awaits_side, party_eq, side_of, tells_bytes, with_over}
-use Rattle.sg_calls.specs.Calls.{await_alone, answer_of_ask, answered, answered_call, blocks_on, computes, executed, executes, told, with_execution, with_sleep}
-use Rattle.sg_calls.specs.Kills.{awaited, blocked_on, gives_up, gives_up_by, kill_done, kill_stretches, kills, withdrawn}
-use Rattle.sg_calls.specs.Lives.{begins, answers_create, created, exits, joins_by, with_actor_ended}
-use Rattle.sg_calls.specs.Locks.{all_wake, caller_first, caller_gets, caller_last, joiners_wake, wakes, wakes_from, with_objects}
-use Rattle.sg_calls.specs.Meetings.{answer_of_over, asks_for, await, both_fail, comer_fails, comes, comes_by, fails_with, joined, joins_on, joins_over, joins_with, other_fails, posted, posts_at, receiver_of, receives_by, route_between, sender_of, sends_by, takes_part, takes_part_failed, waits_by, waits_until, way_with}
+use Rattle.sg_kernel_calls.specs.declared.stop.Stop.{Stop}
+use Rattle.sg_kernel_calls.specs.declared.stop.Stop.TheVariants.{Budget}
+use Rattle.sg_kernel_calls.specs.Answers.{answer_to, answers, answers_by, answers_side, bare_side, finishes, for_receiver, awaits_side, party_eq, side_of, tells_bytes, with_over}
+use Rattle.sg_kernel_calls.specs.Calls.{await_alone, answer_of_ask, answered, answered_call, blocks_on, computes, executed, executes, told, with_execution, with_sleep}
+use Rattle.sg_kernel_calls.specs.Kills.{awaited, blocked_on, gives_up, gives_up_by, kill_done, kill_stretches, kills, withdrawn}
+use Rattle.sg_kernel_calls.specs.Lives.{begins, answers_create, created, exits, joins_by, with_actor_ended}
+use Rattle.sg_kernel_calls.specs.Locks.{all_wake, caller_first, caller_gets, caller_last, joiners_wake, wakes, wakes_from, with_objects}
+use Rattle.sg_kernel_calls.specs.Meetings.{answer_of_over, asks_for, await, both_fail, comer_fails, comes, comes_by, fails_with, joined, joins_on, joins_over, joins_with, other_fails, posted, posts_at, receiver_of, receives_by, route_between, sender_of, sends_by, takes_part, takes_part_failed, waits_by, waits_until, way_with}
 use Rattle.sg_kernel.specs.Passes.{all_fail, changes, core_later, ends, ends_by, ends_in, ends_one, enters_one, entry_stretches, fails, fails_one, next_span, pass_at, settled, stretches}
 use Rattle.sg_kernel.specs.Start.{first_core}
-use Rattle.sg_calls.specs.Steps.{Step, goes_on, stops, counted, follows, and_then, each, all_of, at_once, blocked_by, readied, replied}
-use Rattle.sg_calls.specs.Suspensions.{held_by, held_if, held_on, held_to, suspended_to}
-use Rattle.sg_calls.specs.Setup.{Setup}
-use Rattle.sg_calls.specs.World.{Core, host_of, is_suspended, state_of, whose_at, with_suspended}
+use Rattle.sg_kernel_calls.specs.Steps.{Step, goes_on, stops, counted, follows, and_then, each, all_of, at_once, blocked_by, readied, replied}
+use Rattle.sg_kernel_calls.specs.Suspensions.{held_by, held_if, held_on, held_to, suspended_to}
+use Rattle.sg_kernel_calls.specs.Setup.{Setup}
+use Rattle.sg_kernel_calls.specs.World.{Core, host_of, is_suspended, state_of, whose_at, with_suspended}
 use Rattle.sg_kernel.proofs.Hits.{rest_is_hit}
-use Rattle.sg_calls.proofs.Postings.{found_post}
+use Rattle.sg_kernel_calls.proofs.Postings.{found_post}
 use Rattle.sg_kernel.proofs.Skips.{finishes_leaves}
-use Rattle.sg_calls.proofs.Stated.{blocking_is}
+use Rattle.sg_kernel_calls.proofs.Stated.{blocking_is}
 use Rattle.sg_kernel_laws.specs.failures.Laws.{is_failed, over_by}
 use Rattle.sg_kernel_laws.specs.failures.Others.{AreFit, IsFit, IsOwn, IsSleep, MayTell, NoOtherFails, Suits, TellsFew, is_nowhere, is_nowhere_at, may_fail}
 use Rattle.sg_kernel_laws.proofs.failure_lemmas.Killed.{Since, gives_up_tells, killer_tells, since_withdrawn}

@@ -18,26 +18,26 @@ use Rattle.sg_mailbox.specs.declared.sides.Side.{Side}
 use Rattle.sg_profile.specs.declared.entry.Entry.{Entry}
 use Rattle.sg_profile.specs.declared.entry.Entry.TheVariants as entry
 use Rattle.sg_profile.specs.Profiles.{entry_at, rows_due}
-use Rattle.sg_rows.specs.declared.network.Network.{Network}
-use Rattle.sg_states.specs.declared.state.Actor.{Actor}
-use Rattle.sg_states.specs.declared.state.Blocking.{Blocking}
-use Rattle.sg_states.specs.declared.state.State.{State}
-use Rattle.sg_states.specs.declared.state.State.TheVariants.{Ready, Blocked, Ended}
-use Rattle.sg_states.specs.Actors.{actor_at, blocking_in, not_suspended, put_state, state_at}
-use Rattle.sg_states.specs.Records.{end_by}
+use Rattle.sg_platform_rows.specs.declared.network.Network.{Network}
+use Rattle.sg_actor_states.specs.declared.state.Actor.{Actor}
+use Rattle.sg_actor_states.specs.declared.state.Blocking.{Blocking}
+use Rattle.sg_actor_states.specs.declared.state.State.{State}
+use Rattle.sg_actor_states.specs.declared.state.State.TheVariants.{Ready, Blocked, Ended}
+use Rattle.sg_actor_states.specs.Actors.{actor_at, blocking_in, not_suspended, put_state, state_at}
+use Rattle.sg_actor_states.specs.Records.{end_by}
 use Rattle.sg_mailbox.specs.declared.owners.How.{How}
 use Rattle.sg_mailbox.specs.declared.owners.How.TheVariants as how
 use Rattle.sg_mailbox.specs.declared.owners.Whose.{Whose}
 use Rattle.sg_mailbox.specs.declared.owners.Whose.TheVariants.{Over, Alone, Posted, Pair}
-use Rattle.sg_calls.specs.declared.stop.Stop.{Stop}
-use Rattle.sg_calls.specs.declared.stop.Stop.TheVariants.{Budget}
-use Rattle.sg_calls.specs.Answers.{answer_to, answers, answers_by, answers_side, bare_side, finishes, for_receiver, awaits_side, tells_bytes, with_over}
+use Rattle.sg_kernel_calls.specs.declared.stop.Stop.{Stop}
+use Rattle.sg_kernel_calls.specs.declared.stop.Stop.TheVariants.{Budget}
+use Rattle.sg_kernel_calls.specs.Answers.{answer_to, answers, answers_by, answers_side, bare_side, finishes, for_receiver, awaits_side, tells_bytes, with_over}
 use Rattle.sg_kernel.specs.Passes.{all_fail, applied_if, changes, core_later, ends, ends_by, ends_in, ends_one, enters_one, entry_stretches, fails, next_span, pass_at, pass_of, settled, stretches}
-use Rattle.sg_calls.specs.Steps.{Step, goes_on, stops, counted, follows, and_then, each, all_of, replied}
-use Rattle.sg_calls.specs.Setup.{Setup}
-use Rattle.sg_calls.specs.World.{Core, state_of, whose_at}
+use Rattle.sg_kernel_calls.specs.Steps.{Step, goes_on, stops, counted, follows, and_then, each, all_of, replied}
+use Rattle.sg_kernel_calls.specs.Setup.{Setup}
+use Rattle.sg_kernel_calls.specs.World.{Core, state_of, whose_at}
 use Rattle.sg_kernel.proofs.Skips.{none_set, none_there}
-use Rattle.sg_calls.proofs.Stated.{blocking_is}
+use Rattle.sg_kernel_calls.proofs.Stated.{blocking_is}
 use Rattle.sg_kernel_laws.specs.failures.Laws.{PassesTell, TellsHow, over_by}
 
 -- ---- what steps keep

@@ -4,12 +4,12 @@ use Rattle.sg_base.specs.declared.call.Answer.{Answer}
 use Rattle.sg_base.specs.declared.call.Answer.TheVariants as answer
 use Rattle.sg_base.specs.declared.call.Call.TheVariants as call
 use Rattle.sg_base.specs.declared.ids.ActorId.{ActorId}
-use Rattle.sg_states.specs.declared.state.State.TheVariants.{Ready}
-use Rattle.sg_states.specs.Actors.{is_unstarted}
-use Rattle.sg_states.specs.Records.{record_of}
-use Rattle.sg_calls.specs.Lives.{created}
-use Rattle.sg_calls.specs.Steps.{Step}
-use Rattle.sg_calls.specs.World.{Core, IsActor, MayCall, state_of}
+use Rattle.sg_actor_states.specs.declared.state.State.TheVariants.{Ready}
+use Rattle.sg_actor_states.specs.Actors.{is_unstarted}
+use Rattle.sg_actor_states.specs.Records.{record_of}
+use Rattle.sg_kernel_calls.specs.Lives.{created}
+use Rattle.sg_kernel_calls.specs.Steps.{Step}
+use Rattle.sg_kernel_calls.specs.World.{Core, IsActor, MayCall, state_of}
 
 -- the answer to a create, by whether the named actor was given a context
 abbrev pub answer_of_create : Bool → Answer

@@ -7,14 +7,14 @@ use Rattle.sg_base.specs.declared.ids.ActorId.{ActorId}
 use Rattle.sg_base.specs.declared.trace_record.Record.{Record}
 use Rattle.sg_requests.specs.Requested.{queue_at}
 use Rattle.sg_route.specs.Roads.{Roads}
-use Rattle.sg_states.specs.declared.state.State.TheVariants.{Ready, Ended}
-use Rattle.sg_states.specs.Actors.{is_unstarted}
-use Rattle.sg_calls.specs.Calls.{answered, told}
-use Rattle.sg_calls.specs.Lives.{created}
+use Rattle.sg_actor_states.specs.declared.state.State.TheVariants.{Ready, Ended}
+use Rattle.sg_actor_states.specs.Actors.{is_unstarted}
+use Rattle.sg_kernel_calls.specs.Calls.{answered, told}
+use Rattle.sg_kernel_calls.specs.Lives.{created}
 use Rattle.sg_kernel.specs.Passes.{pass_of}
-use Rattle.sg_calls.specs.Steps.{Step}
-use Rattle.sg_calls.specs.Setup.{Setup}
-use Rattle.sg_calls.specs.World.{Core, MayCall, state_of}
+use Rattle.sg_kernel_calls.specs.Steps.{Step}
+use Rattle.sg_kernel_calls.specs.Setup.{Setup}
+use Rattle.sg_kernel_calls.specs.World.{Core, MayCall, state_of}
 
 abbrev pub HasEnded : ℕ → Core → Type 0
 HasEnded actor core = state_of core actor ≡ Ended

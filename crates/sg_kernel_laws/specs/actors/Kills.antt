@@ -2,11 +2,11 @@
 use Rattle.std.specs.Prelude.{◌≡◌, ℕ, IsTrue, None, [], All}
 use Rattle.sg_base.specs.declared.ids.ActorId.{ActorId}
 use Rattle.sg_requests.specs.Requested.{queue_at}
-use Rattle.sg_states.specs.Actors.{is_alive}
+use Rattle.sg_actor_states.specs.Actors.{is_alive}
 use Rattle.sg_sync.specs.Objects.{waiting}
-use Rattle.sg_calls.specs.Kills.{kills}
-use Rattle.sg_calls.specs.Steps.{Step}
-use Rattle.sg_calls.specs.World.{Core, IsActor, MayCall, state_of}
+use Rattle.sg_kernel_calls.specs.Kills.{kills}
+use Rattle.sg_kernel_calls.specs.Steps.{Step}
+use Rattle.sg_kernel_calls.specs.World.{Core, IsActor, MayCall, state_of}
 use Rattle.sg_kernel_laws.specs.actors.Dead.{HasEnded, IsOfAnother}
 
 -- It has ended, and there was no other event; no record is of it, it has no requests, waits nowhere, and the mutexes have the owners that they had.

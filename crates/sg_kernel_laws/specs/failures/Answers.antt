@@ -6,13 +6,13 @@ use Rattle.sg_base.specs.declared.call.Call.{Call}
 use Rattle.sg_base.specs.declared.ids.ActorId.{ActorId}
 use Rattle.sg_base.specs.declared.trace_record.Record.{Record}
 use Rattle.sg_route.specs.Roads.{Roads}
-use Rattle.sg_states.specs.declared.state.State.TheVariants.{Ready}
-use Rattle.sg_calls.specs.Calls.{answered, told}
-use Rattle.sg_calls.specs.Lives.{created}
-use Rattle.sg_calls.specs.Steps.{Step}
-use Rattle.sg_calls.specs.World.{Core, state_of}
+use Rattle.sg_actor_states.specs.declared.state.State.TheVariants.{Ready}
+use Rattle.sg_kernel_calls.specs.Calls.{answered, told}
+use Rattle.sg_kernel_calls.specs.Lives.{created}
+use Rattle.sg_kernel_calls.specs.Steps.{Step}
+use Rattle.sg_kernel_calls.specs.World.{Core, state_of}
 use Rattle.sg_kernel.specs.Passes.{pass_of}
-use Rattle.sg_calls.specs.Setup.{Setup}
+use Rattle.sg_kernel_calls.specs.Setup.{Setup}
 use Rattle.sg_kernel_laws.specs.failures.Laws.{is_failed}
 
 -- one of the records is of the actor, and is of a failed call; an actor's place is one below its id

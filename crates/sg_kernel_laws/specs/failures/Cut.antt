@@ -1,7 +1,7 @@
 -- Which activities fail in a time advance, and which complete.
 use Rattle.std.specs.Prelude.{◌≡◌, ℕ, ◌+◌, ◌<◌, ◌&&◌, not, Bool, false, Option, None, Some, is_some, if◌then◌else◌, List, [], ◌∷◌, slice_set}
 use Rattle.std.specs.List.{list_any}
-use Rattle.sg_lives.specs.Slots.{is_over_after, passes}
+use Rattle.sg_activity_table.specs.Slots.{is_over_after, passes}
 use Rattle.sg_activity.specs.Links.{Switches}
 use Rattle.sg_activity.specs.Task.{Task, is_hit, next_phase, task_at}
 use Rattle.sg_activity.specs.Underway.{Underway, wait_in}
@@ -13,9 +13,9 @@ use Rattle.sg_mailbox.specs.declared.owners.How.{How}
 use Rattle.sg_mailbox.specs.declared.owners.How.TheVariants as how
 use Rattle.sg_mailbox.specs.declared.owners.Whose.TheVariants.{Over}
 use Rattle.sg_kernel.specs.Passes.{next_span, pass_of, settled}
-use Rattle.sg_calls.specs.Setup.{Setup}
-use Rattle.sg_calls.specs.Steps.{Step}
-use Rattle.sg_calls.specs.World.{Core, whose_at}
+use Rattle.sg_kernel_calls.specs.Setup.{Setup}
+use Rattle.sg_kernel_calls.specs.Steps.{Step}
+use Rattle.sg_kernel_calls.specs.World.{Core, whose_at}
 use Rattle.sg_kernel_laws.specs.failures.Laws.{is_over}
 
 -- which hosts and links are on after a profile entry

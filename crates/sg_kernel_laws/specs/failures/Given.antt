@@ -3,14 +3,14 @@ use Rattle.std.specs.Prelude.{◌≡◌, ◌≢◌, ℕ, ◌<◌, false, IsTrue,
 use Rattle.sg_base.specs.declared.call.Call.TheVariants as call
 use Rattle.sg_base.specs.declared.ids.ActorId.{ActorId}
 use Rattle.sg_route.specs.Roads.{Roads}
-use Rattle.sg_states.specs.Actors.{is_alive}
+use Rattle.sg_actor_states.specs.Actors.{is_alive}
 use Rattle.sg_mailbox.specs.declared.owners.How.TheVariants as how
 use Rattle.sg_mailbox.specs.declared.owners.Whose.TheVariants.{Over}
-use Rattle.sg_calls.specs.Calls.{answered}
-use Rattle.sg_calls.specs.Kills.{awaited}
-use Rattle.sg_calls.specs.Steps.{Step}
-use Rattle.sg_calls.specs.World.{Core, state_of, whose_at}
-use Rattle.sg_calls.specs.Setup.{Setup}
+use Rattle.sg_kernel_calls.specs.Calls.{answered}
+use Rattle.sg_kernel_calls.specs.Kills.{awaited}
+use Rattle.sg_kernel_calls.specs.Steps.{Step}
+use Rattle.sg_kernel_calls.specs.World.{Core, state_of, whose_at}
+use Rattle.sg_kernel_calls.specs.Setup.{Setup}
 use Rattle.sg_kernel_laws.specs.failures.Laws.{is_over}
 
 -- the activity has failed where the killed actor awaited it, and is as it was where not; ids are from 1 on

@@ -18,19 +18,19 @@ use Rattle.sg_requests.specs.Requested.{oldest, queue_at}
 use Rattle.sg_route.specs.declared.router.RouteFault.{RouteFault}
 use Rattle.sg_route.specs.Roads.{Roads}
 use Rattle.sg_route.specs.Route.{Route}
-use Rattle.sg_states.specs.declared.state.State.TheVariants.{Blocked}
-use Rattle.sg_states.specs.Actors.{is_alive}
-use Rattle.sg_calls.specs.declared.meetings.Comer.{Comer}
+use Rattle.sg_actor_states.specs.declared.state.State.TheVariants.{Blocked}
+use Rattle.sg_actor_states.specs.Actors.{is_alive}
+use Rattle.sg_kernel_calls.specs.declared.meetings.Comer.{Comer}
 use Rattle.sg_mailbox.specs.declared.owners.How.{How}
 use Rattle.sg_mailbox.specs.declared.owners.How.TheVariants as how
 use Rattle.sg_mailbox.specs.declared.owners.Whose.{Whose}
 use Rattle.sg_mailbox.specs.declared.owners.Whose.TheVariants.{Over, Alone, Posted, Pair}
-use Rattle.sg_calls.specs.Calls.{answered}
-use Rattle.sg_calls.specs.Kills.{awaited}
-use Rattle.sg_calls.specs.Meetings.{comer_of, posts_at, receiver_of, route_between, sender_of, way_with}
+use Rattle.sg_kernel_calls.specs.Calls.{answered}
+use Rattle.sg_kernel_calls.specs.Kills.{awaited}
+use Rattle.sg_kernel_calls.specs.Meetings.{comer_of, posts_at, receiver_of, route_between, sender_of, way_with}
 use Rattle.sg_kernel.specs.Passes.{pass_of}
-use Rattle.sg_calls.specs.Setup.{Setup}
-use Rattle.sg_calls.specs.World.{Core, MayCall, host_of, state_of, whose_at}
+use Rattle.sg_kernel_calls.specs.Setup.{Setup}
+use Rattle.sg_kernel_calls.specs.World.{Core, MayCall, host_of, state_of, whose_at}
 
 -- ---- time advances
 -- how the activity ended of a call that ended so

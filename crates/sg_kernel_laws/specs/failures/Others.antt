@@ -11,19 +11,19 @@ use Rattle.sg_activity.specs.Links.{Capacities}
 use Rattle.sg_activity.specs.Task.{Place, Task, nowhere, on_host, over, task_at}
 use Rattle.sg_requests.specs.Requested.{queue_at}
 use Rattle.sg_route.specs.Roads.{Roads}
-use Rattle.sg_states.specs.declared.state.Actor.{Actor}
-use Rattle.sg_states.specs.declared.state.State.TheVariants.{Blocked}
-use Rattle.sg_states.specs.Actors.{state_at}
+use Rattle.sg_actor_states.specs.declared.state.Actor.{Actor}
+use Rattle.sg_actor_states.specs.declared.state.State.TheVariants.{Blocked}
+use Rattle.sg_actor_states.specs.Actors.{state_at}
 use Rattle.sg_mailbox.specs.declared.owners.How.TheVariants as how
 use Rattle.sg_mailbox.specs.declared.owners.Whose.{Whose}
 use Rattle.sg_mailbox.specs.declared.owners.Whose.TheVariants.{Over, Alone}
-use Rattle.sg_calls.specs.Calls.{answered, told}
-use Rattle.sg_calls.specs.Lives.{created}
+use Rattle.sg_kernel_calls.specs.Calls.{answered, told}
+use Rattle.sg_kernel_calls.specs.Lives.{created}
 use Rattle.sg_kernel.specs.Passes.{pass_of}
 use Rattle.sg_kernel.specs.Start.{first_core}
-use Rattle.sg_calls.specs.Steps.{Step}
-use Rattle.sg_calls.specs.Setup.{Setup}
-use Rattle.sg_calls.specs.World.{Core}
+use Rattle.sg_kernel_calls.specs.Steps.{Step}
+use Rattle.sg_kernel_calls.specs.Setup.{Setup}
+use Rattle.sg_kernel_calls.specs.World.{Core}
 use Rattle.sg_kernel_laws.specs.failures.Laws.{is_failed}
 
 -- whether an answer to the call may be that it failed

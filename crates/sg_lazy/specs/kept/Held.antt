@@ -3,13 +3,13 @@ use Rattle.std.specs.Prelude.{◌≡◌, ◌≢◌, ℕ, zero, suc, ◌+◌, ◌
 use Rattle.sg_base.specs.MarkSet.{MarkSet, is_in}
 use Rattle.sg_maxmin.specs.Fill.{Flow, flow, share_of}
 use Rattle.sg_maxmin.specs.Sharing.{Sharing, IsSound, flow_at, uses_at}
-use Rattle.sg_filling.specs.declared.parts.Parts.{Parts}
+use Rattle.sg_maxmin_solve.specs.declared.parts.Parts.{Parts}
 use Rattle.sg_lazy.specs.declared.settle.Pending.{Pending}
 use Rattle.sg_lazy.specs.declared.settle.Rated.{Rated}
 use Rattle.sg_lazy.specs.RunningFlow.{RunningFlow, flows_in}
-use Rattle.sg_filling.specs.Component.{lengths}
+use Rattle.sg_maxmin_solve.specs.Component.{lengths}
 use Rattle.sg_lazy.specs.kept.Keeping.{AreKept}
-use Rattle.sg_filling.specs.Parts.{IsReady}
+use Rattle.sg_maxmin_solve.specs.Parts.{IsReady}
 
 -- the list of what stands under each number below n
 unfoldable pub listed : {X : Type 0} → ℕ → (ℕ → X) → List X

@@ -3,8 +3,8 @@ use Rattle.std.specs.Prelude.{◌≡◌, ℕ, ◌<◌, ◌≤◌, ◌^◌, Bool,
 use Rattle.sg_base.specs.MarkSet.{is_in}
 use Rattle.sg_maxmin.specs.Fill.{Flow, share_at}
 use Rattle.sg_maxmin.specs.Sharing.{Sharing, flow_at}
-use Rattle.sg_levels.specs.declared.levels.Levels.{Levels}
-use Rattle.sg_levels.specs.Kept.{IsBetween, IsWithin}
+use Rattle.sg_maxmin_levels.specs.declared.levels.Levels.{Levels}
+use Rattle.sg_maxmin_levels.specs.Kept.{IsBetween, IsWithin}
 use Rattle.sg_maxmin.specs.Numbered.{bound_at, flow_in, level_at}
 use Rattle.sg_lazy.specs.declared.settle.Pending.{Pending}
 

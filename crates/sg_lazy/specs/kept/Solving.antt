@@ -3,11 +3,11 @@ use Rattle.std.specs.Prelude.{◌≡◌, ℕ, ◌+◌, ◌*◌, ◌<◌, ◌≤�
 use Rattle.sg_base.specs.MarkSet.{is_in}
 use Rattle.sg_maxmin.specs.Sharing.{Sharing, flow_at}
 use Rattle.sg_maxmin.specs.Held.{AreFilled}
-use Rattle.sg_levels.specs.Kept.{IsBetween, IsFresh, IsWithin, NotesChanged}
+use Rattle.sg_maxmin_levels.specs.Kept.{IsBetween, IsFresh, IsWithin, NotesChanged}
 use Rattle.sg_maxmin.specs.Found.{PassAlong}
-use Rattle.sg_levels.specs.Joined.{joined_count, joined_uses, spare_looks}
-use Rattle.sg_levels.specs.Settling.{is_active}
-use Rattle.sg_filling.specs.Parts.{IsReady}
+use Rattle.sg_maxmin_levels.specs.Joined.{joined_count, joined_uses, spare_looks}
+use Rattle.sg_maxmin_levels.specs.Settling.{is_active}
+use Rattle.sg_maxmin_solve.specs.Parts.{IsReady}
 use Rattle.sg_lazy.specs.declared.settle.Pending.{Pending}
 use Rattle.sg_lazy.specs.declared.settle.Solver.{Solver}
 

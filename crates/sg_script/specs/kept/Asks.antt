@@ -5,7 +5,7 @@ use Rattle.sg_base.specs.declared.call.Action.{Action}
 use Rattle.sg_edge.specs.Files.{Only, PartView}
 use Rattle.sg_edge.specs.declared.files.Part.{Part}
 use Rattle.sg_edge.specs.declared.files.Part.TheVariants as part
-use Rattle.sg_rows.specs.Deployment.{Deployed, extent_of, members_among}
+use Rattle.sg_platform_rows.specs.Deployment.{Deployed, extent_of, members_among}
 use Rattle.sg_script.specs.Known.{actors_in, known_in}
 use Rattle.sg_script.specs.Line.{Judgement, KeepsLimits}
 use Rattle.sg_script.specs.Stands.{AreLimited, IsLimited, IsRead, Kept}

@@ -1,7 +1,7 @@
 -- The setup of a setting.
 use Rattle.std.specs.Prelude.{◌≡◌, ◌≢◌, ◌≤◌, ℕ, Bool, Result, Ok, Err}
 use Rattle.sg_engine.specs.declared.setup.Setup.{Setup}
-use Rattle.sg_rows.specs.Deployment.{started_number}
+use Rattle.sg_platform_rows.specs.Deployment.{started_number}
 use Rattle.sg_words.specs.declared.job.Job.{Job}
 use Rattle.simgrid_replay.specs.PartSources.{request_of}
 use Rattle.simgrid_replay.specs.Requests.{has_script}

@@ -1,5 +1,5 @@
 use Rattle.std.proofs.Common.{◌≡◌, ◌≤◌, ◌^◌, ◌+◌, ◌++◌, length, map, sum_by, sym, ap, ap₂, ◌∙◌, arith}
-use Rattle.sg_lives.specs.declared.kinds.LinkCap.{LinkCap}
+use Rattle.sg_activity_table.specs.declared.kinds.LinkCap.{LinkCap}
 use Rattle.sg_activity.specs.Hosts.{offer_of}
 use Rattle.sg_activity.specs.Links.{machines}
 use Rattle.sg_activity.specs.Doing.{idle_on}
@@ -13,7 +13,7 @@ use Rattle.sg_heap.specs.Agenda.{key_at}
 use Rattle.sg_activity.specs.kept.Hits.{hit_in}
 use Rattle.sg_activity.specs.kept.Index.{used_by}
 use Rattle.sg_activity.specs.kept.Rows.{row_at, way_in}
-use Rattle.sg_lives.specs.Pool.{slot_at}
+use Rattle.sg_activity_table.specs.Pool.{slot_at}
 use Rattle.sg_activity.specs.kept.State.{links_at}
 use Rattle.sg_activity.proofs.beginning.first_parts.Goals as goal
 

@@ -3,7 +3,7 @@ use Rattle.std.proofs.lemmas.List.{get_or_default}
 use Rattle.sg_base.specs.MarkSet.{is_in}
 use Rattle.sg_maxmin.specs.Chained.{users_on}
 use Rattle.sg_lazy.specs.Lazily.{with_capacity}
-use Rattle.sg_lives.specs.declared.kinds.LinkCap.{LinkCap}
+use Rattle.sg_activity_table.specs.declared.kinds.LinkCap.{LinkCap}
 use Rattle.sg_activity.specs.Links.{at_bandwidth, link_at, machines}
 use Rattle.sg_activity.specs.kept.Index.{used_at}
 use Rattle.sg_activity.specs.kept.Bounds.{Rebounds}

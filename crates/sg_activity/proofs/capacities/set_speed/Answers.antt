@@ -1,7 +1,7 @@
 use Rattle.std.proofs.Common.{◌≡◌, ◌*◌, set, refl, ap, ◌∙◌, arith}
 use Rattle.std.proofs.lemmas.List.{get_or_default}
 use Rattle.sg_maxmin.specs.Chained.{users_on}
-use Rattle.sg_lives.specs.declared.kinds.HostCap.{HostCap}
+use Rattle.sg_activity_table.specs.declared.kinds.HostCap.{HostCap}
 use Rattle.sg_activity.specs.Hosts.{host_at}
 use Rattle.sg_activity.specs.Links.{at_speed, capacities_of, machines}
 use Rattle.sg_activity.specs.kept.Sound.{place_at}

@@ -1,5 +1,5 @@
 use Rattle.std.proofs.Common.{◌≡◌, Some, sym, ◌∙◌, arith}
-use Rattle.sg_lives.specs.Pool.{slot_at}
+use Rattle.sg_activity_table.specs.Pool.{slot_at}
 use Rattle.sg_activity.proofs.Bounds.{rebound_one}
 use Rattle.sg_activity.proofs.capacities.update_bound.Goals as goal
 

@@ -7,14 +7,14 @@ use Rattle.sg_maxmin.specs.Sharing.{IsFlow}
 use Rattle.sg_lazy.specs.Lazily.{Lazily}
 use Rattle.sg_lazy.specs.RunningFlow.{RunningFlow}
 use Rattle.sg_activity.specs.declared.activity_state.Kept.{Kept}
-use Rattle.sg_lives.specs.declared.kinds.PhaseKind.TheVariants as phase
-use Rattle.sg_lives.specs.declared.lives.Live.{Live}
+use Rattle.sg_activity_table.specs.declared.kinds.PhaseKind.TheVariants as phase
+use Rattle.sg_activity_table.specs.declared.lives.Live.{Live}
 use Rattle.sg_activity.specs.Links.{capacities_of, route_bound, shared_of}
-use Rattle.sg_lives.specs.Slots.{sooner}
+use Rattle.sg_activity_table.specs.Slots.{sooner}
 use Rattle.sg_activity.specs.kept.State.{State, state_of, links_at, place_of, under_of, ways_of}
 use Rattle.sg_activity.specs.kept.Sound.{IsKept, IsPath, IsPlace, IsSound, IsWay, slot_ahead, slot_uses}
-use Rattle.sg_lives.specs.Kinds.{flows_ahead}
-use Rattle.sg_lives.specs.Pool.{uses_ahead}
+use Rattle.sg_activity_table.specs.Kinds.{flows_ahead}
+use Rattle.sg_activity_table.specs.Pool.{uses_ahead}
 use Rattle.sg_activity.specs.kept.Turns.{Turns}
 use Rattle.sg_activity.proofs.Pairing.{there_within}
 use Rattle.sg_activity.proofs.Roomy.{ahead_set, ahead_counted, uses_set, uses_counted}

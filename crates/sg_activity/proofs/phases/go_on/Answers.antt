@@ -5,15 +5,15 @@ use Rattle.sg_maxmin.specs.Fill.{Flow, flow}
 use Rattle.sg_maxmin.specs.Sharing.{IsFlow}
 use Rattle.sg_lazy.specs.Lazily.{Lazily}
 use Rattle.sg_lazy.specs.RunningFlow.{RunningFlow}
-use Rattle.sg_lives.specs.declared.kinds.HostCap.{HostCap}
-use Rattle.sg_lives.specs.declared.kinds.PhaseKind.TheVariants as phase
+use Rattle.sg_activity_table.specs.declared.kinds.HostCap.{HostCap}
+use Rattle.sg_activity_table.specs.declared.kinds.PhaseKind.TheVariants as phase
 use Rattle.sg_activity.specs.declared.activity_state.Kept.{Kept}
-use Rattle.sg_lives.specs.declared.lives.Live.{Live}
+use Rattle.sg_activity_table.specs.declared.lives.Live.{Live}
 use Rattle.sg_activity.specs.Hosts.{host_at}
-use Rattle.sg_lives.specs.Slots.{sooner}
-use Rattle.sg_lives.specs.Kinds.{flows_ahead}
+use Rattle.sg_activity_table.specs.Slots.{sooner}
+use Rattle.sg_activity_table.specs.Kinds.{flows_ahead}
 use Rattle.sg_activity.specs.kept.Hits.{hit_in}
-use Rattle.sg_lives.specs.Pool.{slot_at, uses_ahead}
+use Rattle.sg_activity_table.specs.Pool.{slot_at, uses_ahead}
 use Rattle.sg_activity.specs.kept.Sound.{IsKept, IsPlace, IsSound, slot_ahead, slot_uses}
 use Rattle.sg_activity.specs.kept.State.{State, links_at, place_of, state_of, under_of, ways_of}
 use Rattle.sg_activity.specs.kept.Turns.{Turns}

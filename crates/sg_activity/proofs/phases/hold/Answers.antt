@@ -3,11 +3,11 @@ use Rattle.std.specs.Option.{IfSome}
 use Rattle.sg_base.specs.MarkSet.{MarkSet, with_mark}
 use Rattle.sg_lazy.specs.Lazily.{Lazily, without_flow}
 use Rattle.sg_lazy.specs.RunningFlow.{RunningFlow, running_at}
-use Rattle.sg_lives.specs.declared.kinds.PhaseKind.TheVariants as phase
-use Rattle.sg_lives.specs.declared.lives.Live.{Live}
+use Rattle.sg_activity_table.specs.declared.kinds.PhaseKind.TheVariants as phase
+use Rattle.sg_activity_table.specs.declared.lives.Live.{Live}
 use Rattle.sg_activity.specs.Task.{flow_in}
-use Rattle.sg_lives.specs.Kinds.{flows_ahead, takes_share}
-use Rattle.sg_lives.specs.Pool.{uses_ahead}
+use Rattle.sg_activity_table.specs.Kinds.{flows_ahead, takes_share}
+use Rattle.sg_activity_table.specs.Pool.{uses_ahead}
 use Rattle.sg_activity.specs.kept.Hits.{hit_in}
 use Rattle.sg_activity.specs.kept.Sound.{IsHeld, IsKept, IsPlace, run_of, slot_ahead, slot_uses}
 use Rattle.sg_activity.specs.kept.Stamps.{left_at}

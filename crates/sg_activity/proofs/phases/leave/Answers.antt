@@ -2,12 +2,12 @@ use Rattle.std.proofs.Common.{◌≡◌, ℕ, true, false, None, Some, IsSome, l
 use Rattle.std.specs.Option.{IfSome}
 use Rattle.sg_lazy.specs.Lazily.{Lazily, without_flow}
 use Rattle.sg_lazy.specs.RunningFlow.{RunningFlow, running_at}
-use Rattle.sg_lives.specs.Kinds.{takes_share}
+use Rattle.sg_activity_table.specs.Kinds.{takes_share}
 use Rattle.sg_activity.specs.kept.State.{State, state_of, ways_of}
 use Rattle.sg_activity.specs.kept.Sound.{run_of}
 use Rattle.std.proofs.Common.{◌-◌}
-use Rattle.sg_lives.specs.Kinds.{flows_ahead}
-use Rattle.sg_lives.specs.Pool.{uses_ahead}
+use Rattle.sg_activity_table.specs.Kinds.{flows_ahead}
+use Rattle.sg_activity_table.specs.Pool.{uses_ahead}
 use Rattle.sg_activity.specs.kept.Ends.{Ends}
 use Rattle.sg_activity.proofs.Roomy.{ahead_counted, uses_counted}
 use Rattle.sg_activity.proofs.Ending.{Goes, ends_from}

@@ -6,7 +6,7 @@ use Rattle.sg_maxmin.specs.Chained.{users_on}
 use Rattle.sg_maxmin.specs.Walk.{next_on, user_of}
 use Rattle.sg_maxmin.proofs.Walked.{can_look, looked, walk_on, nearer, walked}
 use Rattle.sg_activity.specs.kept.Metered.{rate_of, rates_of, total, with_one}
-use Rattle.sg_lives.specs.Pool.{slot_at}
+use Rattle.sg_activity_table.specs.Pool.{slot_at}
 use Rattle.sg_activity.proofs.Loaded.{sum_within, total_on}
 use Rattle.sg_activity.proofs.power.sum_on.Goals as goal
 

@@ -1,7 +1,7 @@
 use Rattle.std.proofs.Common.{◌≡◌, ◌<◌, ◌+◌, ℕ, None, cond, length, length-set, get_or, take, subst, sym, ap, ◌∙◌, arith}
 use Rattle.sg_base.specs.MarkSet.{is_in}
 use Rattle.sg_heap.specs.Agenda.{key_at}
-use Rattle.sg_lives.specs.Pool.{slot_at}
+use Rattle.sg_activity_table.specs.Pool.{slot_at}
 use Rattle.sg_activity.specs.kept.Renewal.{date_in}
 use Rattle.sg_activity.specs.kept.State.{date_of}
 use Rattle.sg_activity.proofs.Renewed.{dated_next}

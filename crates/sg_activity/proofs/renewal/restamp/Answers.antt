@@ -4,8 +4,8 @@ use Rattle.std.specs.Option.{IfSome}
 use Rattle.sg_base.specs.MarkSet.{MarkSet, is_in, with_mark}
 use Rattle.sg_lazy.specs.Lazily.{Lazily}
 use Rattle.sg_lazy.specs.RunningFlow.{RunningFlow, running_at}
-use Rattle.sg_lives.specs.declared.lives.Live.{Live}
-use Rattle.sg_lives.specs.Pool.{Pool, slot_at}
+use Rattle.sg_activity_table.specs.declared.lives.Live.{Live}
+use Rattle.sg_activity_table.specs.Pool.{Pool, slot_at}
 use Rattle.sg_activity.specs.kept.Renewal.{IsKeyed, HaveKeys, restamped, is_renewed, rate_in}
 use Rattle.sg_activity.proofs.Listing.{some_same}
 use Rattle.sg_activity.proofs.Pairing.{there_within}

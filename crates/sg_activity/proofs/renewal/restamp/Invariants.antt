@@ -1,6 +1,6 @@
 use Rattle.std.proofs.Common.{◌≡◌, ◌||◌, ℕ, option_map, length, take}
 use Rattle.sg_base.specs.MarkSet.{is_in}
-use Rattle.sg_lives.specs.Pool.{slot_at}
+use Rattle.sg_activity_table.specs.Pool.{slot_at}
 use Rattle.sg_activity.specs.kept.Renewal.{restamped, is_renewed}
 use Rattle.sg_activity.proofs.renewal.restamp.Given as goal
 

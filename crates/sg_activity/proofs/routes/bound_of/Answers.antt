@@ -1,6 +1,6 @@
 use Rattle.std.proofs.Common.{◌+◌, drop, sym, ap, ◌∙◌, arith}
 use Rattle.std.proofs.lemmas.List.{at_drop_all, get_or_default}
-use Rattle.sg_lives.specs.Slots.{sooner}
+use Rattle.sg_activity_table.specs.Slots.{sooner}
 use Rattle.sg_activity.specs.Links.{bound_of_link, route_bound}
 use Rattle.sg_activity.proofs.Routed.{bound_more, bound_done}
 use Rattle.sg_activity.proofs.routes.bound_of.Goals as goal

@@ -1,5 +1,5 @@
 use Rattle.std.proofs.Common.{◌≡◌, Some, length, sym, ap, ◌∙◌, arith}
-use Rattle.sg_lives.specs.Pool.{slot_at}
+use Rattle.sg_activity_table.specs.Pool.{slot_at}
 use Rattle.sg_activity.specs.kept.Index.{used_by}
 use Rattle.sg_activity.specs.kept.State.{links_at, ways_of}
 use Rattle.sg_activity.proofs.switches.update_hit.Goals as goal

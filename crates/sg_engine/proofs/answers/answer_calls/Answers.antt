@@ -1,6 +1,6 @@
 use Rattle.std.proofs.Common.{◌∙◌, ◌++◌, ◌<◌, sym, subst, refl, arith, false, get_or, length}
-use Rattle.sg_calls.specs.Roads.{AreOver}
-use Rattle.sg_calls.specs.Setup.{Setup}
+use Rattle.sg_kernel_calls.specs.Roads.{AreOver}
+use Rattle.sg_kernel_calls.specs.Setup.{Setup}
 use Rattle.sg_route.specs.Roads.{Roads}
 use Rattle.sg_script.proofs.Chains.{reads_none}
 use Rattle.sg_engine.specs.Roles.{firsts_of}

@@ -1,9 +1,9 @@
 use Rattle.std.proofs.Common.{◌≡◌, ◌-◌, ◌∙◌, ap, arith, cond, false, None, refl, sym, true}
 use Rattle.std.specs.Prelude.{◌&&◌, is_ok}
-use Rattle.sg_calls.specs.Calls.{answered}
-use Rattle.sg_calls.specs.World.{Core, state_of}
+use Rattle.sg_kernel_calls.specs.Calls.{answered}
+use Rattle.sg_kernel_calls.specs.World.{Core, state_of}
 use Rattle.sg_script.proofs.Chains.{reads_none}
-use Rattle.sg_states.specs.Actors.{is_ended}
+use Rattle.sg_actor_states.specs.Actors.{is_ended}
 use Rattle.sg_engine.specs.Roles.{firsts_of}
 use Rattle.sg_engine.specs.Run.{ask_step, at_world, created_by, in_world, is_ask, scene}
 use Rattle.sg_engine.specs.kept.Moments.{ending}

@@ -4,9 +4,9 @@ use Rattle.std.proofs.lemmas.List.{with_items_is}
 use Rattle.sg_actor.specs.Seats.{seat_views}
 use Rattle.sg_base.specs.Limits.{Extent}
 use Rattle.sg_base.specs.Mind.{Mind}
-use Rattle.sg_calls.specs.Known.{Known}
-use Rattle.sg_calls.specs.World.{extent}
-use Rattle.sg_rows.specs.Deployment.{extent_of}
+use Rattle.sg_kernel_calls.specs.Known.{Known}
+use Rattle.sg_kernel_calls.specs.World.{extent}
+use Rattle.sg_platform_rows.specs.Deployment.{extent_of}
 use Rattle.sg_engine.specs.kept.SeatRules.{IsSeated}
 use Rattle.sg_engine.proofs.Creating.{created_short, created_to, crew_given}
 use Rattle.sg_engine.proofs.Crews.{front_all, front_less}

@@ -1,9 +1,9 @@
 use Rattle.std.proofs.Common.{◌≡◌, ◌+◌, add-zero, arith, ◌∙◌, ◌≤◌, sym, ap, refl, subst, true, false}
 use Rattle.std.specs.List.{list_any}
-use Rattle.sg_calls.specs.Known.{Known}
+use Rattle.sg_kernel_calls.specs.Known.{Known}
 use Rattle.sg_kernel.specs.Passes.{pass_of}
-use Rattle.sg_calls.specs.World.{Core, extent}
-use Rattle.sg_states.specs.Actors.{is_ready}
+use Rattle.sg_kernel_calls.specs.World.{Core, extent}
+use Rattle.sg_actor_states.specs.Actors.{is_ready}
 use Rattle.sg_activity.specs.Underway.{work_of}
 use Rattle.sg_engine.specs.kept.Invariant.{unstarted}
 use Rattle.sg_engine.proofs.Calls.{stepped}

@@ -1,6 +1,6 @@
 use Rattle.std.proofs.Common.{◌≡◌, ◌+◌, ◌∙◌, ap, arith, length, None, sym, take}
 use Rattle.std.specs.List.{count_by}
-use Rattle.sg_rows.specs.Deployment.{extent_of, starts}
+use Rattle.sg_platform_rows.specs.Deployment.{extent_of, starts}
 use Rattle.sg_engine.proofs.Castings.{all_seated_more, function_can, function_is, function_of, left_some, minds_more, seats_more, starts_more, taken_more}
 use Rattle.sg_engine.proofs.Crews.{front_all, front_less, front_then}
 use Rattle.sg_engine.proofs.seating.seat_all.Goals as goal

@@ -2,7 +2,7 @@ use Rattle.std.proofs.Common.{◌≡◌, ◌+◌, ◌≤◌, length, None, take,
 use Rattle.std.specs.List.{count_by}
 use Rattle.std.specs.Prelude.{All}
 use Rattle.sg_actor.specs.Seats.{seat_views}
-use Rattle.sg_rows.specs.Deployment.{extent_of, starts}
+use Rattle.sg_platform_rows.specs.Deployment.{extent_of, starts}
 use Rattle.sg_engine.specs.kept.Listed.{minds_from}
 use Rattle.sg_engine.specs.kept.SeatRules.{minds_of, IsSeated}
 use Rattle.sg_engine.proofs.Crews.{IsFront}

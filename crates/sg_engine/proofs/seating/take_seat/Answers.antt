@@ -3,7 +3,7 @@ use Rattle.std.proofs.lemmas.List.{length-map}
 use Rattle.std.specs.Prelude.{IfSome}
 use Rattle.sg_base.specs.Mind.{IsMind}
 use Rattle.sg_actor.specs.Seats.{seat_view}
-use Rattle.sg_rows.specs.Deployment.{extent_of}
+use Rattle.sg_platform_rows.specs.Deployment.{extent_of}
 use Rattle.sg_engine.specs.kept.SeatRules.{IsSeated}
 use Rattle.sg_engine.proofs.Castings.{function_is, function_of}
 use Rattle.sg_engine.proofs.Creating.{begins_at, seats_with}

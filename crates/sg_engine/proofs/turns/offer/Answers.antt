@@ -1,6 +1,6 @@
 use Rattle.std.proofs.Common.{◌-◌, arith, get_or, refl, sym, subst}
 use Rattle.sg_actor.specs.Seats.{seat_view, KeepsLimits}
-use Rattle.sg_calls.specs.World.{extent}
+use Rattle.sg_kernel_calls.specs.World.{extent}
 use Rattle.sg_engine.specs.kept.SeatRules.{with_answer}
 use Rattle.sg_engine.proofs.Merging.{all_at, all_placed}
 use Rattle.sg_engine.proofs.Queues.{last_id}

@@ -1,7 +1,7 @@
 use Rattle.std.proofs.Common.{◌≡◌}
 use Rattle.std.specs.Prelude.{All}
 use Rattle.sg_actor.specs.Seats.{KeepsLimits, seat_views}
-use Rattle.sg_calls.specs.World.{extent}
+use Rattle.sg_kernel_calls.specs.World.{extent}
 use Rattle.sg_engine.specs.Run.{zip_with, inboxes}
 use Rattle.sg_engine.specs.kept.SeatRules.{with_answer}
 use Rattle.sg_engine.proofs.Merging.{merged}

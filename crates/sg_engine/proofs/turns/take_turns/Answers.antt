@@ -2,7 +2,7 @@ use Rattle.std.proofs.Common.{◌∙◌, ap, sym, subst}
 use Rattle.std.specs.Prelude.{All}
 use Rattle.std.proofs.lemmas.List.{length-map}
 use Rattle.sg_base.specs.Limits.{IsCall}
-use Rattle.sg_calls.specs.World.{extent}
+use Rattle.sg_kernel_calls.specs.World.{extent}
 use Rattle.sg_engine.specs.declared.actor_call.ActorCall.{ActorCall}
 use Rattle.sg_engine.specs.kept.CallList.{call_list}
 use Rattle.sg_engine.proofs.Listing.{calls_limited}

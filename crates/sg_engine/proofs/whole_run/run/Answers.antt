@@ -1,7 +1,7 @@
 use Rattle.std.proofs.Common.{◌∙◌, ap, arith, rules, sym, subst, length}
 use Rattle.std.proofs.lemmas.List.{length-reverse}
-use Rattle.sg_calls.specs.Roads.{AreOver}
-use Rattle.sg_rows.specs.Ends.{link_ends}
+use Rattle.sg_kernel_calls.specs.Roads.{AreOver}
+use Rattle.sg_platform_rows.specs.Ends.{link_ends}
 use Rattle.sg_route.specs.Roads.{Roads}
 use Rattle.sg_engine.specs.Pace.{KeepsPace, pace_in}
 use Rattle.sg_engine.specs.RunContract.{IsEnding, RunsAs, output_of}

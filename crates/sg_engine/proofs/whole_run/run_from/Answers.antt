@@ -1,6 +1,6 @@
 use Rattle.std.proofs.Common.{◌∙◌, ap, sym, arith, length, []}
 use Rattle.sg_engine.specs.kept.Invariant.{crew_in}
-use Rattle.sg_calls.specs.Setup.{Setup}
+use Rattle.sg_kernel_calls.specs.Setup.{Setup}
 use Rattle.sg_edge.specs.declared.files.Part.TheVariants.{Script}
 use Rattle.sg_engine.proofs.Endings.{run_ends, run_cut, run_last, run_left, run_left_cut, run_needed, run_work, is_going, goes_on_telling, keeps_name, broken_part, in_cut, in_over}
 use Rattle.sg_engine.proofs.Paces.{ends_gain, run_paced}

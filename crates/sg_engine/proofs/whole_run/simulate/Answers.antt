@@ -1,8 +1,8 @@
 use Rattle.std.proofs.Common.{◌≡◌, ◌≤◌, ◌∙◌, ◌+◌, ◌-◌, suc, sym, ap, ap₂, refl, arith, rules, false, None, Some, subst}
 use Rattle.sg_edge.specs.declared.files.Part.TheVariants.{Script}
 use Rattle.sg_edge.specs.declared.sinks.Stream.TheVariants.{Out}
-use Rattle.sg_calls.specs.Roads.{AreOver}
-use Rattle.sg_calls.specs.Setup.{Setup}
+use Rattle.sg_kernel_calls.specs.Roads.{AreOver}
+use Rattle.sg_kernel_calls.specs.Setup.{Setup}
 use Rattle.sg_route.specs.Roads.{Roads}
 use Rattle.sg_script.specs.Known.{known_in}
 use Rattle.sg_script.specs.Stands.{kept_of}

@@ -1,7 +1,7 @@
 use Rattle.std.proofs.Common.{◌∙◌, length, ap, refl, arith}
 use Rattle.sg_activity.specs.Doing.{Doing}
-use Rattle.sg_states.specs.States.{ActorStates}
-use Rattle.sg_calls.specs.declared.simulation_state.Fields.{Fields}
+use Rattle.sg_actor_states.specs.States.{ActorStates}
+use Rattle.sg_kernel_calls.specs.declared.simulation_state.Fields.{Fields}
 use Rattle.sg_kernel.proofs.Firsts.{IsFirst, first_is, first_meeting, first_held, first_limited, first_roomy, first_sound, first_timely, objects_first}
 use Rattle.sg_kernel.proofs.beginning.first_fields.Goals.{After-mutexes}
 use Rattle.sg_kernel.proofs.beginning.first_fields.Goals as goal

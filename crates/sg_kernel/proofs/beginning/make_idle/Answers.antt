@@ -3,7 +3,7 @@ use Rattle.std.specs.Prelude.{All}
 use Rattle.std.proofs.lemmas.List.Elements.{All-map}
 use Rattle.sg_activity.specs.Hosts.{IsHost}
 use Rattle.sg_activity.specs.Links.{IsLink}
-use Rattle.sg_calls.specs.Setup.{host_cap, link_caps}
+use Rattle.sg_kernel_calls.specs.Setup.{host_cap, link_caps}
 use Rattle.sg_kernel.proofs.Firsts.{links_fit, power_fits}
 use Rattle.sg_kernel.proofs.beginning.make_idle.Goals as goal
 

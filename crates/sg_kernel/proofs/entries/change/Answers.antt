@@ -1,15 +1,15 @@
 use Rattle.std.proofs.Common.{refl, sym, ap, subst, ◌∙◌, arith}
-use Rattle.sg_calls.specs.declared.simulation_state.Fields.{Fields}
-use Rattle.sg_calls.specs.declared.stop.Stop.TheVariants.{Budget}
-use Rattle.sg_calls.specs.Known.{Known, after}
+use Rattle.sg_kernel_calls.specs.declared.simulation_state.Fields.{Fields}
+use Rattle.sg_kernel_calls.specs.declared.stop.Stop.TheVariants.{Budget}
+use Rattle.sg_kernel_calls.specs.Known.{Known, after}
 use Rattle.sg_kernel.specs.Passes.{all_fail, enters_one}
-use Rattle.sg_calls.specs.Setup.{Setup}
-use Rattle.sg_calls.specs.Steps.{Step, result_of}
-use Rattle.sg_calls.specs.kept.Sound.{core_of, known_of, setup_in}
-use Rattle.sg_calls.specs.kept.Whole.{IsPassing}
+use Rattle.sg_kernel_calls.specs.Setup.{Setup}
+use Rattle.sg_kernel_calls.specs.Steps.{Step, result_of}
+use Rattle.sg_kernel_calls.specs.kept.Sound.{core_of, known_of, setup_in}
+use Rattle.sg_kernel_calls.specs.kept.Whole.{IsPassing}
 use Rattle.sg_kernel.specs.kept.Coming.{row_next}
-use Rattle.sg_calls.proofs.Replied.{used_err}
-use Rattle.sg_calls.proofs.Each.{after_stop, ok_anyway, then_after, then_stops}
+use Rattle.sg_kernel_calls.proofs.Replied.{used_err}
+use Rattle.sg_kernel_calls.proofs.Each.{after_stop, ok_anyway, then_after, then_stops}
 use Rattle.sg_kernel.proofs.Entering.{change_is, change_used, rows_same}
 use Rattle.sg_kernel.proofs.Events.{can_enter, entry_came, entry_comes, rows_came, EntersOne}
 use Rattle.sg_kernel.proofs.Leaving.{leaves_both, leaves_same}

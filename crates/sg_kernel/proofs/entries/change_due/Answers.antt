@@ -1,12 +1,12 @@
 use Rattle.std.proofs.Common.{◌≡◌, ◌≢◌, None, [], drop, inl, refl, sym, ap, ◌∙◌, rules}
-use Rattle.sg_calls.specs.Known.{Known, after}
+use Rattle.sg_kernel_calls.specs.Known.{Known, after}
 use Rattle.sg_kernel.specs.Passes.{changes}
-use Rattle.sg_calls.specs.Steps.{Step, result_of}
-use Rattle.sg_calls.specs.Setup.{Setup}
-use Rattle.sg_calls.specs.kept.Sound.{core_of, known_of, setup_in}
+use Rattle.sg_kernel_calls.specs.Steps.{Step, result_of}
+use Rattle.sg_kernel_calls.specs.Setup.{Setup}
+use Rattle.sg_kernel_calls.specs.kept.Sound.{core_of, known_of, setup_in}
 use Rattle.sg_kernel.specs.kept.Coming.{row_next, rows_now}
 use Rattle.sg_kernel.proofs.Counting.{counted_more, counts_all, counts_some}
-use Rattle.sg_calls.proofs.Each.{on_err, on_ok, still, still_last, still_next, still_none, still_stops, stops_none}
+use Rattle.sg_kernel_calls.proofs.Each.{on_err, on_ok, still, still_last, still_next, still_none, still_stops, stops_none}
 use Rattle.sg_kernel.proofs.Entering.{change_used}
 use Rattle.sg_kernel.proofs.Leaving.{leaves_both, leaves_same}
 use Rattle.sg_kernel.proofs.entries.change_due.Goals as goal

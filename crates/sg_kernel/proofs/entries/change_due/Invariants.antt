@@ -1,10 +1,10 @@
 use Rattle.std.proofs.Common.{◌≡◌, [], length}
 use Rattle.sg_kernel.specs.Passes.{changes}
 use Rattle.sg_kernel.specs.kept.Coming.{LeavesDue, rows_now}
-use Rattle.sg_calls.specs.kept.Sound.{known_of, setup_in}
-use Rattle.sg_calls.specs.kept.Whole.{IsPassing}
+use Rattle.sg_kernel_calls.specs.kept.Sound.{known_of, setup_in}
+use Rattle.sg_kernel_calls.specs.kept.Whole.{IsPassing}
 use Rattle.sg_kernel.proofs.Counting.{Counted}
-use Rattle.sg_calls.proofs.Each.{still, still_stops}
+use Rattle.sg_kernel_calls.proofs.Each.{still, still_stops}
 use Rattle.sg_kernel.proofs.entries.change_due.Given as goal
 
 abbrev pub invariant-loop-entry : goal.invariant-loop-entry

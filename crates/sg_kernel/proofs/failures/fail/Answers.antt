@@ -2,13 +2,13 @@ use Rattle.std.specs.Prelude.{is_some}
 use Rattle.std.proofs.Common.{◌-◌, drop, get_or, set, sym, ap, ◌∙◌, arith, rules}
 use Rattle.sg_activity.specs.Doing.{Doing}
 use Rattle.sg_activity.specs.Underway.{hits}
-use Rattle.sg_calls.specs.declared.simulation_state.Fields.{Fields}
+use Rattle.sg_kernel_calls.specs.declared.simulation_state.Fields.{Fields}
 use Rattle.sg_mailbox.specs.declared.owners.How.TheVariants as how
 use Rattle.sg_mailbox.specs.declared.owners.Whose.TheVariants.{Over}
-use Rattle.sg_calls.specs.Answers.{answers}
-use Rattle.sg_calls.specs.Known.{after}
+use Rattle.sg_kernel_calls.specs.Answers.{answers}
+use Rattle.sg_kernel_calls.specs.Known.{after}
 use Rattle.sg_mailbox.specs.Owners.{Owned}
-use Rattle.sg_calls.specs.kept.Sound.{core_of, known_of}
+use Rattle.sg_kernel_calls.specs.kept.Sound.{core_of, known_of}
 use Rattle.sg_kernel.proofs.Failing.{failed_owner, failed_passing, not_over}
 use Rattle.sg_kernel.proofs.Hits.{rest_is_hit}
 use Rattle.sg_kernel.proofs.Leaving.{leaves_given}

@@ -1,17 +1,17 @@
 use Rattle.std.proofs.Common.{◌≡◌, ◌≢◌, drop, refl, sym, ap, subst, ◌∙◌, arith, rules}
 use Rattle.sg_activity.specs.Underway.{hits}
 use Rattle.sg_mailbox.specs.declared.owners.How.TheVariants as how
-use Rattle.sg_calls.specs.declared.simulation_state.Fields.{Fields}
-use Rattle.sg_calls.specs.Answers.{finishes}
-use Rattle.sg_calls.specs.Known.{Known}
+use Rattle.sg_kernel_calls.specs.declared.simulation_state.Fields.{Fields}
+use Rattle.sg_kernel_calls.specs.Answers.{finishes}
+use Rattle.sg_kernel_calls.specs.Known.{Known}
 use Rattle.sg_kernel.specs.Passes.{fails}
-use Rattle.sg_calls.specs.Steps.{result_of}
-use Rattle.sg_calls.specs.Setup.{Setup}
-use Rattle.sg_calls.specs.kept.Sound.{known_of, setup_in}
-use Rattle.sg_calls.specs.kept.Whole.{IsPassing}
+use Rattle.sg_kernel_calls.specs.Steps.{result_of}
+use Rattle.sg_kernel_calls.specs.Setup.{Setup}
+use Rattle.sg_kernel_calls.specs.kept.Sound.{known_of, setup_in}
+use Rattle.sg_kernel_calls.specs.kept.Whole.{IsPassing}
 use Rattle.sg_kernel.specs.kept.Coming.{LeavesDue}
-use Rattle.sg_calls.proofs.Replied.{used_err}
-use Rattle.sg_calls.proofs.Each.{still, still_none, still_stops, stops_none}
+use Rattle.sg_kernel_calls.proofs.Replied.{used_err}
+use Rattle.sg_kernel_calls.proofs.Each.{still, still_none, still_stops, stops_none}
 use Rattle.sg_kernel.proofs.Events.{came, can_fail}
 use Rattle.sg_kernel.proofs.Ends.{still_fails, still_unfailed}
 use Rattle.sg_kernel.proofs.Leaving.{leaves_both, leaves_same}

@@ -2,9 +2,9 @@ use Rattle.std.proofs.Common.{◌≡◌, ◌≤◌, length}
 use Rattle.sg_activity.specs.Underway.{hits}
 use Rattle.sg_kernel.specs.Passes.{fails}
 use Rattle.sg_kernel.specs.kept.Coming.{LeavesDue}
-use Rattle.sg_calls.specs.kept.Sound.{known_of, setup_in}
-use Rattle.sg_calls.specs.kept.Whole.{IsPassing}
-use Rattle.sg_calls.proofs.Each.{still, still_stops}
+use Rattle.sg_kernel_calls.specs.kept.Sound.{known_of, setup_in}
+use Rattle.sg_kernel_calls.specs.kept.Whole.{IsPassing}
+use Rattle.sg_kernel_calls.proofs.Each.{still, still_stops}
 use Rattle.sg_kernel.proofs.failures.fail_all.Given as goal
 
 abbrev pub invariant-loop-serial : goal.invariant-loop-serial

@@ -1,12 +1,12 @@
 use Rattle.std.proofs.Common.{◌≡◌, ◌≢◌, Some, [], sym, ap, ◌∙◌, rules}
-use Rattle.sg_calls.specs.Known.{Known, after}
+use Rattle.sg_kernel_calls.specs.Known.{Known, after}
 use Rattle.sg_kernel.specs.Passes.{changes, ends}
-use Rattle.sg_calls.specs.Steps.{Step, each, result_of}
-use Rattle.sg_calls.specs.Setup.{Setup}
-use Rattle.sg_calls.specs.kept.Sound.{core_of, known_of, setup_in}
+use Rattle.sg_kernel_calls.specs.Steps.{Step, each, result_of}
+use Rattle.sg_kernel_calls.specs.Setup.{Setup}
+use Rattle.sg_kernel_calls.specs.kept.Sound.{core_of, known_of, setup_in}
 use Rattle.sg_kernel.specs.kept.Coming.{rows_now}
 use Rattle.sg_kernel.proofs.Counting.{counts_both}
-use Rattle.sg_calls.proofs.Each.{all_of-two, on_err, on_ok, stops_none, then_after, then_none, then_stops}
+use Rattle.sg_kernel_calls.proofs.Each.{all_of-two, on_err, on_ok, stops_none, then_after, then_none, then_stops}
 use Rattle.sg_kernel.proofs.Skips.{ends_filter}
 use Rattle.sg_kernel.proofs.passes.come.Goals as goal
 

@@ -1,14 +1,14 @@
 use Rattle.std.proofs.Common.{◌≡◌, ◌≢◌, inl, refl, drop, sym, ap, subst, ◌∙◌, arith, rules}
-use Rattle.sg_calls.specs.declared.simulation_state.Fields.{Fields}
-use Rattle.sg_calls.specs.Known.{Known}
+use Rattle.sg_kernel_calls.specs.declared.simulation_state.Fields.{Fields}
+use Rattle.sg_kernel_calls.specs.Known.{Known}
 use Rattle.sg_kernel.specs.Passes.{ends}
-use Rattle.sg_calls.specs.Steps.{result_of}
-use Rattle.sg_calls.specs.Setup.{Setup}
-use Rattle.sg_calls.specs.kept.Sound.{known_of, setup_in}
-use Rattle.sg_calls.specs.kept.Whole.{IsPassing}
+use Rattle.sg_kernel_calls.specs.Steps.{result_of}
+use Rattle.sg_kernel_calls.specs.Setup.{Setup}
+use Rattle.sg_kernel_calls.specs.kept.Sound.{known_of, setup_in}
+use Rattle.sg_kernel_calls.specs.kept.Whole.{IsPassing}
 use Rattle.sg_kernel.proofs.Counting.{counted_more, counts_all, counts_used}
-use Rattle.sg_calls.proofs.Replied.{used_err}
-use Rattle.sg_calls.proofs.Each.{still, still_stops, still_none, stops_none}
+use Rattle.sg_kernel_calls.proofs.Replied.{used_err}
+use Rattle.sg_kernel_calls.proofs.Each.{still, still_stops, still_none, stops_none}
 use Rattle.sg_kernel.specs.kept.Acts.{phase_ends}
 use Rattle.sg_kernel.specs.kept.Coming.{CountsSome}
 use Rattle.sg_kernel.proofs.Events.{can_end, over}

@@ -1,9 +1,9 @@
 use Rattle.std.proofs.Common.{◌≡◌, length}
 use Rattle.sg_kernel.specs.Passes.{ends}
-use Rattle.sg_calls.specs.kept.Sound.{known_of, setup_in}
-use Rattle.sg_calls.specs.kept.Whole.{IsPassing}
+use Rattle.sg_kernel_calls.specs.kept.Sound.{known_of, setup_in}
+use Rattle.sg_kernel_calls.specs.kept.Whole.{IsPassing}
 use Rattle.sg_kernel.proofs.Counting.{Counted}
-use Rattle.sg_calls.proofs.Each.{still, still_stops}
+use Rattle.sg_kernel_calls.proofs.Each.{still, still_stops}
 use Rattle.sg_kernel.proofs.passes.end_due.Given as goal
 
 abbrev pub invariant-loop-phase : goal.invariant-loop-phase

@@ -2,11 +2,11 @@ use Rattle.std.proofs.Common.{◌≡◌, ◌-◌, ◌*◌, Some, ap, set, subst,
 use Rattle.std.proofs.lemmas.Grind.{common_steps}
 use Rattle.sg_activity.specs.Doing.{Doing, ended_first}
 use Rattle.sg_activity.specs.Task.{next_phase, phase_after}
-use Rattle.sg_lives.specs.declared.kinds.PhaseKind.TheVariants as phase
+use Rattle.sg_activity_table.specs.declared.kinds.PhaseKind.TheVariants as phase
 use Rattle.sg_mailbox.specs.declared.owners.How.TheVariants as how
 use Rattle.sg_mailbox.specs.Owners.{Owned}
-use Rattle.sg_calls.proofs.Meets.{AreBusy, busy_set}
-use Rattle.sg_calls.proofs.PostsKept.{last_phase, meeting_gone}
+use Rattle.sg_kernel_calls.proofs.Meets.{AreBusy, busy_set}
+use Rattle.sg_kernel_calls.proofs.PostsKept.{last_phase, meeting_gone}
 use Rattle.sg_kernel.proofs.passes.end_phase.Goals as goal
 
 pub answer_owners-requires-clause-sound : goal.answer_owners-requires-clause-sound

@@ -1,15 +1,15 @@
 use Rattle.std.proofs.Common.{◌≡◌, ◌-◌, cond, Err, sym, ap, ◌∙◌, arith}
 use Rattle.sg_activity.specs.Doing.{Doing}
 use Rattle.sg_activity.specs.Underway.{is_running}
-use Rattle.sg_states.specs.States.{ActorStates}
-use Rattle.sg_calls.specs.declared.simulation_state.Fields.{Fields}
-use Rattle.sg_calls.specs.declared.stop.Stop.TheVariants.{Budget, Deadlock, Starved}
-use Rattle.sg_calls.specs.Known.{after}
-use Rattle.sg_calls.specs.Steps.{Step, all_of, result_of}
+use Rattle.sg_actor_states.specs.States.{ActorStates}
+use Rattle.sg_kernel_calls.specs.declared.simulation_state.Fields.{Fields}
+use Rattle.sg_kernel_calls.specs.declared.stop.Stop.TheVariants.{Budget, Deadlock, Starved}
+use Rattle.sg_kernel_calls.specs.Known.{after}
+use Rattle.sg_kernel_calls.specs.Steps.{Step, all_of, result_of}
 use Rattle.sg_kernel.specs.kept.Coming.{coming}
-use Rattle.sg_calls.specs.kept.Sound.{core_of, known_of, setup_in}
-use Rattle.sg_calls.proofs.Each.{after_stop}
-use Rattle.sg_calls.proofs.Replied.{used_err}
+use Rattle.sg_kernel_calls.specs.kept.Sound.{core_of, known_of, setup_in}
+use Rattle.sg_kernel_calls.proofs.Each.{after_stop}
+use Rattle.sg_kernel_calls.proofs.Replied.{used_err}
 use Rattle.sg_kernel.proofs.Nexts.{some_moved, up_to_phases}
 use Rattle.sg_kernel.proofs.Passed.{pass_goes, pass_none, pass_used, passing_began, whole_passed}
 use Rattle.sg_kernel.proofs.passes.move_on.Goals as goal

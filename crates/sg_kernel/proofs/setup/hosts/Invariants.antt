@@ -1,5 +1,5 @@
 use Rattle.std.proofs.Common.{◌≡◌, map, take}
-use Rattle.sg_calls.specs.Setup.{host_cap}
+use Rattle.sg_kernel_calls.specs.Setup.{host_cap}
 use Rattle.sg_kernel.proofs.setup.hosts.Given as goal
 
 abbrev pub invariant-loop-row : goal.invariant-loop-row

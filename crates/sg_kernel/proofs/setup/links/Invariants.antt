@@ -1,6 +1,6 @@
 use Rattle.std.proofs.Common.{◌≡◌, drop, ◌++◌}
 use Rattle.std.specs.List.{flat_map}
-use Rattle.sg_calls.specs.Setup.{caps_in}
+use Rattle.sg_kernel_calls.specs.Setup.{caps_in}
 use Rattle.sg_kernel.proofs.setup.links.Given as goal
 
 abbrev pub invariant-loop-row : goal.invariant-loop-row

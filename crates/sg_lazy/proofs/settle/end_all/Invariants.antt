@@ -1,7 +1,7 @@
 use Rattle.std.proofs.Common.{◌≡◌, ℕ, Bool, ◌+◌, take}
 use Rattle.sg_maxmin.specs.Sharing.{uses_at}
-use Rattle.sg_levels.specs.Kept.{IsBetween, IsWithin, NotesChanged}
-use Rattle.sg_filling.specs.Component.{lengths}
+use Rattle.sg_maxmin_levels.specs.Kept.{IsBetween, IsWithin, NotesChanged}
+use Rattle.sg_maxmin_solve.specs.Component.{lengths}
 use Rattle.sg_lazy.specs.kept.Held.{IsWithout}
 use Rattle.sg_lazy.specs.kept.Leveled.{RowsPass}
 use Rattle.sg_lazy.proofs.settle.end_all.Given as goal

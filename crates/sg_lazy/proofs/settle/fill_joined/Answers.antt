@@ -2,10 +2,10 @@ use Rattle.std.proofs.Common.{◌≡◌, ◌≢◌, ℕ, ◌+◌, ◌<◌, ◌�
 use Rattle.std.proofs.lemmas.List.Elements.{All-get_or}
 use Rattle.sg_base.specs.MarkSet.{is_in}
 use Rattle.sg_maxmin.specs.Sharing.{flow_at, uses_at}
-use Rattle.sg_levels.specs.Kept.{FlowsStayWithin, IsWithin}
+use Rattle.sg_maxmin_levels.specs.Kept.{FlowsStayWithin, IsWithin}
 use Rattle.sg_maxmin.specs.Found.{IsFound, PassAlong}
 use Rattle.sg_maxmin.specs.Numbered.{all_uses}
-use Rattle.sg_filling.proofs.Notes.{few_looks}
+use Rattle.sg_maxmin_solve.proofs.Notes.{few_looks}
 use Rattle.sg_lazy.proofs.Joining.{along_all, count_le, or_left, or_right, refilled, uses_le}
 use Rattle.sg_maxmin.proofs.Listed.{in_at, bool_cases}
 use Rattle.sg_lazy.proofs.settle.fill_joined.Goals as goal

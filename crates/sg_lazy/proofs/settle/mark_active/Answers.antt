@@ -1,8 +1,8 @@
 use Rattle.std.proofs.Common.{◌≡◌, ◌<◌, true, List, ℕ, length, get_or, below_more, sym, ap, subst, ◌∙◌, arith}
 use Rattle.std.proofs.lemmas.List.Elements.{All-get_or}
 use Rattle.sg_base.specs.MarkSet.{MarkSet, is_in, with_mark}
-use Rattle.sg_filling.specs.Component.{AllPass, Grows}
-use Rattle.sg_filling.proofs.Growing.{grows_on, grows_mark, stays, few_mark, pass_mark}
+use Rattle.sg_maxmin_solve.specs.Component.{AllPass, Grows}
+use Rattle.sg_maxmin_solve.proofs.Growing.{grows_on, grows_mark, stays, few_mark, pass_mark}
 use Rattle.sg_maxmin.proofs.Listed.{mark_there}
 use Rattle.sg_lazy.proofs.settle.mark_active.Goals as goal
 

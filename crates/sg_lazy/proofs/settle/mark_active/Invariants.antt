@@ -1,6 +1,6 @@
 use Rattle.std.proofs.Common.{◌≡◌, ◌+◌, ◌<◌, ◌≤◌, ℕ, Bool, IsTrue, length, slice_index}
 use Rattle.sg_base.specs.MarkSet.{is_in}
-use Rattle.sg_filling.specs.Component.{AllPass, RowPasses, Grows}
+use Rattle.sg_maxmin_solve.specs.Component.{AllPass, RowPasses, Grows}
 use Rattle.sg_lazy.proofs.settle.mark_active.Given as goal
 
 abbrev pub invariant-loop-resource : goal.invariant-loop-resource

@@ -4,8 +4,8 @@ use Rattle.std.proofs.lemmas.List.{with_items_is}
 use Rattle.sg_base.specs.MarkSet.{MarkSet, is_in}
 use Rattle.sg_maxmin.specs.Fill.{Flow}
 use Rattle.sg_maxmin.specs.Sharing.{uses_at, flow_at}
-use Rattle.sg_levels.specs.Kept.{IsWithin}
-use Rattle.sg_filling.specs.Component.{lengths}
+use Rattle.sg_maxmin_levels.specs.Kept.{IsWithin}
+use Rattle.sg_maxmin_solve.specs.Component.{lengths}
 use Rattle.sg_lazy.specs.kept.Changes.{WritesRates}
 use Rattle.sg_lazy.specs.kept.Held.{IsWithout}
 use Rattle.sg_lazy.specs.kept.Leveled.{RowsPass, rate_at}

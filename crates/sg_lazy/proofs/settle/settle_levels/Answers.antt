@@ -1,6 +1,6 @@
 use Rattle.std.proofs.Common.{◌≡◌, ℕ, ◌+◌, ◌<◌, ◌≤◌, true, IsSome, length, get_or, refl, ap, subst, arith}
 use Rattle.sg_maxmin.specs.Sharing.{flow_at}
-use Rattle.sg_levels.specs.Joined.{joined_count, joined_uses, spare_looks}
+use Rattle.sg_maxmin_levels.specs.Joined.{joined_count, joined_uses, spare_looks}
 use Rattle.sg_maxmin.specs.Numbered.{all_uses}
 use Rattle.sg_lazy.proofs.Joining.{uses_le}
 use Rattle.sg_lazy.proofs.Leveled.{notes_none}

@@ -1,6 +1,6 @@
 use Rattle.std.proofs.Common.{◌≡◌, ◌≢◌, ℕ, Bool, true, false, true≢false, not, eqb, cond, ◌&&◌, ◌||◌, ◌+◌, ◌<◌, inl, inr, List, length, get_or, take, below_more, AllPairs, refl, ap, ◌∙◌, subst, sym, arith}
 use Rattle.sg_base.specs.MarkSet.{MarkSet, is_in, with_mark}
-use Rattle.sg_filling.proofs.Listing.{is_in_other}
+use Rattle.sg_maxmin_solve.proofs.Listing.{is_in_other}
 use Rattle.sg_lazy.specs.kept.Changes.{WritesRate, is_changed}
 use Rattle.sg_lazy.specs.kept.Leveled.{rate_at}
 use Rattle.sg_lazy.proofs.Taking.{in_take_self, in_take_other, not_before, mark_once}

@@ -1,4 +1,4 @@
-use Rattle.sg_rows.specs.Deployment.{extent_of}
+use Rattle.sg_platform_rows.specs.Deployment.{extent_of}
 use Rattle.sg_part_cases.proofs.scripts.unread.Goals as goal
 
 pub returns-clause-waiting : goal.returns-clause-waiting

@@ -1,7 +1,7 @@
 use Rattle.std.proofs.Common.{◌≡◌, map, take}
 use Rattle.sg_platform.specs.Build.{link_id}
-use Rattle.sg_rules.specs.Arguments.{text_of}
-use Rattle.sg_tree.specs.kept.NamesView.{names_view}
+use Rattle.sg_toml_rules.specs.Arguments.{text_of}
+use Rattle.sg_toml_tree.specs.kept.NamesView.{names_view}
 use Rattle.toml.specs.View.{view}
 use Rattle.sg_platform.proofs.build.links_at.Given as goal
 

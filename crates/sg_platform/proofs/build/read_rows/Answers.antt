@@ -1,7 +1,7 @@
 use Rattle.std.proofs.Common.{◌∙◌, ap, map, map-id, sym}
 use Rattle.std.proofs.lemmas.Iterator.Adapters.{YieldsList-from_vec}
 use Rattle.std.proofs.lemmas.Iterator.Consumers.{YieldsList-end}
-use Rattle.sg_tree.specs.kept.NamesView.{names_view}
+use Rattle.sg_toml_tree.specs.kept.NamesView.{names_view}
 use Rattle.toml.specs.View.{view}
 use Rattle.sg_platform.proofs.build.read_rows.Goals as goal
 

@@ -1,5 +1,5 @@
 use Rattle.std.proofs.Common.{◌≡◌, map}
-use Rattle.sg_tree.specs.kept.NamesView.{names_view}
+use Rattle.sg_toml_tree.specs.kept.NamesView.{names_view}
 use Rattle.toml.specs.View.{view}
 use Rattle.sg_platform.proofs.build.read_rows.Given as goal
 

@@ -1,5 +1,5 @@
 use Rattle.std.proofs.Common.{◌≡◌, false, map, take, unwrap_or}
-use Rattle.sg_rules.specs.Profiles.{state_in}
+use Rattle.sg_toml_rules.specs.Profiles.{state_in}
 use Rattle.toml.specs.View.{view}
 use Rattle.sg_platform.proofs.build.states_at.Given as goal
 

@@ -1,10 +1,10 @@
 use Rattle.std.proofs.Common.{sym, ap, subst, length, ◌∙◌}
 use Rattle.sg_platform.proofs.Deployed.{deployed_without_faults, deployment_without_faults, known_hosts}
-use Rattle.sg_rows.specs.Deployment.{IsDeployedOn}
-use Rattle.sg_rows.specs.Index.{host_number}
-use Rattle.sg_rules.proofs.KeptArguments.{known_workers}
-use Rattle.sg_tree.specs.Names.{Known}
-use Rattle.sg_tree.specs.kept.NamesView.{names_view}
+use Rattle.sg_platform_rows.specs.Deployment.{IsDeployedOn}
+use Rattle.sg_platform_rows.specs.Index.{host_number}
+use Rattle.sg_toml_rules.proofs.KeptArguments.{known_workers}
+use Rattle.sg_toml_tree.specs.Names.{Known}
+use Rattle.sg_toml_tree.specs.kept.NamesView.{names_view}
 use Rattle.toml.specs.View.{table_view}
 use Rattle.sg_platform.proofs.deployment.deployment_in.Goals as goal
 

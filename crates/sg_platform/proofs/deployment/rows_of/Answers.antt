@@ -1,13 +1,13 @@
 use Rattle.std.proofs.Common.{◌≡◌, ◌∙◌, List, IfOk, ap, codes, map, refl, subst, sym}
 use Rattle.sg_platform.specs.Build.{actor_row, mutex_row, semaphore_row}
 use Rattle.sg_platform.specs.DeploymentOf.{deployment_rows}
-use Rattle.sg_rows.specs.Deployment.{Deployed, IsDeployment, deployment_of_rows}
-use Rattle.sg_rows.specs.declared.rows.ActorRow.{ActorRow}
-use Rattle.sg_rows.specs.declared.rows.MutexRow.{MutexRow}
-use Rattle.sg_rows.specs.declared.rows.SemaphoreRow.{SemaphoreRow}
-use Rattle.sg_tree.specs.Names.{Known}
-use Rattle.sg_tree.specs.kept.NamesView.{names_view}
-use Rattle.sg_tree.specs.Tree.{rows_at}
+use Rattle.sg_platform_rows.specs.Deployment.{Deployed, IsDeployment, deployment_of_rows}
+use Rattle.sg_platform_rows.specs.declared.rows.ActorRow.{ActorRow}
+use Rattle.sg_platform_rows.specs.declared.rows.MutexRow.{MutexRow}
+use Rattle.sg_platform_rows.specs.declared.rows.SemaphoreRow.{SemaphoreRow}
+use Rattle.sg_toml_tree.specs.Names.{Known}
+use Rattle.sg_toml_tree.specs.kept.NamesView.{names_view}
+use Rattle.sg_toml_tree.specs.Tree.{rows_at}
 use Rattle.toml.specs.View.{table_view}
 use Rattle.toml.specs.Data.{Members}
 use Rattle.sg_platform.proofs.deployment.rows_of.Goals as goal

@@ -1,7 +1,7 @@
 use Rattle.std.proofs.Common.{◌∙◌, sym}
 use Rattle.sg_platform.proofs.PlatformFaults.{first_of_platform}
 use Rattle.sg_platform.proofs.Whole.{platform_without_faults}
-use Rattle.sg_tree.specs.kept.NamesView.{names_view}
+use Rattle.sg_toml_tree.specs.kept.NamesView.{names_view}
 use Rattle.toml.specs.View.{table_view}
 use Rattle.sg_platform.proofs.platform.platform_in.Goals as goal
 

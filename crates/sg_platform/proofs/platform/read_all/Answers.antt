@@ -1,11 +1,11 @@
 use Rattle.std.proofs.Common.{◌∙◌, ap, codes, map, refl}
 use Rattle.sg_platform.proofs.RowsRead.{rows_read}
 use Rattle.sg_platform.specs.Build.{link_row, network_row, profile_row, route_row, spoke_row, state_profile_row, zone_route_row}
-use Rattle.sg_rows.specs.Ends.{link_ends}
-use Rattle.sg_rows.specs.Network.{plain_network}
-use Rattle.sg_tree.specs.Along.{first}
+use Rattle.sg_platform_rows.specs.Ends.{link_ends}
+use Rattle.sg_platform_rows.specs.Network.{plain_network}
+use Rattle.sg_toml_tree.specs.Along.{first}
 use Rattle.std.specs.Option.{option_map_or}
-use Rattle.sg_tree.specs.kept.NamesView.{names_view}
+use Rattle.sg_toml_tree.specs.kept.NamesView.{names_view}
 use Rattle.toml.specs.View.{table_view}
 use Rattle.sg_platform.proofs.platform.read_all.Goals as goal
 

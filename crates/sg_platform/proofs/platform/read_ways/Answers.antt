@@ -1,7 +1,7 @@
 use Rattle.std.proofs.Common.{◌∙◌, ap, codes, map, refl}
 use Rattle.sg_platform.specs.Build.{route_row, spoke_row, zone_route_row}
-use Rattle.sg_rows.specs.Ends.{link_ends}
-use Rattle.sg_tree.specs.kept.NamesView.{names_view}
+use Rattle.sg_platform_rows.specs.Ends.{link_ends}
+use Rattle.sg_toml_tree.specs.kept.NamesView.{names_view}
 use Rattle.sg_platform.proofs.platform.read_ways.Goals as goal
 
 pub returns-clause-routes : goal.returns-clause-routes

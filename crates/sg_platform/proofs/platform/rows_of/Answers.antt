@@ -1,6 +1,6 @@
 use Rattle.std.proofs.Common.{◌∙◌, subst, sym}
 use Rattle.sg_platform.specs.PlatformOf.{platform_rows}
-use Rattle.sg_rows.specs.Platform.{IsPlatform}
+use Rattle.sg_platform_rows.specs.Platform.{IsPlatform}
 use Rattle.sg_platform.proofs.platform.rows_of.Goals as goal
 
 pub read_all-requires : goal.read_all-requires

@@ -1,7 +1,7 @@
 -- Steps join points that there are.
 use Rattle.std.proofs.Common.{◌≡◌, ◌+◌, ◌<◌, ℕ, List, All, ap, ap₂, sym, subst, ◌∙◌, length}
 use Rattle.sg_paths.specs.declared.route.PathRoute.{PathRoute}
-use Rattle.sg_rows.specs.Platform.{counts_of}
+use Rattle.sg_platform_rows.specs.Platform.{counts_of}
 use Rattle.sg_route.specs.Roads.{roads_of}
 use Rattle.sg_route.specs.PathRoutes.{path_routes}
 use Rattle.sg_zones.specs.Tree.{Tree, zone_tree}

@@ -1,6 +1,6 @@
 -- A platform has few links.
 use Rattle.std.proofs.Common.{◌≡◌, length, arith, ap, ◌∙◌}
-use Rattle.sg_rows.specs.Ends.{link_ends}
+use Rattle.sg_platform_rows.specs.Ends.{link_ends}
 use Rattle.sg_route.proofs.EndsLemmas.{link_ends_few}
 use Rattle.sg_route.proofs.build.ways_of.Goals as goal
 

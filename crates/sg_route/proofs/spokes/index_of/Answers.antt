@@ -1,6 +1,6 @@
 -- One row more is entered.
 use Rattle.std.proofs.Common.{◌-◌, arith, ap, get_or}
-use Rattle.sg_rows.specs.declared.rows.SpokeRow.{SpokeRow}
+use Rattle.sg_platform_rows.specs.declared.rows.SpokeRow.{SpokeRow}
 use Rattle.sg_route.proofs.IndexLemmas.{children_entered}
 use Rattle.sg_route.proofs.spokes.index_of.Goals as goal
 

@@ -3,7 +3,7 @@ use Rattle.sg_base.specs.MarkSet.{MarkSet}
 use Rattle.sg_lazy.specs.RunningFlow.{RunningFlow, running_at}
 use Rattle.sg_lazy.specs.Lazily.{Lazily, without_flow}
 use Rattle.sg_sharing_cases.specs.Pairs.{twin_of}
-use Rattle.sg_filling.proofs.Rows.{any_default}
+use Rattle.sg_maxmin_solve.proofs.Rows.{any_default}
 use Rattle.sg_sharing_cases.proofs.Pairs.{pairs_end}
 use Rattle.sg_maxmin.proofs.Listed.{some_of}
 use Rattle.sg_sharing_cases.proofs.settling.change_flow.Goals as goal

@@ -1,7 +1,7 @@
 use Rattle.std.proofs.Common.{◌≡◌, ◌+◌, drop}
 use Rattle.std.specs.Prelude.{if◌then◌else◌, option_map}
 use Rattle.sg_zones.specs.Faults.{place, roots, root_fault}
-use Rattle.sg_tree.specs.Along.{first}
+use Rattle.sg_toml_tree.specs.Along.{first}
 use Rattle.sg_zones.specs.declared.fault.ZoneFault.TheVariants.{TwoRoots}
 use Rattle.sg_zones.proofs.tree.root_fault.Given as goal
 

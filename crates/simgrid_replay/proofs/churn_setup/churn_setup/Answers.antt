@@ -1,6 +1,6 @@
 use Rattle.std.proofs.Common.{sym, subst}
-use Rattle.sg_rows.specs.Deployment.{Deployed, IsDeployedOn}
-use Rattle.sg_rows.specs.Platform.{Platform}
+use Rattle.sg_platform_rows.specs.Deployment.{Deployed, IsDeployedOn}
+use Rattle.sg_platform_rows.specs.Platform.{Platform}
 use Rattle.simgrid_replay.proofs.churn_setup.churn_setup.Goals as goal
 
 pub with-requires : goal.with-requires

@@ -1,5 +1,5 @@
 use Rattle.std.proofs.Common.{◌∙◌, ap}
-use Rattle.sg_churn.specs.Generated.{platform_of_seed}
+use Rattle.sg_platform_churn.specs.Generated.{platform_of_seed}
 use Rattle.sg_zones.specs.Faults.{zones_of}
 use Rattle.sg_zones.specs.Tree.{zone_tree}
 use Rattle.simgrid_replay.proofs.ZoneLemmas.{keeps_platform, only_memory}

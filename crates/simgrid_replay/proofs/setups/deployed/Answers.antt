@@ -1,6 +1,6 @@
 use Rattle.std.proofs.Common.{sym, subst}
-use Rattle.sg_rows.specs.Deployment.{Deployed, IsDeployedOn}
-use Rattle.sg_rows.specs.Platform.{Platform}
+use Rattle.sg_platform_rows.specs.Deployment.{Deployed, IsDeployedOn}
+use Rattle.sg_platform_rows.specs.Platform.{Platform}
 use Rattle.simgrid_replay.proofs.PartLemmas.{settled_on}
 use Rattle.simgrid_replay.proofs.setups.deployed.Goals as goal
 

@@ -2,7 +2,7 @@ use Rattle.std.proofs.Common.{◌+◌, ◌∙◌, ap, subst, sym, Result}
 use Rattle.sg_edge.specs.declared.files.Part.TheVariants.{Platform, Deployment}
 use Rattle.sg_edge.specs.Files.{PartView, TakesUpTo}
 use Rattle.sg_edge.specs.Sources.{Gives}
-use Rattle.sg_rows.specs.Platform as platform
+use Rattle.sg_platform_rows.specs.Platform as platform
 use Rattle.simgrid_replay.specs.Settings.{Setting, deployment_given, fitting, on_platform, unless_refused}
 use Rattle.simgrid_replay.specs.kept.Setups.{IsSetupOf}
 use Rattle.simgrid_replay.specs.declared.refusal.Refusal.{Refusal}

@@ -7,7 +7,7 @@ use Rattle.sg_activity.specs.kept.State.{State, state_of, doing_of}
 use Rattle.sg_activity.proofs.Switched.{switches_alike}
 use Rattle.sg_activity.proofs.Due.{none_due_told, ended_told}
 use Rattle.sg_activity.specs.kept.Metered.{IsMetered, energies, metered_in, noted}
-use Rattle.sg_lives.specs.Pool.{slot_at}
+use Rattle.sg_activity_table.specs.Pool.{slot_at}
 use Rattle.sg_activity.proofs.Metering.{exec_host, metered_ended, metered_turned, next_not, not_noted}
 use Rattle.sg_activity.specs.Task.{next_phase}
 use Rattle.sg_activity.specs.kept.State.{task_of}

@@ -8,7 +8,7 @@ use Rattle.sg_activity.proofs.Struck.{changed_told}
 use Rattle.sg_activity.proofs.Switched.{switches_alike}
 use Rattle.sg_activity.proofs.Rates.{task_missed}
 use Rattle.sg_activity.specs.kept.Metered.{IsMetered, energies, metered_in, noted}
-use Rattle.sg_lives.specs.Pool.{slot_at}
+use Rattle.sg_activity_table.specs.Pool.{slot_at}
 use Rattle.sg_activity.proofs.Metering.{exec_host, metered_turned, not_noted}
 use Rattle.sg_activity.proofs.activities.Activities.give_up.Goals as goal
 

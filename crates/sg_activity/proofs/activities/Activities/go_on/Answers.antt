@@ -1,15 +1,15 @@
 use Rattle.std.proofs.Common.{◌≡◌, ◌<◌, All, Some, refl, arith, length, true≢false, sym, ap, subst, ◌∙◌}
-use Rattle.sg_lives.specs.declared.kinds.PhaseKind.TheVariants as phase
+use Rattle.sg_activity_table.specs.declared.kinds.PhaseKind.TheVariants as phase
 use Rattle.sg_activity.specs.Hosts.{IsHost}
 use Rattle.sg_activity.specs.Links.{Capacities}
 use Rattle.sg_activity.specs.Doing.{Doing, went_on_in}
-use Rattle.sg_lives.specs.Kinds.{is_held}
+use Rattle.sg_activity_table.specs.Kinds.{is_held}
 use Rattle.sg_activity.specs.Underway.{is_kept}
 use Rattle.sg_activity.specs.kept.State.{State, state_of, doing_of}
 use Rattle.sg_activity.proofs.Holding.{held_is, kind_found, kind_missed, went_told}
 use Rattle.sg_activity.proofs.Switched.{switches_alike}
 use Rattle.sg_activity.specs.kept.Metered.{IsMetered, energies, metered_in}
-use Rattle.sg_lives.specs.Pool.{slot_at}
+use Rattle.sg_activity_table.specs.Pool.{slot_at}
 use Rattle.sg_activity.proofs.Metering.{held_host, held_not, metered_turned, not_marked}
 use Rattle.sg_activity.specs.Task.{rekinded}
 use Rattle.sg_base.specs.MarkSet.{with_mark}

@@ -1,6 +1,6 @@
 use Rattle.std.proofs.Common.{sym, ap, ◌∙◌}
 use Rattle.sg_activity.specs.Doing.{Doing}
-use Rattle.sg_lives.specs.Kinds.{is_exec}
+use Rattle.sg_activity_table.specs.Kinds.{is_exec}
 use Rattle.sg_activity.specs.Underway.{is_computing}
 use Rattle.sg_activity.specs.kept.State.{State, state_of}
 use Rattle.sg_activity.proofs.Holding.{kind_found, kind_missed}

@@ -1,7 +1,7 @@
 use Rattle.std.proofs.Common.{◌+◌, length, ap, arith}
 use Rattle.sg_activity.specs.Doing.{Doing}
 use Rattle.sg_activity.specs.kept.State.{state_of, told_at, task_of}
-use Rattle.sg_lives.proofs.Listed.{length-listed}
+use Rattle.sg_activity_table.proofs.Listed.{length-listed}
 use Rattle.sg_activity.proofs.activities.Activities.next_serial.Goals as goal
 
 pub returns : goal.returns

@@ -8,7 +8,7 @@ use Rattle.sg_activity.specs.kept.State.{State, state_of, doing_of}
 use Rattle.sg_activity.proofs.Rates.{work_told}
 use Rattle.sg_activity.proofs.Settled.{keyed_flows, small_lives, marked_below, ahead_stamped, uses_stamped, settled_kept, settled_told}
 use Rattle.sg_activity.specs.kept.Index.{used_by}
-use Rattle.sg_lives.specs.Pool.{slot_at}
+use Rattle.sg_activity_table.specs.Pool.{slot_at}
 use Rattle.sg_activity.specs.kept.State.{links_at}
 use Rattle.sg_activity.specs.kept.Hits.{hit_in}
 use Rattle.sg_activity.proofs.Hitting.{hits_still, hit_stamped}

@@ -1,8 +1,8 @@
 use Rattle.std.proofs.Common.{◌≡◌, ◌+◌, ◌-◌, ◌<◌, ◌≤◌, ◌^◌, ℕ, false, None, Some, List, All, get_or, length, length-set, set, sum_by, sym, ap, ap₂, subst, ◌∙◌, refl, arith}
 use Rattle.sg_base.specs.MarkSet.{MarkSet, with_mark}
 use Rattle.sg_base.specs.declared.ids.LinkId.{LinkId}
-use Rattle.sg_lives.specs.declared.kinds.PhaseKind.TheVariants as phase
-use Rattle.sg_lives.specs.declared.lives.Live.{Live}
+use Rattle.sg_activity_table.specs.declared.kinds.PhaseKind.TheVariants as phase
+use Rattle.sg_activity_table.specs.declared.lives.Live.{Live}
 use Rattle.sg_activity.specs.Task.{Way, comm_of, is_cut, over, task_at}
 use Rattle.sg_activity.specs.Doing.{Doing, IsTransfer, begun_in, way_of}
 use Rattle.sg_activity.specs.kept.Hits.{AreHits}
@@ -13,7 +13,7 @@ use Rattle.sg_activity.specs.kept.Sound.{IsKept, IsPath, slot_ahead, slot_uses}
 use Rattle.sg_activity.specs.kept.Turns.{Turns}
 use Rattle.sg_activity.proofs.Hitting.{hits_more}
 use Rattle.sg_activity.proofs.Indexing.{all_used, long_used, row_idle, used_turned, way_back}
-use Rattle.sg_lives.proofs.Listed.{length-listed}
+use Rattle.sg_activity_table.proofs.Listed.{length-listed}
 use Rattle.sg_activity.proofs.Roomy.{ahead_set, uses_set}
 use Rattle.sg_activity.proofs.Starts.{idle_serial, set_here, set_there}
 use Rattle.sg_activity.proofs.Told.{mark_self, begun_told, task_told}
@@ -23,7 +23,7 @@ use Rattle.sg_activity.specs.Laws.{IsSameHost}
 use Rattle.sg_activity.specs.kept.Metered.{energies, metered_in}
 use Rattle.sg_activity.specs.kept.State.{under_of}
 use Rattle.sg_activity.specs.Power.{loads}
-use Rattle.sg_lives.specs.Slots.{passes}
+use Rattle.sg_activity_table.specs.Slots.{passes}
 use Rattle.sg_activity.proofs.Elsewhere.{same_task}
 use Rattle.sg_activity.proofs.Metering.{metered_kept}
 use Rattle.sg_activity.proofs.activities.Activities.start_comm.Goals as goal

@@ -1,13 +1,13 @@
 use Rattle.std.proofs.Common.{◌≡◌, ◌+◌, ◌-◌, ◌≤◌, ◌^◌, false, None, Some, length, length-set, set, sum_by, sym, ap, subst, ◌∙◌, refl, arith}
 use Rattle.sg_base.specs.MarkSet.{MarkSet, with_mark}
-use Rattle.sg_lives.specs.declared.kinds.PhaseKind.TheVariants as phase
-use Rattle.sg_lives.specs.declared.lives.Live.{Live}
+use Rattle.sg_activity_table.specs.declared.kinds.PhaseKind.TheVariants as phase
+use Rattle.sg_activity_table.specs.declared.lives.Live.{Live}
 use Rattle.sg_activity.specs.Task.{timer_of, nowhere}
 use Rattle.sg_activity.specs.Doing.{Doing, started_in}
 use Rattle.sg_activity.specs.kept.State.{State, state_of, told_at, task_of, doing_of}
 use Rattle.sg_activity.specs.kept.Sound.{IsKept, slot_ahead, slot_uses}
 use Rattle.sg_activity.specs.kept.Turns.{Turns}
-use Rattle.sg_lives.proofs.Listed.{length-listed}
+use Rattle.sg_activity_table.proofs.Listed.{length-listed}
 use Rattle.sg_activity.proofs.Roomy.{ahead_set, uses_set}
 use Rattle.sg_activity.proofs.Told.{mark_self, started_told}
 use Rattle.sg_activity.proofs.Turned.{turned}

@@ -2,7 +2,7 @@ use Rattle.std.proofs.Common.{◌+◌, length, ap, ◌∙◌, arith}
 use Rattle.sg_activity.specs.Doing.{Doing, drawn_in}
 use Rattle.sg_activity.specs.kept.State.{state_of, told_at, task_of}
 use Rattle.sg_activity.proofs.Drawn.{drawn_kept, drawn_told}
-use Rattle.sg_lives.proofs.Listed.{length-listed}
+use Rattle.sg_activity_table.proofs.Listed.{length-listed}
 use Rattle.sg_activity.specs.Laws.{IsSameHost}
 use Rattle.sg_activity.specs.kept.Metered.{energies, metered_in}
 use Rattle.sg_activity.specs.kept.State.{under_of}

@@ -1,8 +1,8 @@
 use Rattle.std.proofs.Common.{◌<◌, sym, subst}
 use Rattle.sg_base.specs.Limits.{IsCall}
-use Rattle.sg_calls.specs.Known.{Known}
-use Rattle.sg_calls.specs.Roads.{AreOver}
-use Rattle.sg_calls.specs.World.{extent, MayCall}
+use Rattle.sg_kernel_calls.specs.Known.{Known}
+use Rattle.sg_kernel_calls.specs.Roads.{AreOver}
+use Rattle.sg_kernel_calls.specs.World.{extent, MayCall}
 use Rattle.sg_kernel.proofs.kernel.Kernel.answer.Goals as goal
 
 pub answer_call-requires-clause-roads : goal.answer_call-requires-clause-roads

@@ -1,11 +1,11 @@
 use Rattle.std.proofs.Common.{◌≢◌, ◌<◌, sym, subst, arith}
 use Rattle.sg_base.specs.declared.call.Call.TheVariants as call
-use Rattle.sg_calls.specs.declared.simulation_state.Fields.{Fields}
-use Rattle.sg_calls.specs.Known.{Known}
-use Rattle.sg_calls.specs.World.{IsActor, MayCall}
-use Rattle.sg_calls.specs.kept.Acts.{CanMake}
-use Rattle.sg_calls.proofs.Limits.{homes_counted}
-use Rattle.sg_calls.proofs.Moves.{can_step}
+use Rattle.sg_kernel_calls.specs.declared.simulation_state.Fields.{Fields}
+use Rattle.sg_kernel_calls.specs.Known.{Known}
+use Rattle.sg_kernel_calls.specs.World.{IsActor, MayCall}
+use Rattle.sg_kernel_calls.specs.kept.Acts.{CanMake}
+use Rattle.sg_kernel_calls.proofs.Limits.{homes_counted}
+use Rattle.sg_kernel_calls.proofs.Moves.{can_step}
 use Rattle.sg_kernel.proofs.kernel.Kernel.create.Goals as goal
 
 pub count-requires-clause-left : goal.count-requires-clause-left

@@ -1,8 +1,8 @@
 use Rattle.std.proofs.Common.{ap, subst, ◌∙◌}
 use Rattle.std.specs.Option.{IfSome}
 use Rattle.sg_base.specs.Limits.{IsAnswer}
-use Rattle.sg_calls.specs.Known.{Known}
-use Rattle.sg_calls.specs.World.{extent}
+use Rattle.sg_kernel_calls.specs.Known.{Known}
+use Rattle.sg_kernel_calls.specs.World.{extent}
 use Rattle.sg_kernel.proofs.kernel.Kernel.inbox.Goals as goal
 
 pub returns-clause-limited : goal.returns-clause-limited

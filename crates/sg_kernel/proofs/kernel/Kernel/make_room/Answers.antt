@@ -1,7 +1,7 @@
 use Rattle.std.proofs.Common.{ap, arith}
 use Rattle.sg_activity.specs.Doing.{Doing}
 use Rattle.sg_requests.specs.Requested.{Requested}
-use Rattle.sg_states.specs.States.{ActorStates}
+use Rattle.sg_actor_states.specs.States.{ActorStates}
 use Rattle.sg_mailbox.specs.Owners.{Owned}
 use Rattle.sg_kernel.proofs.Rooms.{whole_roomier}
 use Rattle.sg_kernel.proofs.kernel.Kernel.make_room.Goals as goal

@@ -1,12 +1,12 @@
 use Rattle.std.proofs.Common.{length, ap, ◌∙◌}
 use Rattle.std.specs.List.{list_any}
 use Rattle.sg_activity.specs.Doing.{Doing}
-use Rattle.sg_states.specs.Actors.{is_ready}
-use Rattle.sg_calls.specs.declared.simulation_state.Fields.{Fields}
-use Rattle.sg_calls.specs.Known.{Known, after}
+use Rattle.sg_actor_states.specs.Actors.{is_ready}
+use Rattle.sg_kernel_calls.specs.declared.simulation_state.Fields.{Fields}
+use Rattle.sg_kernel_calls.specs.Known.{Known, after}
 use Rattle.sg_kernel.specs.Passes.{pass_of, settled_pass}
-use Rattle.sg_calls.specs.Steps.{result_of}
-use Rattle.sg_calls.specs.kept.Sound.{core_of, known_of, setup_in}
+use Rattle.sg_kernel_calls.specs.Steps.{result_of}
+use Rattle.sg_kernel_calls.specs.kept.Sound.{core_of, known_of, setup_in}
 use Rattle.sg_kernel.proofs.Passed.{actors_same, whole_settled}
 use Rattle.sg_kernel.proofs.kernel.Kernel.pass.Goals as goal
 

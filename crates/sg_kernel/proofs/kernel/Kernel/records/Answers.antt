@@ -1,7 +1,7 @@
 use Rattle.std.proofs.Common.{subst}
-use Rattle.sg_states.specs.Records.{AreRecords}
-use Rattle.sg_calls.specs.Known.{Known}
-use Rattle.sg_calls.specs.World.{extent}
+use Rattle.sg_actor_states.specs.Records.{AreRecords}
+use Rattle.sg_kernel_calls.specs.Known.{Known}
+use Rattle.sg_kernel_calls.specs.World.{extent}
 use Rattle.sg_kernel.proofs.kernel.Kernel.records.Goals as goal
 
 pub returns-clause-limited : goal.returns-clause-limited

@@ -1,5 +1,5 @@
 use Rattle.std.proofs.Common.{refl, ap, arith}
-use Rattle.sg_states.specs.States.{ActorStates}
+use Rattle.sg_actor_states.specs.States.{ActorStates}
 use Rattle.sg_kernel.proofs.Rooms.{whole_roomier}
 use Rattle.sg_kernel.proofs.kernel.Kernel.reserve_round.Goals as goal
 

@@ -1,12 +1,12 @@
 use Rattle.std.specs.Prelude.{is_ok}
 use Rattle.std.proofs.Common.{◌<◌, [], true, sym, ap, subst, ◌∙◌}
 use Rattle.sg_base.specs.declared.call.Answer.TheVariants as answer
-use Rattle.sg_calls.specs.Calls.{answer_of_ask, told}
-use Rattle.sg_calls.specs.Known.{Known, after_call}
-use Rattle.sg_calls.specs.Steps.{counted, goes_on, readied, result_of}
-use Rattle.sg_calls.specs.World.{MayCall}
-use Rattle.sg_calls.specs.kept.Sound.{core_of}
-use Rattle.sg_calls.proofs.Replied.{used_replies}
+use Rattle.sg_kernel_calls.specs.Calls.{answer_of_ask, told}
+use Rattle.sg_kernel_calls.specs.Known.{Known, after_call}
+use Rattle.sg_kernel_calls.specs.Steps.{counted, goes_on, readied, result_of}
+use Rattle.sg_kernel_calls.specs.World.{MayCall}
+use Rattle.sg_kernel_calls.specs.kept.Sound.{core_of}
+use Rattle.sg_kernel_calls.proofs.Replied.{used_replies}
 use Rattle.sg_kernel.proofs.Tells.{can_tell, tell_replies}
 use Rattle.sg_kernel.proofs.kernel.Kernel.tell.Goals as goal
 

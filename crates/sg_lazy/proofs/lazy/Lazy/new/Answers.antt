@@ -1,5 +1,5 @@
 use Rattle.std.proofs.Common.{◌≡◌, ◌<◌, ◌^◌, List, length, get_or, ap, sym, subst, arith}
-use Rattle.sg_levels.specs.Kept.{IsFresh}
+use Rattle.sg_maxmin_levels.specs.Kept.{IsFresh}
 use Rattle.sg_lazy.specs.kept.Held.{ended_in}
 use Rattle.sg_lazy.proofs.Leveled.{fresh_leveled, ready_on}
 use Rattle.sg_lazy.proofs.Whole.{fresh_lazy, nothing_runs}

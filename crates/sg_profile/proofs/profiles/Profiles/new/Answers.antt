@@ -1,7 +1,7 @@
 use Rattle.std.proofs.Common.{◌≡◌, All, length, map, sym, ap, ap₂, subst, ◌∙◌, arith}
 use Rattle.std.proofs.lemmas.List.{length-append, length-map}
 use Rattle.std.proofs.lemmas.Result.{IfOk-weaker}
-use Rattle.sg_rows.specs.Platform.{counts_of}
+use Rattle.sg_platform_rows.specs.Platform.{counts_of}
 use Rattle.sg_profile.specs.Profiles.{AreProfiles, IsSchedule, Timetable, first_table, profile_of, profiles_in, state_profile_of}
 use Rattle.sg_profile.proofs.Cases.{profiles_of}
 use Rattle.sg_profile.proofs.Promises.{platforms_promise}

@@ -1,5 +1,5 @@
 use Rattle.std.proofs.Common.{◌<◌, length, arith, rules}
-use Rattle.sg_rows.specs.Deployment.{extent_of}
+use Rattle.sg_platform_rows.specs.Deployment.{extent_of}
 use Rattle.sg_script.specs.Known.{known_in}
 use Rattle.sg_script.specs.Stands.{kept_of}
 use Rattle.sg_script.proofs.Taking.{own_tells}

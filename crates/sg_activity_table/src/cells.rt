@@ -1,0 +1,74 @@
+//! What is kept of an activity, in 96 bytes.
+ghost use Rattle.std.specs.Prelude.{◌≡◌, None, Some, if◌then◌else◌};
+ghost use Rattle.sg_activity_table.specs.Cells.{HasEnds, live_of as live_of_spec};
+
+use crate::kinds::PhaseKind;
+use crate::lives::Live;
+
+/// An activity as it is kept.
+#[derive(Clone, Copy)]
+pub(crate) struct Cell {
+    kept: u128,
+    stamp: u128,
+    serial: u64,
+    rate: u64,
+    bound: u64,
+    bytes: u64,
+    flow: usize,
+    host: u32,
+    peer: u32,
+    links: u32,
+    weight: u32,
+    kind: PhaseKind,
+    has_bound: bool,
+}
+
+// Returns a bound if there is one.
+fn bound_if(has: bool, bound: u64) -> Option<u64>
+    ensures { result ≡ (if has then Some bound else None) }
+{
+    if has { Some(bound) } else { None }
+}
+
+/// Returns the activity that is kept so.
+pub(crate) fn live_of(cell: &Cell) -> Live
+    ensures is { result ≡ live_of_spec cell.now }
+    ensures ends { HasEnds result }
+{
+    Live {
+        serial: cell.serial,
+        kind: cell.kind,
+        links: cell.links,
+        kept: cell.kept,
+        stamp: cell.stamp,
+        rate: cell.rate,
+        weight: cell.weight,
+        bound: bound_if(cell.has_bound, cell.bound),
+        bytes: cell.bytes,
+        host: cell.host as usize,
+        peer: cell.peer as usize,
+        flow: cell.flow,
+    }
+}
+
+/// Returns this activity, as it is kept.
+pub(crate) fn cell_of(live: Live) -> Cell
+    requires { HasEnds live }
+    ensures { live_of_spec result ≡ live }
+{
+    Cell {
+        kept: live.kept,
+        stamp: live.stamp,
+        serial: live.serial,
+        rate: live.rate,
+        bound: live.bound.unwrap_or(0),
+        bytes: live.bytes,
+        flow: live.flow,
+        host: live.host as u32,
+        peer: live.peer as u32,
+        links: live.links,
+        weight: live.weight,
+        kind: live.kind,
+        has_bound: live.bound.is_some(),
+    }
+}

@@ -1,0 +1,271 @@
+//! The running activities, by key.
+
+ghost use Rattle.std.specs.Prelude.{◌≡◌, ◌<◌, ◌≤◌, ◌+◌, ◌-◌, ◌==◌, None, Some, IfSome, IsSome, MatchOption, OnOk, [], if◌then◌else◌, not, count_by, length, slice_set};
+ghost use Rattle.slab.specs.Slab.{get, slab_len, Updates};
+ghost use Rattle.sg_activity_table.specs.Slots.{passes};
+ghost use Rattle.sg_activity_table.specs.Kinds.{is_exec as is_exec_spec, is_held as is_held_spec, takes_share as takes_share_spec};
+ghost use Rattle.sg_activity_table.specs.Cells.{HasEnds};
+ghost use Rattle.sg_activity_table.specs.Pool.{HasFree, IsFound, IsMissing, IsSet, SameSlots, goes_on, slot_at, uses_ahead as uses_ahead_spec};
+ghost use Rattle.sg_activity_table.specs.Kinds.{flows_ahead as flows_ahead_spec};
+
+use crate::cells::{Cell, cell_of, live_of};
+use crate::kinds::PhaseKind;
+use sg_base::{Memory, Serial};
+use sg_queues::BySerial;
+use slab::Slab;
+use std::alloc::Global;
+use std::marker::Model;
+
+/// A running activity, as it was at a stamp.
+#[derive(Clone, Copy)]
+pub struct Live {
+    pub serial: u64,
+    pub kind: PhaseKind,
+    /// How many links the route of a communication has.
+    pub links: u32,
+    /// What was left of its phase at the stamp.
+    pub kept: u128,
+    /// A date.
+    pub stamp: u128,
+    /// How much a nanosecond takes of it since.
+    pub rate: u64,
+    /// What it weighs among those that share with it.
+    pub weight: u32,
+    /// What its rate is to be at most.
+    pub bound: Option<u64>,
+    /// The bytes of a communication.
+    pub bytes: u64,
+    /// The host of an execution, or that of the sender of a communication.
+    pub host: usize,
+    /// The host of the receiver of a communication.
+    pub peer: usize,
+    /// The number of a flow or an execution among the flows.
+    pub flow: usize,
+}
+
+/// Returns whether phases of this kind take shares of resources.
+pub fn takes_share(kind: PhaseKind) -> bool
+    ensures { result ≡ takes_share_spec kind }
+{
+    match kind {
+        PhaseKind::Flow | PhaseKind::Exec => true,
+        PhaseKind::Latency | PhaseKind::Timer | PhaseKind::Kept => false,
+    }
+}
+
+/// Returns how many flows begin once a phase of this kind completes.
+pub fn flows_ahead(kind: PhaseKind) -> usize
+    ensures { result ≡ flows_ahead_spec kind }
+{
+    match kind {
+        PhaseKind::Latency => 1,
+        PhaseKind::Flow | PhaseKind::Exec | PhaseKind::Timer | PhaseKind::Kept => 0,
+    }
+}
+
+/// Returns how many uses the flow takes that begins once the phase of this activity completes.
+pub fn uses_ahead(live: &Live) -> usize
+    ensures { result ≡ uses_ahead_spec live.now.kind live.now.links }
+{
+    match live.kind {
+        PhaseKind::Latency => live.links as usize,
+        PhaseKind::Flow | PhaseKind::Exec | PhaseKind::Timer | PhaseKind::Kept => 0,
+    }
+}
+
+/// Returns whether it is an execution that isn't suspended.
+pub fn is_exec(kind: PhaseKind) -> bool
+    ensures { result ≡ is_exec_spec kind }
+{
+    match kind {
+        PhaseKind::Exec => true,
+        PhaseKind::Latency | PhaseKind::Flow | PhaseKind::Timer | PhaseKind::Kept => false,
+    }
+}
+
+/// Returns whether it is a suspended execution.
+pub fn is_held(kind: PhaseKind) -> bool
+    ensures { result ≡ is_held_spec kind }
+{
+    match kind {
+        PhaseKind::Kept => true,
+        PhaseKind::Latency | PhaseKind::Flow | PhaseKind::Exec | PhaseKind::Timer => false,
+    }
+}
+
+// Returns 1 if a phase of this kind progresses, and else 0.
+fn going_by(kind: PhaseKind) -> usize
+    ensures { result ≡ (if not (is_held_spec kind) then 1 else 0) }
+{
+    match kind {
+        PhaseKind::Latency | PhaseKind::Flow | PhaseKind::Exec | PhaseKind::Timer => 1,
+        PhaseKind::Kept => 0,
+    }
+}
+
+// Puts an activity under a free key below this number. A slab promises a key below its capacity, which may be more than
+// was asked for, and callers have no place for a key from there: it is given back once another was found.
+fn insert_below(slab: &mut Slab<Cell>, keys: usize, cell: Cell) -> usize
+    requires { HasFree keys slab.old }
+    ensures below { result < keys }
+    ensures vacant { get slab.old result ≡ None }
+    ensures updates { Updates slab.old slab.new result (Some cell) }
+    ensures len { slab_len slab.new ≡ slab_len slab.old + 1 }
+    ensures capacity { slab.new.capacity ≡ slab.old.capacity }
+{
+    let _most = slab.capacity();
+    let key = slab.insert_reserved(cell);
+    if key < keys {
+        return key;
+    }
+    let below = insert_below(slab, keys, cell);
+    slab.remove(key);
+    below
+}
+
+/// Activities under keys from 0 on, as many as there were at once at most. The key of one that is done is given to
+/// another. Only `reserve` takes memory.
+#[derive(Drop)]
+pub struct Lives {
+    slab: Slab<Cell>,
+    // keys are below it
+    keys: usize,
+    // by activity id the key of its activity
+    by_serial: BySerial<usize>,
+    // how many progress
+    going: usize,
+    // room for so many more
+    room: usize,
+}
+
+impl Model for Lives {
+    ghost use Rattle.sg_activity_table.specs.Pool.{Pool};
+
+    ghost Value = { Pool };
+
+    ghost use Rattle.sg_queues.specs.Serials as serials;
+    ghost use Rattle.sg_activity_table.specs.Cells.{lives_in};
+    ghost use Rattle.sg_activity_table.specs.Pool.{IsLives};
+
+    ghost view = { λ s. record {
+      slots = lives_in s.keys s.slab;
+      room = s.room;
+    } };
+
+    ghost invariant = { λ s. IsLives s.keys s.slab
+        (serials.at s.by_serial) (serials.room s.by_serial) s.going s.room };
+}
+
+impl Lives {
+    /// Makes a state without activities and keys.
+    pub fn new(alloc: Global) -> Lives
+        ensures slots { result.slots ≡ [] }
+        ensures room { result.room ≡ 0 }
+    {
+        Lives {
+            slab: Slab::new(alloc),
+            keys: 0,
+            by_serial: BySerial::new(alloc),
+            going: 0,
+            room: 0,
+        }
+    }
+
+    /// Returns how many keys there are.
+    pub fn numbers(&self) -> usize
+        ensures { result ≡ length self.now.slots }
+    {
+        self.keys
+    }
+
+    /// Returns whether no activity progresses.
+    pub fn is_idle(&self) -> bool
+        ensures { result ≡ (count_by (passes goes_on) self.now.slots == 0) }
+    {
+        self.going == 0
+    }
+
+    /// Returns the activity under a key.
+    pub fn get(&self, key: usize) -> Option<Live>
+        requires { key < length self.now.slots }
+        ensures { result ≡ slot_at self.now.slots key }
+    {
+        match self.slab.get(key) {
+            Some(cell) => Some(live_of(cell)),
+            None => None,
+        }
+    }
+
+    /// Returns the activity of an id, and its key.
+    pub fn find(&self, serial: Serial) -> Option<(usize, Live)>
+        ensures { MatchOption result (IsMissing self.now.slots serial.0)
+            (λ found. IsFound self.now.slots serial.0 found.0 found.1) }
+    {
+        let Some(key) = self.by_serial.get(serial.0) else {
+            return None;
+        };
+        let Some(cell) = self.slab.get(key) else {
+            unreachable!()
+        };
+        Some((key, live_of(cell)))
+    }
+
+    /// Puts an activity under a free key, and returns the key. No other has its id.
+    pub fn put(&mut self, live: Live) -> usize
+        requires room { 0 < self.old.room }
+        requires apart { IsMissing self.old.slots live.serial }
+        requires ends { HasEnds live }
+        ensures free { slot_at self.old.slots result ≡ None }
+        ensures in_range { result < length self.old.slots }
+        ensures slots { self.new.slots ≡ slice_set self.old.slots result (Some live) }
+        ensures room { self.new.room + 1 ≡ self.old.room }
+    {
+        let key = insert_below(&mut self.slab, self.keys, cell_of(live));
+        self.by_serial.insert(live.serial, key);
+        self.going += going_by(live.kind);
+        self.room -= 1;
+        key
+    }
+
+    /// Puts an activity of the same id, on the same hosts, in place of the one under a key.
+    pub fn set(&mut self, key: usize, live: Live)
+        requires there { IsSome (slot_at self.old.slots key) }
+        requires same { IfSome (slot_at self.old.slots key) (λ old. old.serial ≡ live.serial) }
+        requires host { IfSome (slot_at self.old.slots key) (λ old. old.host ≡ live.host) }
+        requires peer { IfSome (slot_at self.old.slots key) (λ old. old.peer ≡ live.peer) }
+        ensures { IsSet self.old self.new key (Some live) }
+    {
+        let Some(cell) = self.slab.get_mut(key) else {
+            unreachable!()
+        };
+        let old = live_of(cell);
+        *cell = cell_of(live);
+        self.going = self.going - going_by(old.kind) + going_by(live.kind);
+    }
+
+    /// Takes away the activity under a key, which is then free.
+    pub fn remove(&mut self, key: usize)
+        requires { IsSome (slot_at self.old.slots key) }
+        ensures { IsSet self.old self.new key None }
+    {
+        let old = live_of(&self.slab.remove(key));
+        self.by_serial.remove(old.serial);
+        self.going -= going_by(old.kind);
+    }
+
+    /// Makes room for so many more.
+    pub fn reserve(&mut self, n: usize) -> Result<(), Memory>
+        ensures same { SameSlots self.old.slots self.new.slots }
+        ensures longer { length self.old.slots ≤ length self.new.slots }
+        ensures few { length self.new.slots ≤ length self.old.slots + n }
+        ensures grows { self.old.room ≤ self.new.room }
+        ensures room { OnOk result (n ≤ self.new.room) }
+    {
+        self.slab.reserve(n)?;
+        self.by_serial.reserve(n)?;
+        let _most = self.slab.capacity();
+        self.keys = self.keys.max(self.slab.len() + n);
+        self.room = self.room.max(n);
+        Ok(())
+    }
+}

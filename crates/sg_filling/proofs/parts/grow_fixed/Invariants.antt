@@ -1,8 +1,0 @@
-use Rattle.std.proofs.Common.{◌≤◌, length}
-use Rattle.sg_filling.proofs.parts.grow_fixed.Given as goal
-
-abbrev pub invariant-loop-number : goal.invariant-loop-number
-invariant-loop-number l = record {
-  grows : length l.fn.fixed.items ≤ length l.fixed.items;
-  room : l._number ≤ length l.fixed.items;
-}

@@ -1,5 +1,0 @@
-use Rattle.sg_levels.proofs.Changing.{hold_stays_from_lem}
-use Rattle.sg_levels.proofs.laws.hold_stays_from.Goals as goal
-
-pub returns : goal.returns
-returns c = hold_stays_from_lem

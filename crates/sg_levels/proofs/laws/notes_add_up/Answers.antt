@@ -1,5 +1,0 @@
-use Rattle.sg_levels.proofs.Between.{notes_on}
-use Rattle.sg_levels.proofs.laws.notes_add_up.Goals as goal
-
-pub returns : goal.returns
-returns c = notes_on

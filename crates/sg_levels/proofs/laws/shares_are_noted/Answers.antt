@@ -1,5 +1,0 @@
-use Rattle.sg_levels.proofs.Between.{shares_noted}
-use Rattle.sg_levels.proofs.laws.shares_are_noted.Goals as goal
-
-pub returns : goal.returns
-returns c = shares_noted

@@ -1,6 +1,0 @@
-use Rattle.std.proofs.Common.{◌∙◌}
-use Rattle.sg_tree.proofs.TreeLemmas.{has_only-members_view}
-use Rattle.sg_rules.proofs.faults.has_only.Goals as goal
-
-pub returns : goal.returns
-returns c = c.are_keys.ensures ∙ has_only-members_view _ c.args.members.now.entries

@@ -1,5 +1,0 @@
-use Rattle.sg_rules.proofs.Rising.{faults_rise}
-use Rattle.sg_rules.proofs.laws.faults_rise.Goals as goal
-
-pub returns : goal.returns
-returns c = faults_rise

@@ -1,5 +1,0 @@
-use Rattle.sg_run_laws.proofs.await_lemmas.Reached.{ended_are_unnamed}
-use Rattle.sg_run_laws.proofs.awaits.ended_are_unnamed.Goals as goal
-
-pub returns : goal.returns
-returns c = ended_are_unnamed

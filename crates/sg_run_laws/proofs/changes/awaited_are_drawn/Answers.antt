@@ -1,5 +1,0 @@
-use Rattle.sg_run_laws.proofs.change_lemmas.Reached.{awaited_are_drawn}
-use Rattle.sg_run_laws.proofs.changes.awaited_are_drawn.Goals as goal
-
-pub returns : goal.returns
-returns c = awaited_are_drawn

@@ -1,5 +1,0 @@
-use Rattle.sg_run_laws.proofs.change_lemmas.Energy.{energy_is_sum}
-use Rattle.sg_run_laws.proofs.changes.energy_is_sum.Goals as goal
-
-pub returns : goal.returns
-returns c = energy_is_sum

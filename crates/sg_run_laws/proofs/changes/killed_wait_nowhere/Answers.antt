@@ -1,5 +1,0 @@
-use Rattle.sg_run_laws.proofs.change_lemmas.Queues.{killed_wait_nowhere}
-use Rattle.sg_run_laws.proofs.changes.killed_wait_nowhere.Goals as goal
-
-pub returns : goal.returns
-returns c = killed_wait_nowhere

@@ -1,5 +1,0 @@
-use Rattle.sg_run_laws.proofs.change_lemmas.Reaching.{kills_reach}
-use Rattle.sg_run_laws.proofs.changes.kills_reach.Goals as goal
-
-pub returns : goal.returns
-returns c = kills_reach

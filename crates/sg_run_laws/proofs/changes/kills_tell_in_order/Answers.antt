@@ -1,5 +1,0 @@
-use Rattle.sg_run_laws.proofs.change_lemmas.Order.{kills_tell_in_order}
-use Rattle.sg_run_laws.proofs.changes.kills_tell_in_order.Goals as goal
-
-pub returns : goal.returns
-returns c = kills_tell_in_order

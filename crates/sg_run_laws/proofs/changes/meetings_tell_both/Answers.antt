@@ -1,5 +1,0 @@
-use Rattle.sg_run_laws.proofs.change_lemmas.Meets.{meetings_tell_both}
-use Rattle.sg_run_laws.proofs.changes.meetings_tell_both.Goals as goal
-
-pub returns : goal.returns
-returns c = meetings_tell_both

@@ -1,5 +1,0 @@
-use Rattle.sg_run_laws.proofs.change_lemmas.Failing.{meetings_tell_both_in_runs}
-use Rattle.sg_run_laws.proofs.changes.meetings_tell_both_in_runs.Goals as goal
-
-pub returns : goal.returns
-returns c = meetings_tell_both_in_runs

@@ -1,5 +1,0 @@
-use Rattle.sg_run_laws.proofs.change_lemmas.Once.{nobody_has_two_records}
-use Rattle.sg_run_laws.proofs.changes.nobody_has_two_records.Goals as goal
-
-pub returns : goal.returns
-returns c = nobody_has_two_records

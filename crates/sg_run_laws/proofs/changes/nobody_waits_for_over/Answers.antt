@@ -1,5 +1,0 @@
-use Rattle.sg_run_laws.proofs.change_lemmas.Reached.{nobody_waits_for_over}
-use Rattle.sg_run_laws.proofs.changes.nobody_waits_for_over.Goals as goal
-
-pub returns : goal.returns
-returns c = nobody_waits_for_over

@@ -1,5 +1,0 @@
-use Rattle.sg_run_laws.proofs.change_lemmas.Spares.{other_calls_end_nothing}
-use Rattle.sg_run_laws.proofs.changes.other_calls_end_nothing.Goals as goal
-
-pub returns : goal.returns
-returns c = other_calls_end_nothing

@@ -1,5 +1,0 @@
-use Rattle.sg_run_laws.proofs.change_lemmas.Answered.{passes_answer}
-use Rattle.sg_run_laws.proofs.changes.passes_answer.Goals as goal
-
-pub returns : goal.returns
-returns c = passes_answer

@@ -1,5 +1,0 @@
-use Rattle.sg_run_laws.proofs.ending_lemmas.Given.{contexts_are_taken}
-use Rattle.sg_run_laws.proofs.endings.contexts_are_taken.Goals as goal
-
-pub returns : goal.returns
-returns c = contexts_are_taken

@@ -1,5 +1,0 @@
-use Rattle.sg_run_laws.proofs.ending_lemmas.Ends.{more_is_the_same}
-use Rattle.sg_run_laws.proofs.endings.more_is_the_same.Goals as goal
-
-pub returns : goal.returns
-returns c = more_is_the_same

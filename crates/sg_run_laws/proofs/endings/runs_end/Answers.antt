@@ -1,5 +1,0 @@
-use Rattle.sg_run_laws.proofs.ending_lemmas.Ends.{runs_end}
-use Rattle.sg_run_laws.proofs.endings.runs_end.Goals as goal
-
-pub returns : goal.returns
-returns c = runs_end

@@ -1,0 +1,10 @@
+use Rattle.std.proofs.Common.{◌≡◌, drop, is_some, map}
+use Rattle.std.specs.List.{list_all}
+use Rattle.sg_toml_rules.specs.Profiles.{amount_in}
+use Rattle.toml.specs.View.{view}
+use Rattle.sg_toml_rules.proofs.profiles.are_amounts.Given as goal
+
+abbrev pub invariant-loop-item : goal.invariant-loop-item
+invariant-loop-item l =
+    list_all (λ item. is_some (amount_in l.quantity item)) (map view (drop l.item-index l.items))
+    ≡ list_all (λ item. is_some (amount_in l.quantity item)) (map view l.items)
