@@ -14,8 +14,6 @@ mod plain_context;
 mod role;
 mod seat;
 mod tape_context;
-#[cfg(test)]
-mod tests;
 mod turns;
 
 pub use actor::Actor;

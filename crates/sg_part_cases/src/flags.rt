@@ -2,11 +2,7 @@
 ghost use Rattle.std.specs.Prelude.{IfOk};
 ghost use Rattle.sg_actor.specs.Seats.{CanTurn, seat_view};
 
-use crate::actor::Actor;
-use crate::plain_context::PlainContext;
-use crate::role::Role;
-use crate::seat::Seat;
-use crate::turns::run_round;
+use sg_actor::{Actor, PlainContext, Role, Seat, run_round};
 use sg_base::{ActorId, Answer, Call, Memory};
 use std::alloc::Global;
 use std::sync::Arc;
