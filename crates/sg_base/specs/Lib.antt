@@ -1,4 +1,5 @@
 pub mod Draw
+pub mod Ledgers
 pub mod Limits
 pub mod Lines
 pub mod MarkSet

@@ -1,6 +1,6 @@
 //! A set of numbers below a room, in the order in which they came.
 
-ghost use Rattle.std.specs.Prelude.{◌≡◌, ◌≢◌, ◌≤◌, ◌<◌, ◌+◌, ℕ, false, OnOk, OnErr, [], length, max, AllPairs, All};
+ghost use Rattle.std.specs.Prelude.{◌≡◌, ◌≢◌, ◌≤◌, ◌<◌, ◌+◌, ℕ, false, MatchResult, OnOk, [], length, max, AllPairs, All};
 ghost use Rattle.sg_base.specs.MarkSet.{with_mark, is_in};
 
 use crate::memory::Memory;
@@ -111,17 +111,15 @@ impl Marks {
 
     // Makes room for one more.
     fn grow(&mut self) -> Result<(), Memory>
-        ensures grown { OnOk result (self.new ≡ record self.old { room = self.old.room + 1 }) }
-        ensures failed { OnErr result (self.new ≡ self.old) }
+        ensures { MatchResult result
+            (λ _. self.new ≡ record self.old { room = self.old.room + 1 })
+            (λ _. self.new ≡ self.old) }
     {
         let number = self.place.len();
         if number >= MOST {
             return Err(Memory);
         }
-        match self.order.push(number) {
-            Ok(()) => {}
-            Err(_) => return Err(Memory),
-        }
+        self.order.push(number)?;
         match self.place.push(number as u32) {
             Ok(()) => Ok(()),
             Err(_) => {
