@@ -82,9 +82,3 @@ limited_none g d s p q n size read short some is =
     let x = d * s * 10 ^ p / 10 ^ q in
     let above : g < x / size.denominator = beyond g size.denominator x some (none_beyond ((g + 1) * size.denominator - 1) x is) in
     rw short (up_to_beyond g (x / size.denominator) above ∙ ap (up_to g) (value_by_steps n size d s p q read))
-
-limit_cases : (g v w : ℕ) → Ok v ≡ up_to g w → v ≤ g
-limit_cases g v w is = grind (arith, nat_tests)
-
-pub limited_limit : (g v : ℕ) (n : Number) (size : Ratio) → is_short n ≡ true → Ok v ≡ value_in_unit g n (Some size) → v ≤ g
-limited_limit g v n size short is = limit_cases g v (value_of n size) (is ∙ rw short refl)

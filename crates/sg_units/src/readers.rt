@@ -48,28 +48,20 @@ fn exponent_of(number: &Number) -> u32
     read_after(0, number.exponent) as u32
 }
 
-fn power_of(number: &Number) -> u32
+// Returns the power of ten that the digits are multiplied by, and the one that they are divided by.
+fn powers_of(number: &Number) -> (u32, u32)
     requires { HasFewDigits number.now }
-    ensures { result
+    ensures power { result.0
         ≡ if number.now.is_negative then 0 else digits_value 10 number.now.exponent.now }
-{
-    if number.is_negative {
-        0
-    } else {
-        exponent_of(number)
-    }
-}
-
-fn places_of(number: &Number) -> u32
-    requires { HasFewDigits number.now }
-    ensures { result ≡ length number.now.fraction.now
+    ensures places { result.1 ≡ length number.now.fraction.now
         + (if number.now.is_negative then digits_value 10 number.now.exponent.now else 0) }
 {
+    let exponent = exponent_of(number);
     let places = number.fraction.len() as u32;
     if number.is_negative {
-        places + exponent_of(number)
+        (0, places + exponent)
     } else {
-        places
+        (exponent, places)
     }
 }
 
@@ -78,8 +70,7 @@ fn short_value(number: &Number, size: Ratio, greatest: u64) -> Result<u64, Amoun
     requires digits { HasDigits number.now }
     requires size { IsSize size }
     requires greatest { greatest ≤ 10 ^ 18 }
-    ensures value { result ≡ value_in_unit greatest (parts_of number.now) (Some size) }
-    ensures limit { IfOk result (λ n. n ≤ greatest) }
+    ensures { result ≡ value_in_unit greatest (parts_of number.now) (Some size) }
 {
     if !is_short(number) {
         return Err(AmountFault::TooLarge);
@@ -87,7 +78,8 @@ fn short_value(number: &Number, size: Ratio, greatest: u64) -> Result<u64, Amoun
     let product = digits_of(number) * u128::from(size.numerator);
     // Over the denominator and rounded down, this is the greatest value.
     let most = (greatest + 1) * size.denominator - 1;
-    match scaled(product, power_of(number), places_of(number), most) {
+    let (power, places) = powers_of(number);
+    match scaled(product, power, places, most) {
         Some(value) => Ok(value / size.denominator),
         None => Err(AmountFault::TooLarge),
     }
@@ -110,39 +102,45 @@ fn whole_value(number: u64, size: Ratio, greatest: u64) -> Result<u64, AmountFau
     Ok(product as u64 / size.denominator)
 }
 
-fn any_amount_by(units: &[UnitRow], greatest: u64, text: &[u8]) -> Result<u64, AmountFault>
-    requires units { IsTrue (are_sizes (rows units.now)) }
-    requires greatest { greatest ≤ 10 ^ 18 }
-    ensures value { result ≡ amount_by (rows units.now) greatest text.now }
-    ensures limit { IfOk result (λ n. n ≤ greatest) }
-{
-    let number = Number::split(text);
-    if number.whole.is_empty() {
-        return Err(AmountFault::NotANumber);
+/// The units of a reader, and the greatest value that it returns.
+#[derive(Clone, Copy)]
+struct Reader<'u> {
+    units: &'u [UnitRow],
+    greatest: u64,
+    ghost sizes: { IsTrue (are_sizes (rows units.now)) },
+    ghost small: { greatest ≤ 10 ^ 18 },
+}
+
+impl Reader<'_> {
+    fn read_any(&self, text: &[u8]) -> Result<u64, AmountFault>
+        ensures { result ≡ amount_by (rows self.now.units.now) self.now.greatest text.now }
+    {
+        let number = Number::split(text);
+        if number.whole.is_empty() {
+            return Err(AmountFault::NotANumber);
+        }
+        match size_of(self.units, number.unit) {
+            Some(size) => short_value(&number, size, self.greatest),
+            None => Err(AmountFault::UnknownUnit),
+        }
     }
-    match size_of(units, number.unit) {
-        Some(size) => short_value(&number, size, greatest),
-        None => Err(AmountFault::UnknownUnit),
+
+    // Does the same, sooner if the number is digits alone, as most are.
+    fn read(&self, text: &[u8]) -> Result<u64, AmountFault>
+        ensures value { result ≡ amount_by (rows self.now.units.now) self.now.greatest text.now }
+        ensures limit { IfOk result (λ n. n ≤ self.now.greatest) }
+    {
+        let Some(front) = plain_front(text) else {
+            return self.read_any(text);
+        };
+        let Some(size) = size_of(self.units, front.1) else {
+            return Err(AmountFault::UnknownUnit);
+        };
+        whole_value(front.0, size, self.greatest)
     }
 }
 
-// Does the same, sooner if the number is digits alone, as most are.
-fn amount_by(units: &[UnitRow], greatest: u64, text: &[u8]) -> Result<u64, AmountFault>
-    requires units { IsTrue (are_sizes (rows units.now)) }
-    requires greatest { greatest ≤ 10 ^ 18 }
-    ensures value { result ≡ amount_by (rows units.now) greatest text.now }
-    ensures limit { IfOk result (λ n. n ≤ greatest) }
-{
-    let Some(front) = plain_front(text) else {
-        return any_amount_by(units, greatest, text);
-    };
-    let Some(size) = size_of(units, front.1) else {
-        return Err(AmountFault::UnknownUnit);
-    };
-    whole_value(front.0, size, greatest)
-}
-
-// Does the same with no unit. Most amounts are digits alone, and need no more than these.
+// Reads an amount that has no unit. Most amounts are digits alone, and need no more than these.
 fn amount_without_unit(greatest: u64, text: &[u8]) -> Result<u64, AmountFault>
     requires { greatest ≤ 10 ^ 18 }
     ensures value { result ≡ amount_by amount_units greatest text.now }
@@ -150,7 +148,11 @@ fn amount_without_unit(greatest: u64, text: &[u8]) -> Result<u64, AmountFault>
 {
     match plain_number(text) {
         Some(n) if n <= greatest => Ok(n),
-        _ => amount_by(&AMOUNT_UNITS, greatest, text),
+        _ => Reader {
+            units: &AMOUNT_UNITS,
+            greatest,
+        }
+        .read(text),
     }
 }
 
@@ -167,7 +169,11 @@ pub fn read_speed(text: &[u8]) -> Result<u64, AmountFault>
     ensures value { result ≡ speed_of text.now }
     ensures limit { IfOk result (λ n. n ≤ 10 ^ 15) }
 {
-    amount_by(&SPEED_UNITS, GREATEST_AMOUNT, text)
+    Reader {
+        units: &SPEED_UNITS,
+        greatest: GREATEST_AMOUNT,
+    }
+    .read(text)
 }
 
 /// Reads a bandwidth in bytes per second, up to 10^15. The units that end in `bps` are bits per second.
@@ -175,7 +181,11 @@ pub fn read_bandwidth(text: &[u8]) -> Result<u64, AmountFault>
     ensures value { result ≡ bandwidth_of text.now }
     ensures limit { IfOk result (λ n. n ≤ 10 ^ 15) }
 {
-    amount_by(&BANDWIDTH_UNITS, GREATEST_AMOUNT, text)
+    Reader {
+        units: &BANDWIDTH_UNITS,
+        greatest: GREATEST_AMOUNT,
+    }
+    .read(text)
 }
 
 // Reads a time in any form.
@@ -183,7 +193,11 @@ fn any_time(text: &[u8]) -> Result<u64, AmountFault>
     ensures value { result ≡ time_of text.now }
     ensures limit { IfOk result IsTime }
 {
-    amount_by(&TIME_UNITS, GREATEST_TIME, text)
+    Reader {
+        units: &TIME_UNITS,
+        greatest: GREATEST_TIME,
+    }
+    .read(text)
 }
 
 /// Reads a time in nanoseconds, up to 10^18. Without a unit it is in seconds.
@@ -205,5 +219,9 @@ pub fn read_factor(text: &[u8]) -> Result<u64, AmountFault>
     ensures value { result ≡ factor_of text.now }
     ensures limit { IfOk result (λ n. n ≤ 10 ^ 9) }
 {
-    amount_by(&FACTOR_UNITS, GREATEST_FACTOR, text)
+    Reader {
+        units: &FACTOR_UNITS,
+        greatest: GREATEST_FACTOR,
+    }
+    .read(text)
 }
