@@ -1,5 +1,5 @@
 //! Three input streams in memory, with calls that fail at given numbers.
-ghost use Rattle.std.specs.Prelude.{◌≡◌, ◌+◌, ◌<◌, ◌≤◌, length, take, not, is_ok, IfOk, OnOk, OnErr};
+ghost use Rattle.std.specs.Prelude.{◌≡◌, ◌+◌, ◌<◌, ◌≤◌, length, take, not, is_ok, IfOk, MatchResult, OnOk, OnErr};
 ghost use Rattle.std.specs.Option.{option_copied};
 ghost use Rattle.sg_edge.specs.declared.files.Stage.TheVariants.{Fresh, Begun};
 ghost use Rattle.sg_edge.specs.Files.{Begins, Breaks, Takes, Only};
@@ -59,8 +59,8 @@ impl MemFiles {
     /// one, or none.
     pub fn rename(&mut self, alloc: Global, part: Part, name: &str) -> Result<(), Memory>
         requires { (mem_view self.old part).stage ≡ Fresh }
-        ensures renamed { OnOk result (Renames part name.now self.old self.new) }
-        ensures memory { OnErr result (self.new ≡ self.old) }
+        ensures { MatchResult result (λ _. Renames part name.now self.old self.new)
+            (λ _. self.new ≡ self.old) }
     {
         let name = Some(String::from_str(alloc, name)?);
         match part {

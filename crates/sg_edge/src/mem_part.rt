@@ -26,7 +26,7 @@ pub struct MemPart {
 }
 
 impl MemPart {
-    ghost use Rattle.sg_edge.specs.kept.Parts.{part_name, part_read, part_steps, part_view, takes_name, IsFreshPart, KeepsPart};
+    ghost use Rattle.sg_edge.specs.kept.Parts.{CanRead, part_name, part_read, part_steps, part_view, takes_name, IsFreshPart, KeepsPart};
 
     pub fn new(alloc: Global, bytes: Option<&[u8]>) -> Result<MemPart, Memory>
         ensures { IfOk result (IsFreshPart (option_copied bytes.entry)) }
@@ -75,9 +75,7 @@ impl MemPart {
     }
 
     pub fn read(&mut self, fails: bool, buf: &mut [u8]) -> Result<usize, Failed>
-        requires begun { self.old.stage ≡ Begun }
-        requires room { 0 < length buf.old }
-        ensures count { IfOk result (λ n. n ≤ length buf.new) }
+        requires { CanRead self.old (length buf.old) }
         ensures most { IfOk result (λ n. n ≡ part_read self.old (length buf.old)) }
         ensures took { IfOk result
             (λ n. Takes (take n buf.new) (part_view self.old) (part_view self.new)) }

@@ -23,9 +23,7 @@ impl Sinks for SureSinks {
     ghost faults = { sure_faults };
 
     fn write(&mut self, to: Stream, piece: &[u8]) -> Result<usize, Failed>
-        requires some { 0 < length piece.now }
         requires sound { sure_faults self.old ≡ 0 }
-        ensures count { IfOk result (λ n. (0 < n) × (n ≤ length piece.now)) }
         ensures wrote { IfOk result
             (λ n. sure_contents self.new to ≡ gain (sure_contents self.old to) (take n piece.now)) }
         ensures sound { OnOk result (sure_faults self.new ≡ sure_faults self.old) }

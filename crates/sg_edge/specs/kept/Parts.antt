@@ -1,5 +1,5 @@
 -- What an input stream in memory shows by its fields, and what of them its calls leave.
-use Rattle.std.specs.Prelude.{◌≡◌, ◌+◌, ◌^◌, ◌-◌, ℕ, List, [], drop, length, min, Option, Some, None, option_map, unwrap_or, is_some, Bool, true, bytes_eq, if◌then◌else◌, string_bytes}
+use Rattle.std.specs.Prelude.{◌≡◌, ◌<◌, ◌+◌, ◌^◌, ◌-◌, ℕ, List, [], drop, length, min, Option, Some, None, option_map, unwrap_or, is_some, Bool, true, bytes_eq, if◌then◌else◌, string_bytes}
 use Rattle.std.specs.Option.{option_map_or}
 use Rattle.std.proofs.Common.{arith, refl}
 use Rattle.std.proofs.lemmas.List.{drop_all}
@@ -81,3 +81,8 @@ part_over p over = drop_all p.taken p.bytes.items (omega (arith, p.ended over))
 -- one that isn't begun has no name
 pub part_unnamed : (p : MemPart) → p.stage ≡ Fresh → name_begun p ≡ None
 part_unnamed p fresh = rw (p.unbegun fresh) refl
+
+-- a read may follow: it is open, and so many bytes, at least one, have room
+pub record CanRead (part : MemPart) (room : ℕ) : Type 0 where
+  pub begun : part.stage ≡ Begun
+  pub some : 0 < room
