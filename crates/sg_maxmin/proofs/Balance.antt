@@ -1,7 +1,7 @@
 -- Balanced levels are the max-min levels.
 use Rattle.std.proofs.Common.{◌≡◌, ℕ, zero, suc, ◌+◌, ◌-◌, ◌*◌, ◌/◌, ◌<◌, ◌≤◌, ◌⊎◌, inl, inr, Bool, true, false, cond, ◌&&◌, ◌==◌, lt-ltb, le-ltb, true≢false, eqb-true, Option, Some, None, is_none, List, [], ◌∷◌, slice_index, refl, sym, ap, ap₂, subst, ◌∙◌, arith, mul-add, le-div_iff_mul-le, div-mul-le_self, mul-le-mul_left, mul_comm}
 use Rattle.sg_maxmin.specs.Fill.{Flow, is_on, level_of, bound_level}
-use Rattle.sg_maxmin.specs.Fixing.{Fixed, taken, waiting, level, limits, share_of_fixed}
+use Rattle.sg_maxmin.specs.Fixing.{Fixed, taken, waiting, resource_level, flow_limits, share_of_fixed}
 use Rattle.sg_maxmin.proofs.Members.{In, In-from_contains, contains_from_In, list_any_back}
 use Rattle.sg_maxmin.proofs.Sums.{sum_by_same, sum_by_le, sum_by-add, sum_by-mul}
 use Rattle.sg_maxmin.proofs.OneStep.{limit_cases, limit_bound, limit_level, is_at_back, is_at_in}
@@ -32,8 +32,8 @@ and_same : (b x y : Bool) (w : ℕ) → (b ≡ true → x ≡ y) → cond (b && 
 and_same true x y w h = ap (λ z. cond z w 0) (h refl)
 and_same false x y w h = refl
 
-pub level_same_on : (caps : List ℕ) (flows : List Flow) (a b : Fixed) (c : ℕ) → ((f : Flow) → In f flows → is_on c f ≡ true → a f ≡ b f) → level caps flows a c ≡ level caps flows b c
-unfolding level taken waiting
+pub level_same_on : (caps : List ℕ) (flows : List Flow) (a b : Fixed) (c : ℕ) → ((f : Flow) → In f flows → is_on c f ≡ true → a f ≡ b f) → resource_level caps flows a c ≡ resource_level caps flows b c
+unfolding resource_level taken waiting
 level_same_on caps flows a b c h =
     ap₂ (λ t w. (slice_index caps c - t) / w)
     (sum_by_same _ _ flows (λ f i. cond_same (is_on c f) (share_of_fixed f (a f)) (share_of_fixed f (b f)) (λ on. ap (share_of_fixed f) (h f i on))))
@@ -63,7 +63,7 @@ less_or n t h = grind arith
 
 -- if none has the level t, nothing changes from t to t + 1
 pub none_at : (caps : List ℕ) (flows : List Flow) (levels : Flow → ℕ) (c t : ℕ) → ((g : Flow) → In g flows → is_on c g ≡ true → (levels g ≡ t) → ⊥) →
-    level caps flows (below levels t) c ≡ level caps flows (below levels (t + 1)) c
+    resource_level caps flows (below levels t) c ≡ resource_level caps flows (below levels (t + 1)) c
 none_at caps flows levels c t none = level_same_on caps flows (below levels t) (below levels (t + 1)) c (λ g i on.
     elim (less_or (levels g) t (none g i on)) [
       | inl less ↦ below_yes levels t g less ∙ sym (below_yes levels (t + 1) g (omega (arith, less)))
@@ -72,24 +72,24 @@ none_at caps flows levels c t none = level_same_on caps flows (below levels t) (
 
 -- ---- from the conditions to the max-min solve
 above_step : (caps : List ℕ) (flows : List Flow) (levels : Flow → ℕ) → IsBalanced caps flows levels → (f : Flow) → In f flows → (c : ℕ) → is_on c f ≡ true → (t : ℕ) → t < levels f →
-    t + 1 ≤ level caps flows (below levels (t + 1)) c → t < level caps flows (below levels t) c
+    t + 1 ≤ resource_level caps flows (below levels (t + 1)) c → t < resource_level caps flows (below levels t) c
 above_step caps flows levels balanced f i c on t under next = elim (any_at levels c t flows) [
-  | inl r ↦ subst (λ x. x < level caps flows (below levels x) c) r.3 (balanced.strictly r.0 f c (contains_from_In flows r.0 r.1) (contains_from_In flows f i) r.2 on (omega (arith, r.3, under)))
+  | inl r ↦ subst (λ x. x < resource_level caps flows (below levels x) c) r.3 (balanced.strictly r.0 f c (contains_from_In flows r.0 r.1) (contains_from_In flows f i) r.2 on (omega (arith, r.3, under)))
   | inr none ↦ omega (arith, none_at caps flows levels c t none, next)
 ]
 
 pub above_on : (d : ℕ) (caps : List ℕ) (flows : List Flow) (levels : Flow → ℕ) → IsBalanced caps flows levels → (f : Flow) → In f flows → (c : ℕ) → is_on c f ≡ true → (t : ℕ) → t + 1 + d ≡ levels f →
-    t < level caps flows (below levels t) c
+    t < resource_level caps flows (below levels t) c
 above_on zero caps flows levels balanced f i c on t e =
     let is : levels f ≡ t + 1 = omega (arith, e) in
-    above_step caps flows levels balanced f i c on t (omega (arith, e)) (subst (λ x. x ≤ level caps flows (below levels x) c) is (balanced.holds f c (contains_from_In flows f i) on))
+    above_step caps flows levels balanced f i c on t (omega (arith, e)) (subst (λ x. x ≤ resource_level caps flows (below levels x) c) is (balanced.holds f c (contains_from_In flows f i) on))
 above_on (suc d) caps flows levels balanced f i c on t e =
     let far : t + 1 + 1 + d ≡ levels f = omega (arith, e) in
     above_step caps flows levels balanced f i c on t (omega (arith, e)) (omega (arith, above_on d caps flows levels balanced f i c on (t + 1) far))
 
 pub leveled_from : (caps : List ℕ) (flows : List Flow) (levels : Flow → ℕ) → IsBalanced caps flows levels → IsLeveled caps flows levels
 leveled_from caps flows levels balanced = record {
-  met = λ f i. subst (λ a. In (levels f) (limits caps flows a f)) (sym (same_below levels (levels f))) (is_at_back caps flows (below levels (levels f)) (levels f) f (balanced.cause f (contains_from_In flows f i)));
+  met = λ f i. subst (λ a. In (levels f) (flow_limits caps flows a f)) (sym (same_below levels (levels f))) (is_at_back caps flows (below levels (levels f)) (levels f) f (balanced.cause f (contains_from_In flows f i)));
   above = λ f i t under l m.
       elim (limit_cases caps flows (below_share t levels) f l m) [
         | inl b ↦ omega (arith, under, balanced.within f b.0 (contains_from_In flows f i) b.1, b.2)
@@ -97,7 +97,7 @@ leveled_from caps flows levels balanced = record {
             let d = levels f - (t + 1) in
             let e : t + 1 + d ≡ levels f = omega (arith, under) in
             let up = above_on d caps flows levels balanced f i r.0 (is_on_uses r.0 f r.1) t e in
-            omega (arith, up, r.2, ap (λ a. level caps flows a r.0) (same_below levels t))
+            omega (arith, up, r.2, ap (λ a. resource_level caps flows a r.0) (same_below levels t))
       ];
 }
 
@@ -165,9 +165,9 @@ level_kept cap t w t' w' q pos less e h =
     (le-div_iff_mul-le pos).1 (kept cap t w' t' d q room given)
 
 -- from x on to y the flows of the levels between are fixed; if these are at the level of the resource at most, it doesn't fall
-pub rises : (caps : List ℕ) (flows : List Flow) (levels : Flow → ℕ) (c x y : ℕ) → x ≤ y → y ≤ level caps flows (below levels x) c + 1 → 0 < waiting flows (below levels y) c →
-    level caps flows (below levels x) c ≤ level caps flows (below levels y) c
-unfolding level
+pub rises : (caps : List ℕ) (flows : List Flow) (levels : Flow → ℕ) (c x y : ℕ) → x ≤ y → y ≤ resource_level caps flows (below levels x) c + 1 → 0 < waiting flows (below levels y) c →
+    resource_level caps flows (below levels x) c ≤ resource_level caps flows (below levels y) c
+unfolding resource_level
 rises caps flows levels c x y less most pos =
     let a = below levels x in
     let b = below levels y in
@@ -189,8 +189,8 @@ filling_balances_lem caps flows limits' =
     let limited = limited_from caps flows limits' in
     let leveled = share_of_leveled caps flows limited in
     let above = λ (f : Flow) (i : In f flows) (c : ℕ) (on : is_on c f ≡ true) (t : ℕ) (under : t < levels f).
-    let goal : t < level caps flows (below levels t) c =
-    subst (λ a. t < level caps flows a c) (same_below levels t) (leveled.above f i t under (level caps flows (below_share t levels) c) (limit_level caps flows (below_share t levels) f c (on_uses c f on))) in goal in
+    let goal : t < resource_level caps flows (below levels t) c =
+    subst (λ a. t < resource_level caps flows a c) (same_below levels t) (leveled.above f i t under (resource_level caps flows (below_share t levels) c) (limit_level caps flows (below_share t levels) f c (on_uses c f on))) in goal in
     record {
       within = λ f bound there e.
           elim (level_cases (levels f)) [
@@ -208,5 +208,5 @@ filling_balances_lem caps flows limits' =
           ];
       strictly = λ f other c there there' on on' less. above other (In-from_contains flows other there') c on' (levels f) less;
       cause = λ f there.
-          is_at_in caps flows (below levels (levels f)) (levels f) f (subst (λ a. In (levels f) (limits caps flows a f)) (same_below levels (levels f)) (leveled.met f (In-from_contains flows f there)));
+          is_at_in caps flows (below levels (levels f)) (levels f) f (subst (λ a. In (levels f) (flow_limits caps flows a f)) (same_below levels (levels f)) (leveled.met f (In-from_contains flows f there)));
     }

@@ -3,7 +3,7 @@ use Rattle.std.proofs.Common.{◌≡◌, ℕ, ◌<◌, ◌≤◌, inl, inr, true
 use Rattle.sg_base.specs.MarkSet.{is_in}
 use Rattle.sg_maxmin.specs.Chained.{users_on}
 use Rattle.sg_maxmin.specs.Fill.{Flow, level_of, bound_level}
-use Rattle.sg_maxmin.specs.Fixing.{level}
+use Rattle.sg_maxmin.specs.Fixing.{resource_level}
 use Rattle.sg_maxmin.specs.Sharing.{Sharing, IsSound, flow_at, held}
 use Rattle.sg_maxmin.proofs.Members.{In}
 use Rattle.sg_maxmin.proofs.Held.{held_in, is_held_lem}
@@ -30,7 +30,7 @@ module _ (s : Sharing) (levels : List (Option ℕ)) (sound : IsSound s) (are : (
         | inr more ↦ at_no levels t id (q flow) (are id flow e) more ∙ sym (below_no t q flow more)
       ]
 
-  pub seen : (t c : ℕ) → level s.capacities (held s.slots) (below_share t (level_of s.capacities (held s.slots))) c ≡ row_level (slice_index s.capacities c) s.slots (below_at levels t) (users_on s.users c)
+  pub seen : (t c : ℕ) → resource_level s.capacities (held s.slots) (below_share t (level_of s.capacities (held s.slots))) c ≡ row_level (slice_index s.capacities c) s.slots (below_at levels t) (users_on s.users c)
   seen t c =
       let q = level_of s.capacities (held s.slots) in
       row_tells_lem s (below_share t q) c sound
@@ -46,7 +46,7 @@ module _ (s : Sharing) (levels : List (Option ℕ)) (sound : IsSound s) (are : (
       let f = on_held s sound c id i in
       let is : x ≡ q f.0 = some_same x (q f.0) (sym e ∙ are id f.0 f.1) in
       let a = below_share t q in
-      omega (arith, seen t c, leveled.above f.0 (held_in s.slots id f.0 f.1) t (omega (arith, under, is)) (level s.capacities (held s.slots) a c) (limit_level s.capacities (held s.slots) a f.0 c (on_uses c f.0 f.2)))
+      omega (arith, seen t c, leveled.above f.0 (held_in s.slots id f.0 f.1) t (omega (arith, under, is)) (resource_level s.capacities (held s.slots) a c) (limit_level s.capacities (held s.slots) a f.0 c (on_uses c f.0 f.2)))
 
   -- and no lower than its users
   no_lower : (id c : ℕ) → is_in id (users_on s.users c) ≡ true → (x : ℕ) → level_at levels id ≡ Some x → x ≤ row_level (slice_index s.capacities c) s.slots (below_at levels x) (users_on s.users c)
@@ -55,7 +55,7 @@ module _ (s : Sharing) (levels : List (Option ℕ)) (sound : IsSound s) (are : (
       let f = on_held s sound c id i in
       let is : q f.0 ≡ x = some_same (q f.0) x (sym (are id f.0 f.1) ∙ e) in
       let holds = (filling_balances_lem s.capacities (held s.slots) (held_limits s sound)).holds f.0 c (is_held_lem s.slots id f.0 f.1) f.2 in
-      omega (arith, seen x c, subst (λ y. y ≤ level s.capacities (held s.slots) (below_share y q) c) is (subst (λ a. q f.0 ≤ level s.capacities (held s.slots) a c) (sym (same_below q (q f.0))) holds))
+      omega (arith, seen x c, subst (λ y. y ≤ resource_level s.capacities (held s.slots) (below_share y q) c) is (subst (λ a. q f.0 ≤ resource_level s.capacities (held s.slots) a c) (sym (same_below q (q f.0))) holds))
 
   pub full_holds : (id c x : ℕ) → is_in id (users_on s.users c) ≡ true → level_at levels id ≡ Some x → row_level (slice_index s.capacities c) s.slots (below_at levels x) (users_on s.users c) ≡ x → IsHold (slice_index s.capacities c) s.slots levels (users_on s.users c) (Some x)
   full_holds id c x i e full = record {
@@ -96,10 +96,10 @@ module _ (s : Sharing) (levels : List (Option ℕ)) (holds : ℕ → Option ℕ)
         | inr ok ↦ ok
         | inl less ↦
             let met = subst (λ o. IfSome o (λ x. (0 < row_waiting s.slots (below_at levels x) (users_on s.users c)) × (row_level (slice_index s.capacities c) s.slots (below_at levels x) (users_on s.users c) ≡ x))) is (holds_are c (exists_of s sound id c flow e i)).met in
-            absurd (omega (arith, met.1, seen s levels sound are h c, (leveled s levels sound are).above flow (held_in s.slots id flow e) h less (level s.capacities (held s.slots) (below_share h q) c) (limit_level s.capacities (held s.slots) (below_share h q) flow c i)))
+            absurd (omega (arith, met.1, seen s levels sound are h c, (leveled s levels sound are).above flow (held_in s.slots id flow e) h less (resource_level s.capacities (held s.slots) (below_share h q) c) (limit_level s.capacities (held s.slots) (below_share h q) flow c i)))
       ]
 
-  caused : (id c : ℕ) (flow : Flow) → flow_at s.slots id ≡ Some flow → In c flow.uses → level s.capacities (held s.slots) (below_share (level_of s.capacities (held s.slots) flow) (level_of s.capacities (held s.slots))) c ≡ level_of s.capacities (held s.slots) flow → (hold : Option ℕ) → holds c ≡ hold →
+  caused : (id c : ℕ) (flow : Flow) → flow_at s.slots id ≡ Some flow → In c flow.uses → resource_level s.capacities (held s.slots) (below_share (level_of s.capacities (held s.slots) flow) (level_of s.capacities (held s.slots))) c ≡ level_of s.capacities (held s.slots) flow → (hold : Option ℕ) → holds c ≡ hold →
       hold ≡ Some (level_of s.capacities (held s.slots) flow)
   caused id c flow e i at hold is =
       let q = level_of s.capacities (held s.slots) in

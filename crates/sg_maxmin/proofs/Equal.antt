@@ -3,8 +3,8 @@ use Rattle.std.proofs.Common.{◌≡◌, ℕ, zero, suc, ◌-◌, ◌*◌, ◌/�
 use Rattle.std.specs.Option.{unwrap_or}
 use Rattle.std.specs.List.{list_any}
 use Rattle.sg_maxmin.specs.Fill.{Flow, is_on, bounded, share_at, bound_level, least, share_of}
-use Rattle.sg_maxmin.specs.Fixing.{Fixed, share_of_fixed, taken, waiting, level, limits, lowest, is_at, step, steps_from, unfixed}
-use Rattle.sg_maxmin.specs.Unweighted.{taken as equal_taken, waiting as equal_waiting, level as equal_level, limits as equal_limits, lowest as equal_lowest, is_at as equal_at, step as equal_step, steps_from as equal_steps, share_of as equal_share, FillsEqually}
+use Rattle.sg_maxmin.specs.Fixing.{Fixed, share_of_fixed, taken, waiting, resource_level, flow_limits, lowest_limit, is_limited_at, step, steps_from, unfixed}
+use Rattle.sg_maxmin.specs.Unweighted.{equal_taken, equal_waiting, equal_level, equal_limits, equal_lowest, is_equal_limit, equal_step, equal_steps, equal_share, FillsEqually}
 use Rattle.sg_maxmin.proofs.Members.{In, contains_from_In}
 use Rattle.sg_maxmin.proofs.Sums.{sum_by_same}
 use Rattle.sg_maxmin.proofs.Staged.{level_is_fixed_lem}
@@ -66,31 +66,31 @@ module _ (caps : List ℕ) (flows : List Flow) (one : (f : Flow) → In f flows 
       sum_by_same (λ f. cond (is_on c f && is_none (a f)) f.weight 0) (λ f. cond (is_on c f && is_none (b f)) 1 0) flows
       (λ f i. ap₂ (λ o w. cond (is_on c f && is_none o) w 0) (alike.same f i) (one f i))
 
-  level_same : (a b : Fixed) (c : ℕ) → AreAlike a b → level caps flows a c ≡ equal_level caps flows b c
-  unfolding level equal_level
+  level_same : (a b : Fixed) (c : ℕ) → AreAlike a b → resource_level caps flows a c ≡ equal_level caps flows b c
+  unfolding resource_level equal_level
   level_same a b c alike = ap₂ (λ t w. (slice_index caps c - t) / w) (taken_same a b c alike) (waiting_same a b c alike)
 
-  limits_same : (a b : Fixed) → AreAlike a b → (f : Flow) → In f flows → limits caps flows a f ≡ equal_limits caps flows b f
-  unfolding limits equal_limits
-  limits_same a b alike f i = ap₂ (λ xs ys. xs ++ ys) (first f.bound) (map_same (level caps flows a) (equal_level caps flows b) f.uses (λ c j. level_same a b c alike))
+  limits_same : (a b : Fixed) → AreAlike a b → (f : Flow) → In f flows → flow_limits caps flows a f ≡ equal_limits caps flows b f
+  unfolding flow_limits equal_limits
+  limits_same a b alike f i = ap₂ (λ xs ys. xs ++ ys) (first f.bound) (map_same (resource_level caps flows a) (equal_level caps flows b) f.uses (λ c j. level_same a b c alike))
     where
       first : (o : Option ℕ) → option_to_list (option_map (bound_level f.weight) o) ≡ option_to_list o
       first None = refl
       first (Some bound) = ap (λ n. n ∷ []) (ap (λ w. bound_level w bound) (one f i) ∙ bound_one bound)
 
-  lowest_same : (a b : Fixed) → AreAlike a b → lowest caps flows a ≡ equal_lowest caps flows b
-  unfolding lowest equal_lowest
+  lowest_same : (a b : Fixed) → AreAlike a b → lowest_limit caps flows a ≡ equal_lowest caps flows b
+  unfolding lowest_limit equal_lowest
   lowest_same a b alike =
-      ap least (flat_same (λ f. is_none (a f)) (λ f. is_none (b f)) (limits caps flows a) (equal_limits caps flows b) flows
+      ap least (flat_same (λ f. is_none (a f)) (λ f. is_none (b f)) (flow_limits caps flows a) (equal_limits caps flows b) flows
       (λ f i. (ap is_none (alike.same f i), limits_same a b alike f i)))
 
   step_same : (a b : Fixed) → AreAlike a b → (f : Flow) → In f flows → step caps flows a f ≡ equal_step caps flows b f
-  unfolding step equal_step is_at equal_at
+  unfolding step equal_step is_limited_at is_equal_limit
   step_same a b alike f i =
       let low = lowest_same a b alike in
-      let at : is_at caps flows a (lowest caps flows a) f ≡ equal_at caps flows b (equal_lowest caps flows b) f = ap₂ (λ n ls. list_any (λ l. l == n) ls) low (limits_same a b alike f i) in
+      let at : is_limited_at caps flows a (lowest_limit caps flows a) f ≡ is_equal_limit caps flows b (equal_lowest caps flows b) f = ap₂ (λ n ls. list_any (λ l. l == n) ls) low (limits_same a b alike f i) in
       ap₂ (λ n t. cond (is_none (a f) && t) (Some n) (a f)) low at
-      ∙ ap (λ o. cond (is_none o && equal_at caps flows b (equal_lowest caps flows b) f) (Some (equal_lowest caps flows b)) o) (alike.same f i)
+      ∙ ap (λ o. cond (is_none o && is_equal_limit caps flows b (equal_lowest caps flows b) f) (Some (equal_lowest caps flows b)) o) (alike.same f i)
 
   step_alike : (a b : Fixed) → AreAlike a b → AreAlike (step caps flows a) (equal_step caps flows b)
   step_alike a b alike = record {

@@ -5,7 +5,7 @@ use Rattle.std.proofs.lemmas.List.Sums.{sum_by-cons, count_by-le-length}
 use Rattle.sg_maxmin.specs.declared.flow_row.FlowRow.{FlowRow}
 use Rattle.sg_maxmin.specs.declared.uses.Use.{Use}
 use Rattle.sg_maxmin.specs.Fill.{Flow, is_on, least, bounded, bound_level, share_at, level_of, share_of}
-use Rattle.sg_maxmin.specs.Fixing.{Fixed, taken, waiting, level, limits, lowest, step, steps_from, unfixed, share_of_fixed}
+use Rattle.sg_maxmin.specs.Fixing.{Fixed, taken, waiting, resource_level, flow_limits, lowest_limit, step, steps_from, unfixed, share_of_fixed}
 use Rattle.sg_maxmin.specs.Laws.{HaveLimits}
 use Rattle.sg_maxmin.specs.Sharing.{Sharing, HasLimit, held, flow_at}
 use Rattle.sg_maxmin.specs.Chain.{IsChain, resources}
@@ -94,8 +94,8 @@ waiting_is rows uses fixed c are =
     (λ row i. ap₂ (λ o w. cond (is_on c (flow_of uses row) && is_none o) w 0) (fixed_in rows uses fixed are row i) (weight_row uses row))
 
 pub level_is : (caps : List ℕ) (rows : List (Option FlowRow)) (uses : List (Option Use)) (left waiting' : List ℕ) (fixed : Fixed) (c : ℕ) → AreFixed uses rows fixed → AreCounted caps rows uses left waiting' → c < length caps →
-    level caps (held (flows_of rows uses)) fixed c ≡ get_or left c 0 / get_or waiting' c 0
-unfolding level
+    resource_level caps (held (flows_of rows uses)) fixed c ≡ get_or left c 0 / get_or waiting' c 0
+unfolding resource_level
 level_is caps rows uses left waiting' fixed c are counted in' =
     ap₂ (λ a b. a / b) (ap (λ t. get_or caps c 0 - t) (taken_is rows uses fixed c are) ∙ sym (counted.left_is c in')) (waiting_is rows uses fixed c are ∙ sym (counted.waiting_is c in'))
 
@@ -109,12 +109,12 @@ all_in P (y ∷ xs) h x (inl e) = subst P e (h 0 0 (omega arith))
 all_in P (y ∷ xs) h x (inr i) = all_in P xs (λ k d in'. h (suc k) d (omega (arith, in'))) x i
 
 pub limits_are : (caps : List ℕ) (rows : List (Option FlowRow)) (uses : List (Option Use)) (left waiting' : List ℕ) (fixed : Fixed) → AreRows caps rows uses → AreFixed uses rows fixed → AreCounted caps rows uses left waiting' →
-    (id : ℕ) (row : FlowRow) → get_or rows id None ≡ Some row → limits caps (held (flows_of rows uses)) fixed (flow_of uses row) ≡ row_limits left waiting' uses row
-unfolding limits flow_of
+    (id : ℕ) (row : FlowRow) → get_or rows id None ≡ Some row → flow_limits caps (held (flows_of rows uses)) fixed (flow_of uses row) ≡ row_limits left waiting' uses row
+unfolding flow_limits flow_of
 limits_are caps rows uses left waiting' fixed sound are counted id row e =
     let exist = (row_facts caps rows uses id row sound e).exist in
     ap (λ ls. option_to_list (option_map (bound_level row.weight) row.bound) ++ ls)
-    (map_same (level caps (held (flows_of rows uses)) fixed) (λ c. get_or left c 0 / get_or waiting' c 0) (resources row.count uses row.first)
+    (map_same (resource_level caps (held (flows_of rows uses)) fixed) (λ c. get_or left c 0 / get_or waiting' c 0) (resources row.count uses row.first)
     (λ c i. level_is caps rows uses left waiting' fixed c are counted (all_in (λ r. r < length caps) (resources row.count uses row.first) exist c i)))
 
 -- ---- the lowest level
@@ -134,16 +134,16 @@ flat_same uses fixed f g (row ∷ rows) h =
     ])
 
 pub all_limits_are : (caps : List ℕ) (rows : List (Option FlowRow)) (uses : List (Option Use)) (left waiting' : List ℕ) (fixed : Fixed) → AreRows caps rows uses → AreFixed uses rows fixed → AreCounted caps rows uses left waiting' →
-    flat_map (limits caps (held (flows_of rows uses)) fixed) (filter (λ flow. is_none (fixed flow)) (held (flows_of rows uses))) ≡ all_limits left waiting' uses rows
+    flat_map (flow_limits caps (held (flows_of rows uses)) fixed) (filter (λ flow. is_none (fixed flow)) (held (flows_of rows uses))) ≡ all_limits left waiting' uses rows
 all_limits_are caps rows uses left waiting' fixed sound are counted =
     let flows = held (flows_of rows uses) in
-    ap (λ fs. flat_map (limits caps flows fixed) (filter (λ flow. is_none (fixed flow)) fs)) (held_flows rows uses)
-    ∙ flat_same uses fixed (limits caps flows fixed) (row_limits left waiting' uses) (rows_held rows)
+    ap (λ fs. flat_map (flow_limits caps flows fixed) (filter (λ flow. is_none (fixed flow)) fs)) (held_flows rows uses)
+    ∙ flat_same uses fixed (flow_limits caps flows fixed) (row_limits left waiting' uses) (rows_held rows)
     (λ row i. let b = In-rows_back rows row i in (fixed_in rows uses fixed are row i, limits_are caps rows uses left waiting' fixed sound are counted b.0 row b.1))
 
 pub lowest_is : (caps : List ℕ) (rows : List (Option FlowRow)) (uses : List (Option Use)) (left waiting' : List ℕ) (fixed : Fixed) (low : ℕ) → AreRows caps rows uses → AreFixed uses rows fixed → AreCounted caps rows uses left waiting' →
-    IsLeast (Some low) (all_limits left waiting' uses rows) → lowest caps (held (flows_of rows uses)) fixed ≡ low
-unfolding lowest
+    IsLeast (Some low) (all_limits left waiting' uses rows) → lowest_limit caps (held (flows_of rows uses)) fixed ≡ low
+unfolding lowest_limit
 lowest_is caps rows uses left waiting' fixed low sound are counted h =
     let all = all_limits left waiting' uses rows in
     ap least (all_limits_are caps rows uses left waiting' fixed sound are counted) ∙ is_least all h
@@ -152,18 +152,18 @@ lowest_is caps rows uses left waiting' fixed low sound are counted h =
     is_least xs g = omega (arith, least_le xs low (In-from_contains xs low g.0), g.1 (least xs) (contains_from_In xs (least xs) (least_in xs low (In-from_contains xs low g.0))))
 
 -- ---- a pass over the rows that fixes flows is a step
-pub step_case : (caps : List ℕ) (flows : List Flow) (fixed : Fixed) (f : Flow) (low : ℕ) (list : List ℕ) (before after : Option ℕ) → fixed f ≡ before → limits caps flows fixed f ≡ list → In f flows → lowest caps flows fixed ≡ low →
+pub step_case : (caps : List ℕ) (flows : List Flow) (fixed : Fixed) (f : Flow) (low : ℕ) (list : List ℕ) (before after : Option ℕ) → fixed f ≡ before → flow_limits caps flows fixed f ≡ list → In f flows → lowest_limit caps flows fixed ≡ low →
     IsStepped low (IsLeast (Some low) list) before after → after ≡ step caps flows fixed f
 step_case caps flows fixed f low list (Some x) after e lim i low_is h = h ∙ sym (step_fixed caps flows fixed f x e)
 step_case caps flows fixed f low list None after e lim i low_is (inl h) =
     let at : In low list = In-from_contains list low h.0.0 in
-    let at' : In (lowest caps flows fixed) (limits caps flows fixed f) = subst (λ ys. In (lowest caps flows fixed) ys) (sym lim) (subst (λ w. In w list) (sym low_is) at) in
+    let at' : In (lowest_limit caps flows fixed) (flow_limits caps flows fixed f) = subst (λ ys. In (lowest_limit caps flows fixed) ys) (sym lim) (subst (λ w. In w list) (sym low_is) at) in
     h.1 ∙ ap (λ w. Some w) (sym low_is) ∙ sym (step_at caps flows fixed f e at')
 step_case caps flows fixed f low list None after e lim i low_is (inr h) =
     elim (step_cases caps flows fixed f) [
       | was x p q ↦ cc (sym e ∙ p)
       | gets p q at ↦
-          let there : In low list = subst (λ w. In w list) low_is (subst (λ ys. In (lowest caps flows fixed) ys) lim at) in
+          let there : In low list = subst (λ w. In w list) low_is (subst (λ ys. In (lowest_limit caps flows fixed) ys) lim at) in
           absurd (h.0 (contains_from_In list low there, λ x k. subst (λ w. w ≤ x) low_is (lowest_le caps flows fixed f x i e (subst (λ ys. In x ys) (sym lim) (In-from_contains list x k)))))
       | waits p q away ↦ h.1 ∙ sym q
     ]
@@ -220,7 +220,7 @@ levels_early n caps rows uses left waiting' sound h few are counted none =
     let f = flow_of uses row in
     let i = In-flows rows uses key row e in
     let limit = (limited_from caps flows h f i).1 fixed in
-    let in' = In-flat_map (limits caps flows fixed) (filter (λ flow. is_none (fixed flow)) flows) f limit.0 (In-filter (λ flow. is_none (fixed flow)) flows f i (ap is_none (sym (are key row e) ∙ z))) limit.1 in
+    let in' = In-flat_map (flow_limits caps flows fixed) (filter (λ flow. is_none (fixed flow)) flows) f limit.0 (In-filter (λ flow. is_none (fixed flow)) flows f i (ap is_none (sym (are key row e) ∙ z))) limit.1 in
     subst (λ ys. In limit.0 ys) (all_limits_are caps rows uses left waiting' fixed sound are counted ∙ none) in')
 
 -- ---- the beginning, and the number of flows

@@ -4,7 +4,7 @@ use Rattle.std.proofs.lemmas.List.Sums.{sum_by-cons}
 use Rattle.sg_base.specs.MarkSet.{is_in}
 use Rattle.sg_maxmin.specs.Chained.{users_on}
 use Rattle.sg_maxmin.specs.Fill.{Flow, level_of, bound_level}
-use Rattle.sg_maxmin.specs.Fixing.{share_of_fixed, level, limits}
+use Rattle.sg_maxmin.specs.Fixing.{share_of_fixed, resource_level, flow_limits}
 use Rattle.sg_maxmin.specs.Laws.{HaveLimits}
 use Rattle.sg_maxmin.specs.Sharing.{Sharing, IsSound, flow_at, held, uses_at}
 use Rattle.sg_maxmin.proofs.Members.{In, In-from_contains}
@@ -116,7 +116,7 @@ module _ (s : Sharing) (levels : List (Option ℕ)) (holds : ℕ → Option ℕ)
   Agree t = (id : ℕ) (flow : Flow) → flow_at s.slots id ≡ Some flow → below_at levels t id ≡ below_share t (level_of s.capacities (held s.slots)) flow
 
   -- if the levels agree below t, so do the levels of the resources
-  seen : (t c : ℕ) → Agree t → level s.capacities (held s.slots) (below_share t (level_of s.capacities (held s.slots))) c ≡ row_level (slice_index s.capacities c) s.slots (below_at levels t) (users_on s.users c)
+  seen : (t c : ℕ) → Agree t → resource_level s.capacities (held s.slots) (below_share t (level_of s.capacities (held s.slots))) c ≡ row_level (slice_index s.capacities c) s.slots (below_at levels t) (users_on s.users c)
   seen t c agree =
       row_tells_lem s (below_share t (level_of s.capacities (held s.slots))) c sound
       ∙ row_same (slice_index s.capacities c) s.slots (λ id. below_share t (level_of s.capacities (held s.slots)) (flow_in s.slots id)) (below_at levels t) (users_on s.users c)
@@ -128,7 +128,7 @@ module _ (s : Sharing) (levels : List (Option ℕ)) (holds : ℕ → Option ℕ)
   not_lower : (t id x : ℕ) (flow : Flow) → Agree t → flow_at s.slots id ≡ Some flow → level_at levels id ≡ Some x → level_of s.capacities (held s.slots) flow ≡ t → t < x → ⊥
   not_lower t id x flow agree e is filled_is over =
       let i = held_in s.slots id flow e in
-      let at = subst (λ w. In w (limits s.capacities (held s.slots) (below_share w (level_of s.capacities (held s.slots))) flow)) filled_is (leveled.met flow i) in
+      let at = subst (λ w. In w (flow_limits s.capacities (held s.slots) (below_share w (level_of s.capacities (held s.slots))) flow)) filled_is (leveled.met flow i) in
       elim (limit_cases s.capacities (held s.slots) (below_share t (level_of s.capacities (held s.slots))) flow t at) [
         | inl b ↦
             let within : IsAtMost (Some x) (Some (bound_level flow.weight b.0)) = subst (λ o. IsAtMost (Some x) (option_map (bound_level flow.weight) o)) b.1 (subst (λ o. IsAtMost o (option_map (bound_level flow.weight) flow.bound)) is (are.within id flow e)) in
@@ -150,7 +150,7 @@ module _ (s : Sharing) (levels : List (Option ℕ)) (holds : ℕ → Option ℕ)
       let i = is_in_In c flow.uses used in
       let met = subst (λ o. IfSome o (λ x. (0 < row_waiting s.slots (below_at levels x) (users_on s.users c)) × (row_level (slice_index s.capacities c) s.slots (below_at levels x) (users_on s.users c) ≡ x))) is (are.resources c (exists_of s sound id c flow e i)).met in
       let a = below_share t (level_of s.capacities (held s.slots)) in
-      omega (arith, met.1, seen t c agree, leveled.above flow (held_in s.slots id flow e) t over (level s.capacities (held s.slots) a c) (limit_level s.capacities (held s.slots) a flow c i))
+      omega (arith, met.1, seen t c agree, leveled.above flow (held_in s.slots id flow e) t over (resource_level s.capacities (held s.slots) a c) (limit_level s.capacities (held s.slots) a flow c i))
 
   agree_at : (t : ℕ) → Agree t
   agree_at zero id flow e = let k = are.cause id flow e in at_no levels 0 id k.0 k.1 (omega arith) ∙ sym (below_no 0 (level_of s.capacities (held s.slots)) flow (omega arith))

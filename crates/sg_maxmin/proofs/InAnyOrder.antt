@@ -6,7 +6,7 @@ use Rattle.std.proofs.lemmas.List.Sums.{sum_by-cons}
 use Rattle.std.proofs.lemmas.List.Sorted.{Contains-permutation, IsPermutation-sym}
 use Rattle.std.proofs.lemmas.Slice.Zip.{AllZip-long}
 use Rattle.sg_maxmin.specs.Fill.{Flow, is_on, least, level_of, share_of, share_at, bounded, bound_level}
-use Rattle.sg_maxmin.specs.Fixing.{Fixed, taken, waiting, level, limits, lowest, is_at, step, steps_from, unfixed, share_of_fixed}
+use Rattle.sg_maxmin.specs.Fixing.{Fixed, taken, waiting, resource_level, flow_limits, lowest_limit, is_limited_at, step, steps_from, unfixed, share_of_fixed}
 use Rattle.sg_maxmin.specs.Relisted.{IsUsed, IsMoved, AreRelisted, FillsInAnyOrder}
 use Rattle.sg_maxmin.proofs.Members.{In, In-from_contains, contains_from_In, In-append_left, In-append_right, In-append_cases, In-map, In-map_back, list_any_in}
 use Rattle.sg_maxmin.proofs.Staged.{level_is_fixed_lem}
@@ -111,42 +111,42 @@ module _ (place : ℕ → ℕ) (caps relisted : List ℕ) (flows moved : List Fl
       (both (IsMoved place) (λ f g. a f ≡ b g) (λ f g. x f (is_on c f) (a f) ≡ x g (is_on (place c) g) (b g)) flows moved
       (λ f g i is e. ap₂ (x f) (on_same f g c i is u) e ∙ same f g is (is_on (place c) g) (b g)) are.each alike)
 
-  level_same : (a b : Fixed) (c : ℕ) → AreFixedAlike flows moved a b → IsUsed flows c → level caps flows a c ≡ level relisted moved b (place c)
-  unfolding level taken waiting
+  level_same : (a b : Fixed) (c : ℕ) → AreFixedAlike flows moved a b → IsUsed flows c → resource_level caps flows a c ≡ resource_level relisted moved b (place c)
+  unfolding resource_level taken waiting
   level_same a b c alike u =
       ap₂ (λ n d. n / d)
       (ap₂ (λ n d. n - d) (sym (are.capacity c u)) (sum_same (λ f on o. cond on (share_of_fixed f o) 0) (λ f g is on o. ap (λ s. cond on s 0) (share_moved f g is o)) a b c alike u))
       (sum_same (λ f on o. cond (on && is_none o) f.weight 0) (λ f g is on o. ap (λ w. cond (on && is_none o) w 0) (sym is.weight)) a b c alike u)
 
-  limits_same : (a b : Fixed) (f g : Flow) → AreFixedAlike flows moved a b → In f flows → IsMoved place f g → HaveSame (limits caps flows a f) (limits relisted moved b g)
+  limits_same : (a b : Fixed) (f g : Flow) → AreFixedAlike flows moved a b → In f flows → IsMoved place f g → HaveSame (flow_limits caps flows a f) (flow_limits relisted moved b g)
   limits_same a b f g alike i is l = (
     λ m. elim (limit_cases caps flows a f l m) [
-      | inl e ↦ subst (λ n. In n (limits relisted moved b g)) (ap (λ w. bound_level w e.0) is.weight ∙ e.2) (limit_bound relisted moved b g e.0 (is.bound ∙ e.1))
+      | inl e ↦ subst (λ n. In n (flow_limits relisted moved b g)) (ap (λ w. bound_level w e.0) is.weight ∙ e.2) (limit_bound relisted moved b g e.0 (is.bound ∙ e.1))
       | inr r ↦
-          subst (λ n. In n (limits relisted moved b g)) (sym (level_same a b r.0 alike (used flows f r.0 i r.1)) ∙ r.2)
+          subst (λ n. In n (flow_limits relisted moved b g)) (sym (level_same a b r.0 alike (used flows f r.0 i r.1)) ∙ r.2)
           (limit_level relisted moved b g (place r.0) (moved_use place f g is r.0 r.1))
     ],
     λ m. elim (limit_cases relisted moved b g l m) [
-      | inl e ↦ subst (λ n. In n (limits caps flows a f)) (ap (λ w. bound_level w e.0) (sym is.weight) ∙ e.2) (limit_bound caps flows a f e.0 (sym is.bound ∙ e.1))
+      | inl e ↦ subst (λ n. In n (flow_limits caps flows a f)) (ap (λ w. bound_level w e.0) (sym is.weight) ∙ e.2) (limit_bound caps flows a f e.0 (sym is.bound ∙ e.1))
       | inr r ↦
           let u = use_moved place f g is r.0 r.1 in
-          subst (λ n. In n (limits caps flows a f)) (level_same a b u.0 alike (used flows f u.0 i u.1) ∙ ap (level relisted moved b) u.2 ∙ r.2)
+          subst (λ n. In n (flow_limits caps flows a f)) (level_same a b u.0 alike (used flows f u.0 i u.1) ∙ ap (resource_level relisted moved b) u.2 ∙ r.2)
           (limit_level caps flows a f u.0 u.1)
     ],
   )
 
-  lowest_same : (a b : Fixed) → AreFixedAlike flows moved a b → lowest caps flows a ≡ lowest relisted moved b
-  unfolding lowest
+  lowest_same : (a b : Fixed) → AreFixedAlike flows moved a b → lowest_limit caps flows a ≡ lowest_limit relisted moved b
+  unfolding lowest_limit
   lowest_same a b alike =
-      least_same (flat_map (limits caps flows a) (filter (λ f. is_none (a f)) flows)) (flat_map (limits relisted moved b) (filter (λ g. is_none (b g)) moved))
-      (same_flat (λ f. is_none (a f)) (λ g. is_none (b g)) (limits caps flows a) (limits relisted moved b) flows moved
-      (both (IsMoved place) (λ f g. a f ≡ b g) (λ f g. (is_none (a f) ≡ is_none (b g)) × HaveSame (limits caps flows a f) (limits relisted moved b g)) flows moved
+      least_same (flat_map (flow_limits caps flows a) (filter (λ f. is_none (a f)) flows)) (flat_map (flow_limits relisted moved b) (filter (λ g. is_none (b g)) moved))
+      (same_flat (λ f. is_none (a f)) (λ g. is_none (b g)) (flow_limits caps flows a) (flow_limits relisted moved b) flows moved
+      (both (IsMoved place) (λ f g. a f ≡ b g) (λ f g. (is_none (a f) ≡ is_none (b g)) × HaveSame (flow_limits caps flows a f) (flow_limits relisted moved b g)) flows moved
       (λ f g i is e. (ap is_none e, limits_same a b f g alike i is)) are.each alike))
 
-  at_same : (a b : Fixed) (low : ℕ) (f g : Flow) → AreFixedAlike flows moved a b → In f flows → IsMoved place f g → is_at caps flows a low f ≡ is_at relisted moved b low g
+  at_same : (a b : Fixed) (low : ℕ) (f g : Flow) → AreFixedAlike flows moved a b → In f flows → IsMoved place f g → is_limited_at caps flows a low f ≡ is_limited_at relisted moved b low g
   at_same a b low f g alike i is =
       let same = limits_same a b f g alike i is low in
-      same_test (is_at caps flows a low f) (is_at relisted moved b low g)
+      same_test (is_limited_at caps flows a low f) (is_limited_at relisted moved b low g)
       (λ at. is_at_in relisted moved b low g (same.0 (is_at_back caps flows a low f at)))
       (λ at. is_at_in caps flows a low f (same.1 (is_at_back relisted moved b low g at)))
 
@@ -158,8 +158,8 @@ module _ (place : ℕ → ℕ) (caps relisted : List ℕ) (flows moved : List Fl
       one : (f g : Flow) → In f flows → IsMoved place f g → a f ≡ b g → step caps flows a f ≡ step relisted moved b g
       one f g i is e =
           let low = lowest_same a b alike in
-          ap₂ (λ low' o. cond (is_none o && is_at caps flows a low' f) (Some low') o) low e
-          ∙ ap (λ at. cond (is_none (b g) && at) (Some (lowest relisted moved b)) (b g)) (at_same a b (lowest relisted moved b) f g alike i is)
+          ap₂ (λ low' o. cond (is_none o && is_limited_at caps flows a low' f) (Some low') o) low e
+          ∙ ap (λ at. cond (is_none (b g) && at) (Some (lowest_limit relisted moved b)) (b g)) (at_same a b (lowest_limit relisted moved b) f g alike i is)
 
   steps_same : (n : ℕ) (a b : Fixed) → AreFixedAlike flows moved a b → AreFixedAlike flows moved (steps_from n caps flows a) (steps_from n relisted moved b)
   unfolding steps_from

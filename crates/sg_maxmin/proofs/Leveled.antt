@@ -4,7 +4,7 @@ use Rattle.std.specs.Option.{unwrap_or}
 use Rattle.std.proofs.Math.Path.{fun_ext}
 use Rattle.std.proofs.lemmas.List.Sums.{sum_by-cons, count_by-le-length}
 use Rattle.sg_maxmin.specs.Fill.{Flow, level_of}
-use Rattle.sg_maxmin.specs.Fixing.{Fixed, limits, lowest, step, steps_from, unfixed}
+use Rattle.sg_maxmin.specs.Fixing.{Fixed, flow_limits, lowest_limit, step, steps_from, unfixed}
 use Rattle.sg_maxmin.proofs.Members.{In}
 use Rattle.sg_maxmin.proofs.Sums.{sum_by_le, sum_by_lt, le-sum_by}
 use Rattle.sg_maxmin.proofs.OneStep.{limits_same, lowest_le, lowest_in, Stepped, was, gets, waits, step_cases, step_at, stays_fixed}
@@ -17,9 +17,9 @@ below t share flow = if ltb (share flow) t then Some (share flow) else None
 
 pub record IsLeveled (caps : List ℕ) (flows : List Flow) (share : Flow → ℕ) : Type 0 where
   -- a flow's share is what holds it back, with the smaller shares fixed
-  pub met : (f : Flow) → In f flows → In (share f) (limits caps flows (below (share f) share) f)
+  pub met : (f : Flow) → In f flows → In (share f) (flow_limits caps flows (below (share f) share) f)
   -- and before it nothing did
-  pub above : (f : Flow) → In f flows → (t : ℕ) → t < share f → (l : ℕ) → In l (limits caps flows (below t share) f) → t < l
+  pub above : (f : Flow) → In f flows → (t : ℕ) → t < share f → (l : ℕ) → In l (flow_limits caps flows (below t share) f) → t < l
 
 pub below_yes : (t : ℕ) (share : Flow → ℕ) (f : Flow) → share f < t → below t share f ≡ Some (share f)
 unfolding below
@@ -31,7 +31,7 @@ below_no t share f h = rw (le-ltb (share f) t h) refl
 
 -- each flow has something that holds it back
 abbrev pub Limited : List ℕ → List Flow → Type 0
-Limited caps flows = (f : Flow) → In f flows → (0 < f.weight) × ((a : Fixed) → (l : ℕ) × In l (limits caps flows a f))
+Limited caps flows = (f : Flow) → In f flows → (0 < f.weight) × ((a : Fixed) → (l : ℕ) × In l (flow_limits caps flows a f))
 
 -- ---- all are fixed in the end
 abbrev pub left : List Flow → Fixed → ℕ
@@ -61,7 +61,7 @@ test_le low before after at (waits e k n) = rw (e, k) (omega arith)
 left_le : (caps : List ℕ) (flows : List Flow) (a : Fixed) → left flows (step caps flows a) ≤ left flows a
 left_le caps flows a =
     sum_by_le (λ f. cond (is_none (step caps flows a f)) 1 0) (λ f. cond (is_none (a f)) 1 0) flows
-    (λ f i. test_le (lowest caps flows a) (a f) (step caps flows a f) (In (lowest caps flows a) (limits caps flows a f)) (step_cases caps flows a f))
+    (λ f i. test_le (lowest_limit caps flows a) (a f) (step caps flows a f) (In (lowest_limit caps flows a) (flow_limits caps flows a f)) (step_cases caps flows a f))
 
 left_falls : (caps : List ℕ) (flows : List Flow) (a : Fixed) → Limited caps flows → 0 < left flows a → left flows (step caps flows a) < left flows a
 left_falls caps flows a limited pos =
@@ -70,7 +70,7 @@ left_falls caps flows a limited pos =
     let limit = (limited some.0 some.1).1 a in
     let r = lowest_in caps flows a some.0 limit.0 some.1 none limit.1 in
     sum_by_lt (λ f. cond (is_none (step caps flows a f)) 1 0) (λ f. cond (is_none (a f)) 1 0) flows r.0 r.1 (rw (step_at caps flows a r.0 r.2 r.3, r.2) (omega arith))
-    (λ f i. test_le (lowest caps flows a) (a f) (step caps flows a f) (In (lowest caps flows a) (limits caps flows a f)) (step_cases caps flows a f))
+    (λ f i. test_le (lowest_limit caps flows a) (a f) (step caps flows a f) (In (lowest_limit caps flows a) (flow_limits caps flows a f)) (step_cases caps flows a f))
 
 -- after as many steps as there are unfixed flows no flow is unfixed
 pub all_fixed : (n : ℕ) (caps : List ℕ) (flows : List Flow) (a : Fixed) → Limited caps flows → left flows a ≤ n → (f : Flow) → In f flows → steps_from n caps flows a f ≡ None → ⊥
@@ -92,8 +92,8 @@ result_of n caps flows a f = unwrap_or (steps_from n caps flows a f) 0
 -- what holds of a flow that isn't fixed yet, if all that holds one back is at low or above
 pub record IsHeld (caps : List ℕ) (flows : List Flow) (share : Flow → ℕ) (low : ℕ) (f : Flow) : Type 0 where
   pub least : low ≤ share f
-  pub met : In (share f) (limits caps flows (below (share f) share) f)
-  pub above : (t : ℕ) → low ≤ t → t < share f → (l : ℕ) → In l (limits caps flows (below t share) f) → t < l
+  pub met : In (share f) (flow_limits caps flows (below (share f) share) f)
+  pub above : (t : ℕ) → low ≤ t → t < share f → (l : ℕ) → In l (flow_limits caps flows (below t share) f) → t < l
 
 le_cases : (a b : ℕ) → (a ≤ b) ⊎ (b < a)
 le_cases a b = grind arith
@@ -103,14 +103,14 @@ some_same e = cc
 
 pub held_from : (n : ℕ) (caps : List ℕ) (flows : List Flow) (a : Fixed) (low : ℕ) →
     ((f : Flow) → In f flows → (x : ℕ) → a f ≡ Some x → x < low) →
-    ((f : Flow) → In f flows → a f ≡ None → (l : ℕ) → In l (limits caps flows a f) → low ≤ l) →
+    ((f : Flow) → In f flows → a f ≡ None → (l : ℕ) → In l (flow_limits caps flows a f) → low ≤ l) →
     ((f : Flow) → In f flows → steps_from n caps flows a f ≡ None → ⊥) → Limited caps flows →
     (f : Flow) → In f flows → a f ≡ None → IsHeld caps flows (result_of n caps flows a) low f
 unfolding steps_from
 held_from zero caps flows a low small high all limited f i e = absurd (all f i e)
 held_from (suc n) caps flows a low small high all limited f i e =
     let b = step caps flows a in
-    let lowest' = lowest caps flows a in
+    let lowest' = lowest_limit caps flows a in
     let share = result_of n caps flows b in
     let limit = (limited f i).1 a in
     let first = lowest_in caps flows a f limit.0 i e limit.1 in
@@ -122,7 +122,7 @@ held_from (suc n) caps flows a low small high all limited f i e =
       | gets p q at ↦ omega (arith, some_same (sym k ∙ q))
       | waits p q away ↦ cc (sym k ∙ q)
     ] in goal in
-    let high' = λ (g : Flow) (j : In g flows) (k : b g ≡ None) (l : ℕ) (m : In l (limits caps flows b g)).
+    let high' = λ (g : Flow) (j : In g flows) (k : b g ≡ None) (l : ℕ) (m : In l (flow_limits caps flows b g)).
     let goal : lowest' + 1 ≤ l = omega (arith, limits_rise caps flows a g l j (limited g j).0 k m) in goal in
     let later = λ (g : Flow) (j : In g flows) (k : b g ≡ None). held_from n caps flows b (lowest' + 1) small' high' all limited g j k in
     let same = λ (t : ℕ) (at_least : low ≤ t) (at_most : t ≤ lowest') (g : Flow) (j : In g flows).
@@ -136,8 +136,8 @@ held_from (suc n) caps flows a low small high all limited f i e =
           below_no t share g (omega (arith, is, at_most)) ∙ sym p
       | waits p q away ↦ below_no t share g (omega (arith, (later g j q).least, at_most)) ∙ sym p
     ] in goal in
-    let seen = λ (t : ℕ) (at_least : low ≤ t) (at_most : t ≤ lowest') (l : ℕ) (m : In l (limits caps flows (below t share) f)).
-    let goal : In l (limits caps flows a f) = limits_same caps flows (below t share) a f l (same t at_least at_most) m in goal in
+    let seen = λ (t : ℕ) (at_least : low ≤ t) (at_most : t ≤ lowest') (l : ℕ) (m : In l (flow_limits caps flows (below t share) f)).
+    let goal : In l (flow_limits caps flows a f) = limits_same caps flows (below t share) a f l (same t at_least at_most) m in goal in
     elim (step_cases caps flows a f) [
       | was y p q ↦ cc (sym e ∙ p)
       | gets p q at ↦
@@ -145,7 +145,7 @@ held_from (suc n) caps flows a low small high all limited f i e =
           let here = limits_same caps flows a (below lowest' share) f lowest' (λ g j. sym (same lowest' low_le (omega arith) g j)) at in
           record {
             least = omega (arith, is, low_le);
-            met = subst (λ w. In w (limits caps flows (below w share) f)) (sym is) here;
+            met = subst (λ w. In w (flow_limits caps flows (below w share) f)) (sym is) here;
             above = λ t at_least under l m.
                 let at_most : t ≤ lowest' = omega (arith, is, under) in
                 let in' = seen t at_least at_most l m in
@@ -162,7 +162,7 @@ held_from (suc n) caps flows a low small high all limited f i e =
                   | inl at_most ↦
                       let in' = seen t at_least at_most l m in
                       let le : lowest' ≤ l = lowest_le caps flows a f l i e in' in
-                      let ne : (lowest' ≡ l) → ⊥ = λ z. away (subst (λ w. In w (limits caps flows a f)) (sym z) in') in
+                      let ne : (lowest' ≡ l) → ⊥ = λ z. away (subst (λ w. In w (flow_limits caps flows a f)) (sym z) in') in
                       omega (arith, at_most, le, ne)
                   | inr over ↦ rest.above t (omega (arith, over)) under l m
                 ];

@@ -3,7 +3,7 @@ use Rattle.std.proofs.Common.{◌≡◌, ◌≢◌, ℕ, zero, suc, ◌+◌, ◌
 use Rattle.std.proofs.lemmas.List.Sums.{sum_by-cons}
 use Rattle.sg_maxmin.specs.Chained.{times, users_on}
 use Rattle.sg_maxmin.specs.Fill.{Flow, is_on}
-use Rattle.sg_maxmin.specs.Fixing.{Fixed, share_of_fixed, taken, waiting, level}
+use Rattle.sg_maxmin.specs.Fixing.{Fixed, share_of_fixed, taken, waiting, resource_level}
 use Rattle.sg_maxmin.specs.Sharing.{Sharing, IsSound, flow_at, held, uses_at}
 use Rattle.sg_maxmin.specs.Numbered.{RowTells, flow_in, row_level, row_taken, row_waiting, weight_at}
 use Rattle.std.specs.List.{list_any}
@@ -103,7 +103,7 @@ unfolding waiting row_waiting
 waiting_row s sound fixed c = simp and_cond (by_row s sound (λ flow. cond (is_none (fixed flow)) flow.weight 0) c)
 
 pub row_tells_lem : RowTells
-unfolding level row_level
+unfolding resource_level row_level
 row_tells_lem s fixed c sound = ap₂ (λ t w. (slice_index s.capacities c - t) / w) (taken_row s sound fixed c) (waiting_row s sound fixed c)
 
 -- ---- the weights on a resource fit

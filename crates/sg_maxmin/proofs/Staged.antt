@@ -5,7 +5,7 @@ use Rattle.std.specs.Option.{unwrap_or}
 use Rattle.std.proofs.Math.Path.{fun_ext}
 use Rattle.std.proofs.lemmas.List.Sums.{sum_by-cons}
 use Rattle.sg_maxmin.specs.Fill.{Flow, Stage, is_on, load, share_at, bound_level, least, level as stage_level, limits as stage_limits, lowest as stage_lowest, is_at as stage_at, next, level_from, level_of}
-use Rattle.sg_maxmin.specs.Fixing.{Fixed, share_of_fixed, taken, waiting, level, limits, lowest, is_at, step, steps_from, unfixed}
+use Rattle.sg_maxmin.specs.Fixing.{Fixed, share_of_fixed, taken, waiting, resource_level, flow_limits, lowest_limit, is_limited_at, step, steps_from, unfixed}
 use Rattle.sg_maxmin.specs.Laws.{LevelIsFixed}
 use Rattle.sg_maxmin.proofs.Sums.{sum_by_same, sum_by_zero, sum_by-add}
 use Rattle.sg_maxmin.proofs.OneStep.{stays_fixed}
@@ -66,33 +66,33 @@ still at (Some x) low = refl
 -- ---- one step
 module _ (caps : List ℕ) (flows : List Flow) (a : Fixed) (stage : Stage) (is : IsLeft caps flows a stage) where
   low : ℕ
-  low = lowest caps flows a
+  low = lowest_limit caps flows a
 
-  levels_same : (c : ℕ) → stage_level stage c ≡ level caps flows a c
-  unfolding level stage_level waiting
+  levels_same : (c : ℕ) → stage_level stage c ≡ resource_level caps flows a c
+  unfolding resource_level stage_level waiting
   levels_same c =
       ap₂ (λ n d. n / d) (is.rest c)
       (ap (λ w. load w (λ f. f.weight) c) is.unserved
       ∙ sum_filtered (λ f. cond (is_on c f) f.weight 0) (λ f. is_none (a f)) flows
       ∙ sum_by_same _ _ flows (λ f i. weighs (is_none (a f)) (is_on c f) f.weight))
 
-  limits_same : (f : Flow) → stage_limits stage f ≡ limits caps flows a f
-  unfolding limits stage_limits
+  limits_same : (f : Flow) → stage_limits stage f ≡ flow_limits caps flows a f
+  unfolding flow_limits stage_limits
   limits_same f = ap (λ l. option_to_list (option_map (bound_level f.weight) f.bound) ++ map l f.uses) (fun_ext levels_same)
 
-  lowest_same : stage_lowest stage ≡ lowest caps flows a
-  unfolding lowest stage_lowest
+  lowest_same : stage_lowest stage ≡ lowest_limit caps flows a
+  unfolding lowest_limit stage_lowest
   lowest_same = ap₂ (λ l w. least (flat_map l w)) (fun_ext limits_same) is.unserved
 
-  at_same : (f : Flow) → stage_at stage f ≡ is_at caps flows a (lowest caps flows a) f
-  unfolding is_at stage_at
+  at_same : (f : Flow) → stage_at stage f ≡ is_limited_at caps flows a (lowest_limit caps flows a) f
+  unfolding is_limited_at stage_at
   at_same f = ap₂ (λ x l. list_any (λ limit. limit == x) l) lowest_same (limits_same f)
 
   -- what the flows take that this step serves
   served : ℕ → ℕ
   served c = load (filter (stage_at stage) stage.waiting) (λ f. share_at f (stage_lowest stage)) c
 
-  served_is : (c : ℕ) → served c ≡ sum_by (λ f. cond (is_none (a f)) (cond (is_at caps flows a (lowest caps flows a) f) (cond (is_on c f) (share_at f (lowest caps flows a)) 0) 0) 0) flows
+  served_is : (c : ℕ) → served c ≡ sum_by (λ f. cond (is_none (a f)) (cond (is_limited_at caps flows a (lowest_limit caps flows a) f) (cond (is_on c f) (share_at f (lowest_limit caps flows a)) 0) 0) 0) flows
   unfolding served
   served_is c =
       let part = λ (f : Flow). cond (is_on c f) (share_at f (stage_lowest stage)) 0 in
@@ -104,8 +104,8 @@ module _ (caps : List ℕ) (flows : List Flow) (a : Fixed) (stage : Stage) (is :
   taken_more : (c : ℕ) → taken flows (step caps flows a) c ≡ taken flows a c + served c
   unfolding taken step
   taken_more c =
-      let l = lowest caps flows a in
-      let at = is_at caps flows a l in
+      let l = lowest_limit caps flows a in
+      let at = is_limited_at caps flows a l in
       let had = λ (f : Flow). cond (is_on c f) (share_of_fixed f (a f)) 0 in
       let more = λ (f : Flow). cond (is_none (a f)) (cond (at f) (cond (is_on c f) (share_at f l) 0) 0) 0 in
       sum_by_same _ (λ f. had f + more f) flows (λ f i. gained (is_on c f) (at f) (a f) f l)
@@ -119,7 +119,7 @@ module _ (caps : List ℕ) (flows : List Flow) (a : Fixed) (stage : Stage) (is :
     unserved =
         ap (filter (λ f. not (stage_at stage f))) is.unserved
         ∙ filter_both (λ f. not (stage_at stage f)) (λ f. is_none (a f)) (λ f. is_none (step caps flows a f)) flows
-        (λ f. ap (λ b. is_none (a f) && not b) (at_same f) ∙ still (is_at caps flows a (lowest caps flows a) f) (a f) (lowest caps flows a));
+        (λ f. ap (λ b. is_none (a f) && not b) (at_same f) ∙ still (is_limited_at caps flows a (lowest_limit caps flows a) f) (a f) (lowest_limit caps flows a));
   }
 
 -- ---- all steps
@@ -128,10 +128,10 @@ level_left : (n : ℕ) (caps : List ℕ) (flows : List Flow) (a : Fixed) (stage 
 unfolding level_from steps_from step
 level_left zero caps flows a stage is f e = ap (λ o. unwrap_or o 0) (sym e)
 level_left (suc n) caps flows a stage is f e =
-    let low = lowest caps flows a in
+    let low = lowest_limit caps flows a in
     let b = step caps flows a in
     ap₂ (λ at l. cond at l (level_from n (next stage) f)) (at_same caps flows a stage is f) (lowest_same caps flows a stage is)
-    ∙ (elim (is_at caps flows a low f) as (λ at. is_at caps flows a low f ≡ at → cond at low (level_from n (next stage) f) ≡ unwrap_or (steps_from n caps flows b f) 0) [
+    ∙ (elim (is_limited_at caps flows a low f) as (λ at. is_limited_at caps flows a low f ≡ at → cond at low (level_from n (next stage) f) ≡ unwrap_or (steps_from n caps flows b f) 0) [
       | true ↦ λ k. ap (λ o. unwrap_or o 0) (sym (stays_fixed n caps flows b f low (rw (e, k) refl)))
       | false ↦ λ k. level_left n caps flows b (next stage) (left_next caps flows a stage is) f (rw (e, k) refl)
     ]) refl

@@ -1,5 +1,5 @@
 -- What contracts see of `Chains`.
-use Rattle.std.specs.Prelude.{◌≡◌, ℕ, ◌+◌, ◌==◌, if◌then◌else◌, Option, List, [], slice_index_or, count_by, refl}
+use Rattle.std.specs.Prelude.{◌≡◌, ℕ, ◌+◌, ◌≤◌, ◌==◌, if◌then◌else◌, Option, List, [], slice_index_or, count_by, refl}
 use Rattle.std.specs.Coded.{Coded, code_by, coded×, coded_ℕ, coded_list, coded_option}
 use Rattle.sg_maxmin.specs.declared.uses.Use.{Use}
 
@@ -14,6 +14,11 @@ use_code = code_by (ℕ × (ℕ × (Option ℕ × Option ℕ))) (coded× coded_�
 
 abbrev pub chained_code : Coded Chained
 chained_code = code_by (List (Option Use) × (List (List ℕ) × ℕ)) (coded× (coded_list (coded_option use_code)) (coded× (coded_list (coded_list coded_ℕ)) coded_ℕ)) (λ c. (c.uses, (c.users, c.room))) (λ p. record { uses = p.0; users = p.1.0; room = p.1.1 }) (λ _. refl)
+
+-- only the room changes, and it doesn't shrink
+pub record GainsRoom (old new : Chained) : Type 0 where
+  pub grows : old.room ≤ new.room
+  pub kept : new ≡ record old { room = new.room }
 
 -- the flows on a resource, in the order in which `next_on` leads to them
 abbrev pub users_on : List (List ℕ) → ℕ → List ℕ

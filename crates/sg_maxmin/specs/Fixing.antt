@@ -21,24 +21,24 @@ unfoldable pub waiting : List Flow → Fixed → ℕ → ℕ
 waiting flows fixed resource = sum_by (λ flow. if is_on resource flow && is_none (fixed flow) then flow.weight else 0) flows
 
 -- the level of the resource: what the fixed flows leave, for each unit of weight of the unfixed ones
-unfoldable pub level : List ℕ → List Flow → Fixed → ℕ → ℕ
-level capacities flows fixed resource = (slice_index capacities resource - taken flows fixed resource) / waiting flows fixed resource
+unfoldable pub resource_level : List ℕ → List Flow → Fixed → ℕ → ℕ
+resource_level capacities flows fixed resource = (slice_index capacities resource - taken flows fixed resource) / waiting flows fixed resource
 
 -- what limits a flow: the level of its bound, and the levels of its resources
-unfoldable pub limits : List ℕ → List Flow → Fixed → Flow → List ℕ
-limits capacities flows fixed flow = option_to_list (option_map (bound_level flow.weight) flow.bound) ++ map (level capacities flows fixed) flow.uses
+unfoldable pub flow_limits : List ℕ → List Flow → Fixed → Flow → List ℕ
+flow_limits capacities flows fixed flow = option_to_list (option_map (bound_level flow.weight) flow.bound) ++ map (resource_level capacities flows fixed) flow.uses
 
 -- the least level of all bounds of unfixed flows, and of all resources with an unfixed flow
-unfoldable pub lowest : List ℕ → List Flow → Fixed → ℕ
-lowest capacities flows fixed = least (flat_map (limits capacities flows fixed) (filter (λ flow. is_none (fixed flow)) flows))
+unfoldable pub lowest_limit : List ℕ → List Flow → Fixed → ℕ
+lowest_limit capacities flows fixed = least (flat_map (flow_limits capacities flows fixed) (filter (λ flow. is_none (fixed flow)) flows))
 
 -- whether this is the level of the flow's bound, or of a resource that it uses
-unfoldable pub is_at : List ℕ → List Flow → Fixed → ℕ → Flow → Bool
-is_at capacities flows fixed low flow = list_any (λ limit. limit == low) (limits capacities flows fixed flow)
+unfoldable pub is_limited_at : List ℕ → List Flow → Fixed → ℕ → Flow → Bool
+is_limited_at capacities flows fixed low flow = list_any (λ limit. limit == low) (flow_limits capacities flows fixed flow)
 
 -- One step: all unfixed flows that are at the lowest level are fixed there, in the same step.
 unfoldable pub step : List ℕ → List Flow → Fixed → Fixed
-step capacities flows fixed flow = if is_none (fixed flow) && is_at capacities flows fixed (lowest capacities flows fixed) flow then Some (lowest capacities flows fixed) else fixed flow
+step capacities flows fixed flow = if is_none (fixed flow) && is_limited_at capacities flows fixed (lowest_limit capacities flows fixed) flow then Some (lowest_limit capacities flows fixed) else fixed flow
 
 -- so many steps, from this on
 unfoldable pub steps_from : ℕ → List ℕ → List Flow → Fixed → Fixed

@@ -1,7 +1,7 @@
 -- Laws of max-min shares.
 use Rattle.std.specs.Prelude.{◌≡◌, ℕ, ◌<◌, ◌≤◌, ◌+◌, Option, None, Some, IsTrue, IsSome, unwrap_or, List, ◌++◌, length, Contains, sum_by}
 use Rattle.sg_maxmin.specs.Fill.{Flow, is_on, level_of, share_of, fill}
-use Rattle.sg_maxmin.specs.Fixing.{lowest, steps_from, unfixed}
+use Rattle.sg_maxmin.specs.Fixing.{lowest_limit, steps_from, unfixed}
 use Rattle.sg_maxmin.specs.Fair.{IsFair}
 use Rattle.sg_maxmin.specs.Sharing.{HasLimit, Changes, flow_at, held, slot_part}
 
@@ -57,8 +57,8 @@ LevelRises =
     (capacities : List ℕ) (flows : List Flow) (n : ℕ) (flow : Flow) →
     HaveLimits flows → Contains flows flow →
     steps_from (n + 1) capacities flows unfixed flow ≡ None →
-    lowest capacities flows (steps_from n capacities flows unfixed) <
-    lowest capacities flows (steps_from (n + 1) capacities flows unfixed)
+    lowest_limit capacities flows (steps_from n capacities flows unfixed) <
+    lowest_limit capacities flows (steps_from (n + 1) capacities flows unfixed)
 
 -- If two lists of flows share no resource, the max-min shares of both are those of each.
 abbrev pub FillsApart : Type 0

@@ -2,7 +2,7 @@
 use Rattle.std.specs.Prelude.{◌≡◌, ℕ, ◌-◌, ◌/◌, ltb, Option, None, Some, IsSome, is_none, option_map, List, length, sum_by, slice_index, slice_index_or, if◌then◌else◌}
 use Rattle.sg_maxmin.specs.Chained.{users_on}
 use Rattle.sg_maxmin.specs.Fill.{Flow, flow, bound_level}
-use Rattle.sg_maxmin.specs.Fixing.{Fixed, share_of_fixed, level}
+use Rattle.sg_maxmin.specs.Fixing.{Fixed, share_of_fixed, resource_level}
 use Rattle.sg_maxmin.specs.Sharing.{Sharing, IsSound, flow_at, held, uses_at}
 
 -- the weight and the bound of the flow in a slot; a slot without a flow weighs 1
@@ -63,4 +63,4 @@ row_level capacity slots fixed row = (capacity - row_taken slots fixed row) / ro
 abbrev pub RowTells : Type 0
 RowTells =
     (s : Sharing) (fixed : Fixed) (c : ℕ) → IsSound s →
-    level s.capacities (held s.slots) fixed c ≡ row_level (slice_index s.capacities c) s.slots (λ id. fixed (flow_in s.slots id)) (users_on s.users c)
+    resource_level s.capacities (held s.slots) fixed c ≡ row_level (slice_index s.capacities c) s.slots (λ id. fixed (flow_in s.slots id)) (users_on s.users c)

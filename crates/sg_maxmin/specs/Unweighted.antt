@@ -5,45 +5,45 @@ use Rattle.sg_maxmin.specs.Fill.{Flow, is_on, least, fill}
 use Rattle.sg_maxmin.specs.Fixing.{Fixed, unfixed}
 
 -- the sum of the fixed shares on the resource: a share is the level at which it was fixed
-unfoldable pub taken : List Flow → Fixed → ℕ → ℕ
-taken flows fixed resource = sum_by (λ flow. if is_on resource flow then unwrap_or (fixed flow) 0 else 0) flows
+unfoldable pub equal_taken : List Flow → Fixed → ℕ → ℕ
+equal_taken flows fixed resource = sum_by (λ flow. if is_on resource flow then unwrap_or (fixed flow) 0 else 0) flows
 
 -- the number of unfixed flows on it
-unfoldable pub waiting : List Flow → Fixed → ℕ → ℕ
-waiting flows fixed resource = count_by (λ flow. is_on resource flow && is_none (fixed flow)) flows
+unfoldable pub equal_waiting : List Flow → Fixed → ℕ → ℕ
+equal_waiting flows fixed resource = count_by (λ flow. is_on resource flow && is_none (fixed flow)) flows
 
 -- the level of the resource: what the fixed flows leave, for each of the unfixed ones
-unfoldable pub level : List ℕ → List Flow → Fixed → ℕ → ℕ
-level capacities flows fixed resource = (slice_index capacities resource - taken flows fixed resource) / waiting flows fixed resource
+unfoldable pub equal_level : List ℕ → List Flow → Fixed → ℕ → ℕ
+equal_level capacities flows fixed resource = (slice_index capacities resource - equal_taken flows fixed resource) / equal_waiting flows fixed resource
 
 -- what limits a flow: its bound, and the levels of its resources
-unfoldable pub limits : List ℕ → List Flow → Fixed → Flow → List ℕ
-limits capacities flows fixed flow = option_to_list flow.bound ++ map (level capacities flows fixed) flow.uses
+unfoldable pub equal_limits : List ℕ → List Flow → Fixed → Flow → List ℕ
+equal_limits capacities flows fixed flow = option_to_list flow.bound ++ map (equal_level capacities flows fixed) flow.uses
 
 -- the least of all bounds of unfixed flows, and of all levels of resources with an unfixed flow
-unfoldable pub lowest : List ℕ → List Flow → Fixed → ℕ
-lowest capacities flows fixed = least (flat_map (limits capacities flows fixed) (filter (λ flow. is_none (fixed flow)) flows))
+unfoldable pub equal_lowest : List ℕ → List Flow → Fixed → ℕ
+equal_lowest capacities flows fixed = least (flat_map (equal_limits capacities flows fixed) (filter (λ flow. is_none (fixed flow)) flows))
 
 -- whether this is the flow's bound, or the level of a resource that it uses
-unfoldable pub is_at : List ℕ → List Flow → Fixed → ℕ → Flow → Bool
-is_at capacities flows fixed low flow = list_any (λ limit. limit == low) (limits capacities flows fixed flow)
+unfoldable pub is_equal_limit : List ℕ → List Flow → Fixed → ℕ → Flow → Bool
+is_equal_limit capacities flows fixed low flow = list_any (λ limit. limit == low) (equal_limits capacities flows fixed flow)
 
 -- One step: all unfixed flows that are at the lowest level get it, in the same step.
-unfoldable pub step : List ℕ → List Flow → Fixed → Fixed
-step capacities flows fixed flow = if is_none (fixed flow) && is_at capacities flows fixed (lowest capacities flows fixed) flow then Some (lowest capacities flows fixed) else fixed flow
+unfoldable pub equal_step : List ℕ → List Flow → Fixed → Fixed
+equal_step capacities flows fixed flow = if is_none (fixed flow) && is_equal_limit capacities flows fixed (equal_lowest capacities flows fixed) flow then Some (equal_lowest capacities flows fixed) else fixed flow
 
 -- so many steps, from this on
-unfoldable pub steps_from : ℕ → List ℕ → List Flow → Fixed → Fixed
-steps_from zero capacities flows fixed = fixed
-steps_from (suc n) capacities flows fixed = steps_from n capacities flows (step capacities flows fixed)
+unfoldable pub equal_steps : ℕ → List ℕ → List Flow → Fixed → Fixed
+equal_steps zero capacities flows fixed = fixed
+equal_steps (suc n) capacities flows fixed = equal_steps n capacities flows (equal_step capacities flows fixed)
 
 -- the share of a flow among these flows, of whatever weight
-unfoldable pub share_of : List ℕ → List Flow → Flow → ℕ
-share_of capacities flows flow = unwrap_or (steps_from (length flows) capacities flows unfixed flow) 0
+unfoldable pub equal_share : List ℕ → List Flow → Flow → ℕ
+equal_share capacities flows flow = unwrap_or (equal_steps (length flows) capacities flows unfixed flow) 0
 
 -- the share of each flow
 abbrev pub equal_fill : List ℕ → List Flow → List ℕ
-equal_fill capacities flows = map (share_of capacities flows) flows
+equal_fill capacities flows = map (equal_share capacities flows) flows
 
 -- each flow weighs 1
 abbrev pub AllWeighOne : List Flow → Type 0

@@ -1,7 +1,7 @@
 //! All uses: each stands in the chain of its flow and in that of its resource.
 ghost use Rattle.std.specs.Prelude.{◌≡◌, ◌≤◌, ◌<◌, ◌+◌, ◌∷◌, ℕ, [], All, length, None, Some, IsSome, IfOk, OnOk, replicate, slice_index_or};
 ghost use Rattle.sg_maxmin.specs.Chain.{IsChain, KeepsChains, resources};
-ghost use Rattle.sg_maxmin.specs.Chained.{GainsUses, users_on};
+ghost use Rattle.sg_maxmin.specs.Chained.{GainsRoom, GainsUses, users_on};
 ghost use Rattle.sg_maxmin.specs.Walk.{Leads, next_on, resource_of, user_of};
 ghost use Rattle.sg_maxmin.specs.kept.Linked.{AreGained, AreLists, CanHold, HoldsMore, uses_of};
 
@@ -109,8 +109,7 @@ impl Chains {
     /// Makes room for this many more uses. Only the room changes, even if memory runs out, and the room doesn't shrink.
     pub fn reserve(&mut self, uses: usize) -> Result<(), Memory>
         ensures room { OnOk result (uses ≤ self.new.room) }
-        ensures grows { self.old.room ≤ self.new.room }
-        ensures kept { self.new ≡ record self.old { room = self.new.room } }
+        ensures gains { GainsRoom self.old self.new }
     {
         self.slots.reserve(uses)?;
         Ok(())

@@ -1,6 +1,6 @@
 //! Rows of flows under numbers, of which there are as many as were asked for. A number that is free again is the
 //! next one to be given.
-ghost use Rattle.std.specs.Prelude.{◌≡◌, ◌≢◌, ◌≤◌, ◌<◌, ◌+◌, ◌-◌, ◌^◌, [], ◌∷◌, ◌++◌, ℕ, None, Some, IsSome, is_some, length, count_by, OnOk, OnErr, slice_index_or, slice_set};
+ghost use Rattle.std.specs.Prelude.{◌≡◌, ◌≢◌, ◌≤◌, ◌<◌, ◌+◌, ◌-◌, ◌^◌, [], ◌∷◌, ◌++◌, ℕ, None, Some, IsSome, is_some, length, count_by, MatchResult, OnOk, slice_index_or, slice_set};
 ghost use Rattle.sg_maxmin.specs.kept.Numbers.{row_at, free_count};
 
 use crate::flow_row::{Cell, FlowRow, cell_with, free_cell, row_in};
@@ -48,8 +48,8 @@ impl Rows {
 
     // Adds one number.
     fn grow(&mut self) -> Result<(), Memory>
-        ensures grown { OnOk result (self.new ≡ self.old ++ None ∷ []) }
-        ensures failed { OnErr result (self.new ≡ self.old) }
+        ensures { MatchResult result (λ _. self.new ≡ self.old ++ None ∷ [])
+            (λ _. self.new ≡ self.old) }
     {
         let number = self.rows.len();
         if number >= MOST {

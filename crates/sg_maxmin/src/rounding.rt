@@ -22,10 +22,8 @@ pub fn level_of_bound(weight: u32, bound: Option<u64>) -> Option<u64>
     requires { 0 < weight }
     ensures { result ≡ option_map (bound_level weight) bound }
 {
-    match bound {
-        None => None,
-        Some(bound) => Some(bound.div_ceil(weight as u64)),
-    }
+    let bound = bound?;
+    Some(bound.div_ceil(weight as u64))
 }
 
 /// Returns the level of a resource: what remains for each unit of weight that waits, rounded down; 0 if none waits.

@@ -218,10 +218,8 @@ impl System {
             (replicate (length (uses_at self.now.slots flow)) flow) }
         ensures few { length (uses_at self.now.slots flow) ≤ length self.now.uses }
     {
-        match self.flows.get(flow) {
-            Some(row) => row.first,
-            None => None,
-        }
+        let row = self.flows.get(flow)?;
+        row.first
     }
 
     /// Returns the first use on a resource; None if and only if no flow uses it. The next are uses of the same
@@ -277,10 +275,7 @@ impl System {
         requires { IsSome (flow_at self.now.slots flow) }
         ensures { IfSome (flow_at self.now.slots flow) (λ held. result ≡ held.bound) }
     {
-        match self.flows.get(flow) {
-            Some(row) => row.bound,
-            None => None,
-        }
+        self.flows.get(flow)?.bound
     }
 
     /// Returns for how many more flows there is room.

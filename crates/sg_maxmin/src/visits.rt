@@ -1,5 +1,5 @@
 //! A flow's chain of uses is read by `look` alone, which counts.
-ghost use Rattle.std.specs.Prelude.{◌≡◌, ◌<◌, ◌+◌};
+ghost use Rattle.std.specs.Prelude.{◌<◌};
 ghost use Rattle.sg_maxmin.specs.kept.Uses.{GoesOn, IsOneChain};
 
 use crate::chains::Chains;
@@ -16,8 +16,7 @@ pub(crate) fn look<L: Ledger>(
 ) -> Use
     requires some { 0 < count }
     requires chain { IsOneChain count chains.now.uses at }
-    ensures next { GoesOn count chains.now.uses at result }
-    ensures looks { steps.new ≡ steps.old + 1 }
+    ensures { GoesOn count chains.now.uses at result steps.old steps.new }
 {
     let Some(i) = at else { unreachable!() };
     chains.look(i, steps)

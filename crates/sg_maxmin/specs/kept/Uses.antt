@@ -1,5 +1,5 @@
 -- How a `System` keeps its flows: each has a chain of uses.
-use Rattle.std.specs.Prelude.{◌≡◌, ℕ, ◌-◌, ◌*◌, ◌^◌, ◌<◌, min, IfSome, Option, None, Some, List, ◌∷◌, length, map, slice_index_or, unwrap_or, option_map}
+use Rattle.std.specs.Prelude.{◌≡◌, ℕ, ◌+◌, ◌-◌, ◌*◌, ◌^◌, ◌<◌, min, IfSome, Option, None, Some, List, ◌∷◌, length, map, slice_index_or, unwrap_or, option_map}
 use Rattle.sg_maxmin.specs.declared.uses.Use.{Use}
 use Rattle.sg_maxmin.specs.Chain.{IsChain, resources}
 use Rattle.sg_maxmin.specs.Chained.{Chained}
@@ -46,7 +46,8 @@ pub record IsKept (capacities : List ℕ) (rows : List (Option FlowRow)) (chains
 abbrev pub IsOneChain : ℕ → List (Option Use) → Option ℕ → Type 0
 IsOneChain n uses at = (id : ℕ) × IsChain id n uses at
 
--- a use, and the chain after it
-pub record GoesOn (n : ℕ) (uses : List (Option Use)) (at : Option ℕ) (one : Use) : Type 0 where
+-- a use, and the chain after it; that is one visit
+pub record GoesOn (n : ℕ) (uses : List (Option Use)) (at : Option ℕ) (one : Use) (before after : ℕ) : Type 0 where
   pub chain : IsOneChain (n - 1) uses one.next_of_flow
   pub list : resources n uses at ≡ one.resource ∷ resources (n - 1) uses one.next_of_flow
+  pub looks : after ≡ before + 1

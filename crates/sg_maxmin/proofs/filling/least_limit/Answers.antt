@@ -19,13 +19,13 @@ loop-done-preserved g c =
     let waiting = c.args.counts.waiting.now in
     let e : c.args.row.count - (c.loop-done.done + 1) ≡ n - 1 = omega arith in
     let rest = resources (n - 1) slots slot.next_of_flow in
-    let here : drop c.loop-done.done all ≡ slot.resource ∷ rest = sym inv.rest ∙ out.next.list in
+    let here : drop c.loop-done.done all ≡ slot.resource ∷ rest = sym inv.rest ∙ out.list in
     let lev : ℕ → ℕ = λ r. get_or left r 0 / get_or waiting r 0 in
     let is : c.smaller-least.result ≡ Some (least_with c.loop-done.least (lev slot.resource)) = c.smaller-least.ensures ∙ ap (λ v. Some (least_with c.loop-done.least v)) c.level_of-level.ensures in
     record {
-      chain = rw e out.next.chain;
-      in_left = rw e (All-tail (λ r. r < length left) slot.resource rest (All-same (λ r. r < length left) (slot.resource ∷ rest) (resources n slots c.loop-done.at) (sym out.next.list) inv.in_left));
-      in_waiting = rw e (All-tail (λ r. r < length waiting) slot.resource rest (All-same (λ r. r < length waiting) (slot.resource ∷ rest) (resources n slots c.loop-done.at) (sym out.next.list) inv.in_waiting));
+      chain = rw e out.chain;
+      in_left = rw e (All-tail (λ r. r < length left) slot.resource rest (All-same (λ r. r < length left) (slot.resource ∷ rest) (resources n slots c.loop-done.at) (sym out.list) inv.in_left));
+      in_waiting = rw e (All-tail (λ r. r < length waiting) slot.resource rest (All-same (λ r. r < length waiting) (slot.resource ∷ rest) (resources n slots c.loop-done.at) (sym out.list) inv.in_waiting));
       rest = rw e (sym (step_on all c.loop-done.done slot.resource rest here).1);
       least = rw is (limits_more c.loop-done.least (option_to_list (option_map (bound_level c.args.row.weight) c.args.row.bound)) lev all c.loop-done.done slot.resource rest here inv.least);
       looks = omega (arith, inv.looks, c.look-slot.ensures.looks);

@@ -16,12 +16,12 @@ loop-done-preserved g c =
     let inv = c.loop-done.invariant in
     let e : c.args.row.count - (c.loop-done.done + 1) ≡ n - 1 = omega arith in
     let rest = resources (n - 1) slots slot.next_of_flow in
-    let all = All-same (λ r. r < length w) (slot.resource ∷ rest) (resources n slots c.loop-done.at) (sym out.next.list) inv.exist in
+    let all = All-same (λ r. r < length w) (slot.resource ∷ rest) (resources n slots c.loop-done.at) (sym out.list) inv.exist in
     let here : slot.resource < length w = All-head (λ r. r < length w) slot.resource rest all in
     record {
-      chain = rw e out.next.chain;
+      chain = rw e out.chain;
       exist = rw (e, length-set w slot.resource (get_or w slot.resource 0 + c.from.result)) (All-tail (λ r. r < length w) slot.resource rest all);
-      counts = λ r. rw (e, c.from.ensures) (put_more w slot.resource c.args.row.weight rest r here ∙ ap (λ list. get_or w r 0 + times r list * c.args.row.weight) (sym out.next.list) ∙ inv.counts r);
+      counts = λ r. rw (e, c.from.ensures) (put_more w slot.resource c.args.row.weight rest r here ∙ ap (λ list. get_or w r 0 + times r list * c.args.row.weight) (sym out.list) ∙ inv.counts r);
       looks = omega (arith, inv.looks, c.look-slot.ensures.looks);
     }
 
@@ -32,7 +32,7 @@ bounds-waiting-slot-in-loop-done g c =
     let slot = c.look-slot.result in
     let rest = resources (n - 1) slots slot.next_of_flow in
     All-head (λ r. r < length c.loop-done.waiting) slot.resource rest
-    (All-same (λ r. r < length c.loop-done.waiting) (slot.resource ∷ rest) (resources n slots c.loop-done.at) (sym c.look-slot.ensures.next.list) c.loop-done.invariant.exist)
+    (All-same (λ r. r < length c.loop-done.waiting) (slot.resource ∷ rest) (resources n slots c.loop-done.at) (sym c.look-slot.ensures.list) c.loop-done.invariant.exist)
 
 pub overflow_add-waiting : goal.overflow_add-waiting
 overflow_add-waiting g c =
@@ -42,7 +42,7 @@ overflow_add-waiting g c =
     let r = slot.resource in
     let fits : get_or c.loop-done.waiting r 0 + c.args.row.weight < 2 ^ 64 =
     put_fits c.loop-done.waiting r c.args.row.weight (get_or c.args.waiting.now r 0 + times r (resources c.args.row.count slots c.args.row.first) * c.args.row.weight)
-    (resources (n - 1) slots slot.next_of_flow) (resources n slots c.loop-done.at) c.look-slot.ensures.next.list (c.loop-done.invariant.counts r) (c.requires.fits r) in
+    (resources (n - 1) slots slot.next_of_flow) (resources n slots c.loop-done.at) c.look-slot.ensures.list (c.loop-done.invariant.counts r) (c.requires.fits r) in
     omega (arith, fits, c.from.ensures)
 
 pub returns-clause-counts : goal.returns-clause-counts

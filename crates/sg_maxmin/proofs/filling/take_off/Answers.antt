@@ -31,14 +31,14 @@ loop-done-preserved g c =
     let inv = c.loop-done.invariant in
     let e : c.args.row.count - (c.loop-done.done + 1) ≡ n - 1 = omega arith in
     let rest = resources (n - 1) slots slot.next_of_flow in
-    let all = All-same (λ r. r < length w) (slot.resource ∷ rest) (resources n slots c.loop-done.at) (sym out.next.list) inv.exist in
+    let all = All-same (λ r. r < length w) (slot.resource ∷ rest) (resources n slots c.loop-done.at) (sym out.list) inv.exist in
     let here : slot.resource < length w = All-head (λ r. r < length w) slot.resource rest all in
     let share = c.share_at-share.result in
     let v = c.saturating_sub.result in
     record {
-      chain = rw e out.next.chain;
+      chain = rw e out.chain;
       exist = rw (e, length-set w slot.resource v) (All-tail (λ r. r < length w) slot.resource rest all);
-      counts = λ r. rw (e, c.saturating_sub.ensures) (off_more w slot.resource share rest r here ∙ ap (λ list. get_or w r 0 - times r list * share) (sym out.next.list) ∙ inv.counts r);
+      counts = λ r. rw (e, c.saturating_sub.ensures) (off_more w slot.resource share rest r here ∙ ap (λ list. get_or w r 0 - times r list * share) (sym out.list) ∙ inv.counts r);
       fit = inv.fit;
       looks = omega (arith, inv.looks, c.look-slot.ensures.looks);
     }
@@ -62,7 +62,7 @@ bounds-left-resource-in-loop-done g c =
     let slot = c.look-slot.result in
     let rest = resources (n - 1) uses slot.next_of_flow in
     All-head (λ r. r < length c.loop-done.left) slot.resource rest
-    (All-same (λ r. r < length c.loop-done.left) (slot.resource ∷ rest) (resources n uses c.loop-done.at) (sym c.look-slot.ensures.next.list) c.loop-done.invariant.exist)
+    (All-same (λ r. r < length c.loop-done.left) (slot.resource ∷ rest) (resources n uses c.loop-done.at) (sym c.look-slot.ensures.list) c.loop-done.invariant.exist)
 
 pub offset_bounds-left-resource-in-loop-done : goal.offset_bounds-left-resource-in-loop-done
 offset_bounds-left-resource-in-loop-done g c =
@@ -71,5 +71,5 @@ offset_bounds-left-resource-in-loop-done g c =
     let slot = c.look-slot.result in
     let rest = resources (n - 1) uses slot.next_of_flow in
     let here : slot.resource < length c.loop-done.left = All-head (λ r. r < length c.loop-done.left) slot.resource rest
-    (All-same (λ r. r < length c.loop-done.left) (slot.resource ∷ rest) (resources n uses c.loop-done.at) (sym c.look-slot.ensures.next.list) c.loop-done.invariant.exist) in
+    (All-same (λ r. r < length c.loop-done.left) (slot.resource ∷ rest) (resources n uses c.loop-done.at) (sym c.look-slot.ensures.list) c.loop-done.invariant.exist) in
     omega (arith, here)

@@ -15,8 +15,8 @@ look-requires g c =
 some_same : (a b : Use) → Some a ≡ Some b → a ≡ b
 some_same a b e = cc e
 
-pub returns-clause-next : goal.returns-clause-next
-returns-clause-next g c =
+pub returns : goal.returns
+returns g c =
     let uses = c.args.chains.now.uses in
     let n = c.args.count in
     let front = front_of c.requires.chain.0 n uses c.in-Some.i c.requires.some (subst (λ o. IsChain c.requires.chain.0 n uses o) c.in-Some.is c.requires.chain.1) in
@@ -24,4 +24,5 @@ returns-clause-next g c =
     record {
       chain = (c.requires.chain.0, subst (λ u. IsChain c.requires.chain.0 (n - 1) uses u.next_of_flow) same front.rest);
       list = ap (λ o. resources n uses o) c.in-Some.is ∙ subst (λ u. resources n uses (Some c.in-Some.i) ≡ u.resource ∷ resources (n - 1) uses u.next_of_flow) same front.what;
+      looks = c.look.ensures.looks;
     }

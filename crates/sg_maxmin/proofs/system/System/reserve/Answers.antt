@@ -13,7 +13,7 @@ invariant_of-self-in_err-reserve-2 c =
     let rows = c.reserve.new.self in
     let left = c.self.inside.left.items in
     let waiting = c.self.inside.waiting.items in
-    subst (λ chains. IsKept caps rows chains left waiting) (sym c.reserve-2.ensures.kept)
+    subst (λ chains. IsKept caps rows chains left waiting) (sym c.reserve-2.ensures.gains.kept)
     (kept_room caps rows c.self.inside.chains c.reserve-2.new.self.room left waiting (kept_extended caps c.self.inside.flows rows c.self.inside.chains left waiting c.self.invariant c.reserve.ensures.kept))
 
 pub invariant_of-self-2 : goal.invariant_of-self-2
@@ -22,7 +22,7 @@ invariant_of-self-2 c =
     let rows = c.reserve.new.self in
     let left = c.self.inside.left.items in
     let waiting = c.self.inside.waiting.items in
-    subst (λ chains. IsKept caps rows chains left waiting) (sym c.reserve-2.ensures.kept)
+    subst (λ chains. IsKept caps rows chains left waiting) (sym c.reserve-2.ensures.gains.kept)
     (kept_room caps rows c.self.inside.chains c.reserve-2.new.self.room left waiting (kept_extended caps c.self.inside.flows rows c.self.inside.chains left waiting c.self.invariant c.reserve.ensures.kept))
 
 pub returns-in_err-reserve-clause-slots : goal.returns-in_err-reserve-clause-slots
@@ -37,7 +37,7 @@ returns-in_err-reserve-clause-shares c = λ id. share_kept c.self.inside.flows c
 pub returns-in_err-reserve-2-clause-slots : goal.returns-in_err-reserve-2-clause-slots
 returns-in_err-reserve-2-clause-slots c =
     let out = c.reserve.ensures in
-    subst (λ uses. IsExtended c.args.self.now.slots (flows_of c.reserve.new.self uses) c.args.flows) (sym (ap (λ s. s.uses) c.reserve-2.ensures.kept))
+    subst (λ uses. IsExtended c.args.self.now.slots (flows_of c.reserve.new.self uses) c.args.flows) (sym (ap (λ s. s.uses) c.reserve-2.ensures.gains.kept))
     (subst (λ s. IsExtended s.slots (flows_of c.reserve.new.self c.self.inside.chains.uses) c.args.flows) c.self.view_is
     (extended c.self.inside.flows c.reserve.new.self c.self.inside.chains.uses c.args.flows out.kept out.longer (omega (arith, out.few))))
 
@@ -47,7 +47,7 @@ returns-in_err-reserve-2-clause-shares c = λ id. share_kept c.self.inside.flows
 pub returns-clause-slots : goal.returns-clause-slots
 returns-clause-slots c =
     let out = c.reserve.ensures in
-    subst (λ uses. IsExtended c.args.self.now.slots (flows_of c.reserve.new.self uses) c.args.flows) (sym (ap (λ s. s.uses) c.reserve-2.ensures.kept))
+    subst (λ uses. IsExtended c.args.self.now.slots (flows_of c.reserve.new.self uses) c.args.flows) (sym (ap (λ s. s.uses) c.reserve-2.ensures.gains.kept))
     (subst (λ s. IsExtended s.slots (flows_of c.reserve.new.self c.self.inside.chains.uses) c.args.flows) c.self.view_is
     (extended c.self.inside.flows c.reserve.new.self c.self.inside.chains.uses c.args.flows out.kept out.longer (omega (arith, out.few))))
 
