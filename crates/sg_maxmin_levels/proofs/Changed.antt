@@ -6,7 +6,7 @@ use Rattle.sg_maxmin.specs.Sharing.{Sharing, IsSound, Changes, flow_at, uses_at,
 use Rattle.sg_maxmin_levels.specs.declared.levels.Levels.{Levels}
 use Rattle.sg_maxmin.specs.Numbered.{level_at}
 use Rattle.sg_maxmin_levels.specs.Settling.{IsChanged, IsSame, IsStale, is_active}
-use Rattle.sg_maxmin_levels.specs.Kept.{ActivatesAll, HasLeft, IsBetween, IsBetweenBut, IsKept, NotesChanged}
+use Rattle.sg_maxmin_levels.specs.Kept.{ActivatesAll, IsBetween, IsBetweenBut, IsKept, NotesChanged}
 use Rattle.sg_maxmin.proofs.Listed.{bool_cases, eq_cases, mark_stays, mark_there, none_some, off_mark, some_of}
 use Rattle.sg_maxmin.proofs.Users.{flow_below, uses_held, held_below}
 use Rattle.sg_maxmin.specs.Chained.{times, users_on}
@@ -95,6 +95,14 @@ module _ (s t : Sharing) (sound : IsSound s) (sound' : IsSound t) (id : ℕ) (it
         ])
 
 -- ---- a flow ends
+-- a flow has no part any more, and no level and no hold changes
+pub record HasLeft (old new : Levels) (flow : ℕ) : Type 0 where
+  pub levels : new.levels.items ≡ old.levels.items
+  pub parts : new.parts.items ≡ set old.parts.items flow 0
+  pub moved : new.moved ≡ old.moved
+  pub stale : new.stale ≡ old.stale
+  pub holds : new.holds.items ≡ old.holds.items
+
 module _ (s t : Sharing) (sound : IsSound s) (sound' : IsSound t) (id : ℕ) (removed : Changes s.slots t.slots id None) (numbers : length t.slots ≡ length s.slots) (capacities : t.capacities ≡ s.capacities) (old new : Levels) (stale' : List ℕ) (before : IsBetween s old) (below : id < length old.parts.items) (left : HasLeft old new id) (gone : is_in id stale' ≡ false) (rests : (other : ℕ) → other ≢ id → is_in other stale' ≡ is_in other old.stale.members) (activates : ActivatesAll (uses_at s.slots id) old.active.members new.active.members) (kept : IsKept s new) (held : IsSome (flow_at s.slots id)) (counts : (c : ℕ) → slice_index new.counts.items c ≤ slice_index old.counts.items c - times c (uses_at s.slots id)) where
   no_part : slice_index new.parts.items id ≡ 0
   no_part = ap (λ ps. slice_index ps id) left.parts ∙ get_or-set_same old.parts.items id 0 0 below

@@ -45,6 +45,11 @@ pub record HasFlow (s : Sharing) (all : Levels) (id : ℕ) : Type 0 where
   pub kept : IsKept s all
   pub held : IsSome (flow_at s.slots id)
 
+-- and, unless the flow is stale, its part is what it asks for at its level
+pub record CanGive (s : Sharing) (all : Levels) (id : ℕ) : Type 0 where
+  pub of : HasFlow s all id
+  pub part : is_in id all.stale.members ≡ false → slice_index all.parts.items id ≡ demand_of (flow_in s.slots id) (level_at all.levels.items id)
+
 -- and the flow is a user of the resource
 pub record IsUser (s : Sharing) (all : Levels) (r id : ℕ) : Type 0 where
   pub kept : IsKept s all
@@ -86,6 +91,11 @@ pub record IsBetweenBut (s : Sharing) (all : Levels) (stale : List ℕ) : Type 0
 -- and these are noted
 abbrev pub IsBetween : Sharing → Levels → Type 0
 IsBetween s all = IsBetweenBut s all all.stale.members
+
+-- and the flow is held
+pub record HasFlowBetween (s : Sharing) (all : Levels) (id : ℕ) : Type 0 where
+  pub between : IsBetween s all
+  pub held : IsSome (flow_at s.slots id)
 
 -- a flow whose level changed is noted, and those that were noted stay so
 abbrev pub NotesMoved : Levels → Levels → Type 0
@@ -167,14 +177,6 @@ pub record IsEnded (s t : Sharing) (id : ℕ) : Type 0 where
   pub flow_room : t.flow_room ≡ s.flow_room + 1
   pub use_room : t.use_room ≡ s.use_room + length (uses_at s.slots id)
 
--- a flow has no part any more, and no level and no hold changes
-pub record HasLeft (old new : Levels) (flow : ℕ) : Type 0 where
-  pub levels : new.levels.items ≡ old.levels.items
-  pub parts : new.parts.items ≡ slice_set old.parts.items flow 0
-  pub moved : new.moved ≡ old.moved
-  pub stale : new.stale ≡ old.stale
-  pub holds : new.holds.items ≡ old.holds.items
-
 -- at each of these resources one part of the demand may stand for another: it is no more than the demand, and this runs over nowhere
 pub record CanShift (before after : ℕ) (resources demands : List ℕ) : Type 0 where
   pub some : (c : ℕ) → times c resources * before ≤ slice_index demands c
@@ -200,6 +202,14 @@ ActivatesOnly resources old new = (r : ℕ) → is_active new r ≡ true → is_
 pub record Activates (resources old new : List ℕ) : Type 0 where
   pub all : ActivatesAll resources old new
   pub only : ActivatesOnly resources old new
+
+-- a visit to each use of a flow: its resources are active, and in the demand on each one part stands for another; if that is none, a user less is counted
+pub record VisitsUses (s : Sharing) (flow part next : ℕ) (old new : Levels) (before after : ℕ) : Type 0 where
+  pub activates : Activates (uses_at s.slots flow) old.active.members new.active.members
+  pub shifts : Shifts part next (uses_at s.slots flow) old.demands.items new.demands.items
+  pub counts : Lessens next (uses_at s.slots flow) old new
+  pub levels : KeepsLevels old new
+  pub looks : after ≡ before + length (uses_at s.slots flow)
 
 -- the same except for one of them, which stays as it was
 abbrev pub ActivatesBut : ℕ → List ℕ → List ℕ → List ℕ → Type 0
@@ -250,6 +260,12 @@ pub record Settles (s : Sharing) (resource : ℕ) (old new : Levels) : Type 0 wh
   pub settling : IsSettling s new
   pub moved : NotesMoved old new
   pub within : ResourceStaysWithin s resource old new
+
+-- and each user is visited once, and the uses of one so often
+pub record SettlesUsers (s : Sharing) (resource : ℕ) (old new : Levels) (times before after : ℕ) : Type 0 where
+  pub settles : Settles s resource old new
+  pub looks : after ≤ before + length (users_on s.users resource) + times * old.longest
+  pub few : times ≤ 2 * length (users_on s.users resource)
 
 abbrev pub UsesStayWithin : List ℕ → Levels → Levels → Type 0
 UsesStayWithin resources old new = (p q : ℕ → Bool) → ((r : ℕ) → is_in r resources ≡ true → IsTrue (q r)) → IsWithin p q old → IsWithin p q new

@@ -62,10 +62,8 @@ impl Allowance {
             ≤ spare_looks (max self.known users) (max self.row users) self.ended) }
     {
         let all = allowed(self.known.max(users), self.row.max(users), self.ended);
-        match all.checked_sub(self.spent) {
-            None => None,
-            Some(left) => { if users <= left { Some(left) } else { None } }
-        }
+        let left = all.checked_sub(self.spent)?;
+        if users <= left { Some(left) } else { None }
     }
 
     // Returns the same with so many users, after so many visits.

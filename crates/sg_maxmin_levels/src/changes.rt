@@ -1,13 +1,12 @@
 //! What changes between rate updates: flows begin and end or get other bounds, and resources get other capacities.
-ghost use Rattle.std.specs.Prelude.{◌≡◌, ◌≤◌, ◌<◌, ◌+◌, ◌*◌, ◌^◌, ℕ, All, IsSome, IfSome, Some, length, slice_index, slice_set, ◌-◌};
+ghost use Rattle.std.specs.Prelude.{◌≡◌, ◌≤◌, ◌<◌, ◌+◌, ℕ, All, IfSome, Some, length, slice_index, slice_set, ◌-◌};
 ghost use Rattle.sg_maxmin.specs.Chained.{times};
 ghost use Rattle.sg_maxmin.specs.Fill.{flow};
-ghost use Rattle.sg_maxmin.specs.Sharing.{IsFlow, IsSound, flow_at, uses_at};
-ghost use Rattle.sg_maxmin_levels.specs.Kept.{Activates, FlowJoins, HasFlow, HasLeft, IsBetween, IsEnded, IsKept, IsMoved, IsStarted, KeepsLevels, KeepsUp, ResourceJoins, UsesStayWithin};
-ghost use Rattle.sg_maxmin.specs.Numbered.{bound_of as bound_of_flow, flow_in};
+ghost use Rattle.sg_maxmin.specs.Sharing.{IsFlow, flow_at, uses_at};
+ghost use Rattle.sg_maxmin_levels.specs.Kept.{FlowJoins, HasFlowBetween, IsBetween, IsEnded, IsStarted, KeepsUp, ResourceJoins, UsesStayWithin};
 
 use crate::levels::Levels;
-use crate::settling::{bound_of, is_same, part_of, visit, visit_uses};
+use crate::settling::{is_same, visit_uses};
 use sg_base::Steps;
 use sg_maxmin::{FlowId, System};
 use std::sync::ledger::Ledger;
@@ -22,22 +21,6 @@ fn count_in(uses: &[usize], counts: &mut Vec<u64>)
     for resource in uses {
         counts[*resource] = counts[*resource].saturating_add(1);
     }
-}
-
-// Takes the part of a flow that ends away; its resources become active.
-fn leave<L: Ledger>(system: &System, flow: usize, kept: &mut Levels, steps: &mut Steps<L>)
-    requires { HasFlow system.now kept.old flow }
-    ensures left { HasLeft kept.old kept.new flow }
-    ensures activates { Activates (uses_at system.now.slots flow)
-        kept.old.active.members kept.new.active.members }
-    ensures kept { IsKept system.now kept.new }
-    ensures counts { (c : ℕ) → slice_index kept.new.counts.items c
-        ≤ slice_index kept.old.counts.items c - times c (uses_at system.now.slots flow) }
-    ensures looks { steps.new ≡ steps.old + length (uses_at system.now.slots flow) }
-{
-    let part = kept.part(flow);
-    kept.parts[flow] = 0;
-    visit_uses(system, flow, part, 0, kept, steps);
 }
 
 impl Levels {
@@ -70,15 +53,16 @@ impl Levels {
     /// Ends a flow, as `System::remove` removes it. The resources that it used become active; it visits each of its
     /// uses.
     pub fn end<L: Ledger>(&mut self, system: &mut System, flow: FlowId, steps: &mut Steps<L>)
-        requires held { IsSome (flow_at system.old.slots flow) }
-        requires between { IsBetween system.old self.old }
+        requires { HasFlowBetween system.old self.old flow }
         ensures ended { IsEnded system.old system.new flow }
         ensures keeps { KeepsUp system.old system.new
             (UsesStayWithin (uses_at system.old.slots flow)) self.old self.new }
         ensures looks { steps.new ≡ steps.old + length (uses_at system.old.slots flow) }
     {
         system.is_sound();
-        leave(system, flow, self, steps);
+        let part = self.part(flow);
+        self.parts[flow] = 0;
+        visit_uses(system, flow, part, 0, self, steps);
         system.remove(flow);
         system.is_sound();
         self.stale.remove(flow);
@@ -87,8 +71,7 @@ impl Levels {
     /// Gives a flow another bound. It is noted as moved, and keeps its level until the next rate update; no use is
     /// visited. If the bound is the one that it has, nothing changes.
     pub fn set_bound(&mut self, system: &mut System, flow: FlowId, bound: u64)
-        requires held { IsSome (flow_at system.old.slots flow) }
-        requires between { IsBetween system.old self.old }
+        requires { HasFlowBetween system.old self.old flow }
         ensures bounded { IfSome (flow_at system.old.slots flow) (λ held.
             system.new ≡ record system.old {
               slots = slice_set system.old.slots flow (Some (record held { bound = Some bound }));

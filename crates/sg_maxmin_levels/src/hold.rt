@@ -40,10 +40,8 @@ fn below(levels: &[Option<u64>], flow: usize, low: u64) -> Option<u64>
     requires { flow < length levels.now }
     ensures { result ≡ below_at levels.now low flow }
 {
-    match levels[flow] {
-        None => None,
-        Some(level) => { if level < low { Some(level) } else { None } }
-    }
+    let level = levels[flow]?;
+    if level < low { Some(level) } else { None }
 }
 
 // Returns what remains if a share is given.
@@ -141,9 +139,7 @@ pub(crate) fn level_above<L: Ledger>(
     ensures looks { steps.new ≤ steps.old + looks }
     ensures enough { result ≡ None → looks < length (users_on system.now.users resource) }
 {
-    let Some(rest) = rest_of(system, resource, levels, low, looks, steps) else {
-        return None;
-    };
+    let rest = rest_of(system, resource, levels, low, looks, steps)?;
     Some(Above {
         level: level_of_rest(rest),
         users: rest.users,

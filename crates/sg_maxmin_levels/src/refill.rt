@@ -2,11 +2,10 @@
 ghost use Rattle.std.specs.Prelude.{◌≡◌, ◌≤◌, ◌<◌, ◌+◌, ◌-◌, ◌*◌, ◌^◌, ℕ, [], false, All, IsSome, length, slice_set, slice_index};
 ghost use Rattle.sg_base.specs.MarkSet.{is_in};
 ghost use Rattle.sg_maxmin.specs.Sharing.{IsSound, flow_at, uses_at};
-ghost use Rattle.sg_maxmin_levels.specs.Demand.{demand_of};
 ghost use Rattle.sg_maxmin.specs.Held.{AreFilled};
-ghost use Rattle.sg_maxmin_levels.specs.Kept.{AreGiven, AreHeldAt, AreParts, CanShift, FlowsStayWithin, HasFlow, IsBetween, IsGiven, IsKept, IsWithin, KeepsFlows, Moves, NotesMoved, Shifts, is_one_of};
+ghost use Rattle.sg_maxmin_levels.specs.Kept.{AreGiven, AreHeldAt, AreParts, CanGive, CanShift, FlowsStayWithin, HasFlow, IsBetween, IsGiven, IsKept, IsWithin, KeepsFlows, Moves, NotesMoved, Shifts, is_one_of};
 ghost use Rattle.sg_maxmin.specs.Found.{IsFound, PassAlong};
-ghost use Rattle.sg_maxmin.specs.Numbered.{all_uses, flow_in, level_at};
+ghost use Rattle.sg_maxmin.specs.Numbered.{all_uses, level_at};
 ghost use Rattle.sg_maxmin_levels.specs.Settling.{is_active};
 
 use crate::levels::Levels;
@@ -88,10 +87,7 @@ fn give<L: Ledger>(
     kept: &mut Levels,
     steps: &mut Steps<L>,
 )
-    requires of { HasFlow system.now kept.old flow }
-    requires part { is_in flow kept.old.stale.members ≡ false
-        → slice_index kept.old.parts.items flow
-        ≡ demand_of (flow_in system.now.slots flow) (level_at kept.old.levels.items flow) }
+    requires { CanGive system.now kept.old flow }
     ensures given { IsGiven system.now kept.old kept.new flow level }
     ensures moves { Moves system.now flow kept.old kept.new }
     ensures looks { steps.new ≤ steps.old + length (uses_at system.now.slots flow) }

@@ -4,7 +4,7 @@ ghost use Rattle.sg_base.specs.MarkSet.{is_in};
 ghost use Rattle.sg_maxmin.specs.Chained.{users_on};
 ghost use Rattle.sg_maxmin.specs.Sharing.{IsSound, flow_at, uses_at};
 ghost use Rattle.sg_maxmin.specs.Held.{AreFilled};
-ghost use Rattle.sg_maxmin_levels.specs.Kept.{HasFlow, HasHold, HasPlaces, HasResource, IsBetween, IsBetweenBut, IsFirstPass, IsSettling, IsSettlingAt, Moves, NotesChanged, NotesMoved, Settles, StaysWithin};
+ghost use Rattle.sg_maxmin_levels.specs.Kept.{HasFlow, HasHold, HasPlaces, HasResource, IsBetween, IsBetweenBut, IsFirstPass, IsSettling, IsSettlingAt, Moves, NotesChanged, NotesMoved, Settles, SettlesUsers, StaysWithin};
 ghost use Rattle.sg_maxmin_levels.specs.Allowed.{AreNew, IsSpent, KnowsUsers, SparesLooks};
 ghost use Rattle.sg_maxmin_levels.specs.Joined.{spare_looks};
 ghost use Rattle.sg_maxmin.specs.Numbered.{all_uses, level_at};
@@ -121,10 +121,8 @@ impl Levels {
         steps: &mut Steps<L>,
     ) -> u64
         requires { HasHold system.now self.old resource hold }
-        ensures settles { Settles system.now resource self.old self.new }
-        ensures looks { steps.new ≤ steps.old + length (users_on system.now.users resource)
-            + result * self.old.longest }
-        ensures few { result ≤ 2 * length (users_on system.now.users resource) }
+        ensures { SettlesUsers system.now resource self.old self.new result
+            steps.old steps.new }
     {
         system.is_sound();
         let was = self.hold(resource);
@@ -153,9 +151,7 @@ impl Levels {
     {
         system.is_sound();
         let was = self.hold(resource);
-        let Some(found) = hold_of(system, resource, &self.levels, first, looks, steps) else {
-            return None;
-        };
+        let found = hold_of(system, resource, &self.levels, first, looks, steps)?;
         if are_none(was, found.hold) {
             self.put_to_rest(system, resource);
             return Some(found.looks);
@@ -196,15 +192,9 @@ impl Levels {
         if !given.is_enough() {
             return None;
         }
-        let Some(first) = level_above(system, resource, &self.levels, 0, u64::MAX, steps) else {
-            return None;
-        };
-        let Some(looks) = given.left_for(first.users) else {
-            return None;
-        };
-        let Some(left) = self.look_at(system, resource, first, looks, steps) else {
-            return None;
-        };
+        let first = level_above(system, resource, &self.levels, 0, u64::MAX, steps)?;
+        let looks = given.left_for(first.users)?;
+        let left = self.look_at(system, resource, first, looks, steps)?;
         Some(given.with_row(first.users, looks.saturating_sub(left)))
     }
 

@@ -5,7 +5,7 @@ ghost use Rattle.sg_maxmin.specs.Chained.{times, users_on};
 ghost use Rattle.sg_maxmin.specs.Sharing.{flow_at, uses_at};
 ghost use Rattle.sg_maxmin_levels.specs.Demand.{demand_of};
 ghost use Rattle.sg_maxmin.specs.Held.{IsAtMost, IsUnder};
-ghost use Rattle.sg_maxmin_levels.specs.Kept.{Activates, ActivatesBut, ActivatesOnly, CanShift, HasFlow, HasPlaces, IsKept, IsSettlingOn, IsUser, KeepsLevels, Lessens, MovesTo, NotesMoved, ResourceStaysWithin, SettlesUser, Shifts};
+ghost use Rattle.sg_maxmin_levels.specs.Kept.{Activates, ActivatesBut, ActivatesOnly, CanShift, HasFlow, HasPlaces, IsKept, IsSettlingOn, IsUser, KeepsLevels, MovesTo, NotesMoved, ResourceStaysWithin, SettlesUser, VisitsUses};
 ghost use Rattle.sg_maxmin.specs.Numbered.{IsHeld, bound_of as bound_of_flow, flow_in, level_at};
 ghost use Rattle.sg_maxmin_levels.specs.Settling.{HasCause, is_active};
 
@@ -34,12 +34,10 @@ fn hold_below(level: Option<u64>, hold: Option<u64>) -> Option<u64>
     ensures some { IfSome result (λ h. (hold ≡ Some h) × IsUnder h level) }
     ensures none { result ≡ None → IsAtMost level hold }
 {
-    match hold {
-        None => None,
-        Some(hold) => match level {
-            None => Some(hold),
-            Some(level) => { if hold < level { Some(hold) } else { None } }
-        },
+    let hold = hold?;
+    match level {
+        None => Some(hold),
+        Some(level) => { if hold < level { Some(hold) } else { None } }
     }
 }
 
@@ -108,13 +106,7 @@ pub(crate) fn visit_uses<L: Ledger>(
 )
     requires places { HasPlaces system.now kept.old }
     requires shift { CanShift before after (uses_at system.now.slots flow) kept.old.demands.items }
-    ensures activates { Activates (uses_at system.now.slots flow)
-        kept.old.active.members kept.new.active.members }
-    ensures shifts { Shifts before after (uses_at system.now.slots flow)
-        kept.old.demands.items kept.new.demands.items }
-    ensures counts { Lessens after (uses_at system.now.slots flow) kept.old kept.new }
-    ensures levels { KeepsLevels kept.old kept.new }
-    ensures looks { steps.new ≡ steps.old + length (uses_at system.now.slots flow) }
+    ensures { VisitsUses system.now flow before after kept.old kept.new steps.old steps.new }
 {
     let mut at = system.first_of(flow);
     while let Some(i) = at {

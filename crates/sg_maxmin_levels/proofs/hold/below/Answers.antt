@@ -3,12 +3,12 @@ use Rattle.sg_maxmin.specs.Numbered.{when_below}
 use Rattle.sg_maxmin.proofs.HeldLevels.{at_yes, at_no}
 use Rattle.sg_maxmin_levels.proofs.hold.below.Goals as goal
 
-pub returns-in-None : goal.returns-in-None
+pub returns-in_err-level : goal.returns-in_err-level
 unfolding when_below
-returns-in-None c = rw c.in-None.is refl
+returns-in_err-level c = rw (c.from_residual.ensures, c.in_err-level.was) refl
 
 pub returns-then-level-low : goal.returns-then-level-low
-returns-then-level-low c = sym (at_yes c.args.levels.now c.args.low c.args.flow c.in-Some.level c.in-Some.is c.if-level-low.true)
+returns-then-level-low c = sym (at_yes c.args.levels.now c.args.low c.args.flow c.in_ok-level.level c.in_ok-level.was c.if-level-low.true)
 
 pub returns-else-level-low : goal.returns-else-level-low
-returns-else-level-low c = sym (at_no c.args.levels.now c.args.low c.args.flow c.in-Some.level c.in-Some.is (omega (arith, c.if-level-low.false)))
+returns-else-level-low c = sym (at_no c.args.levels.now c.args.low c.args.flow c.in_ok-level.level c.in_ok-level.was (omega (arith, c.if-level-low.false)))

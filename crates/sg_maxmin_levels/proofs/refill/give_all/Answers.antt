@@ -27,16 +27,17 @@ under-requires g c =
     let held = All-get_or (λ id. IsSome (flow_at s.slots id)) c.args.flows.now c.loop-flow.flow-index 0 c.loop-flow-test.true c.requires.held in
     omega (arith, held_below s.slots (get_or c.args.flows.now c.loop-flow.flow-index 0) held, c.requires.places)
 
-pub give-requires-clause-of : goal.give-requires-clause-of
-give-requires-clause-of g c = record { kept = c.loop-flow.invariant.kept; held = All-get_or (λ id. IsSome (flow_at c.args.system.now.slots id)) c.args.flows.now c.loop-flow.flow-index 0 c.loop-flow-test.true c.requires.held }
-
-pub give-requires-clause-part : goal.give-requires-clause-part
-give-requires-clause-part g c = λ off.
+pub give-requires : goal.give-requires
+give-requires g c =
     let s = c.args.system.now in
     let flows = c.args.flows.now in
     let k = c.loop-flow.flow-index in
+    let inv = c.loop-flow.invariant in
     let held = All-get_or (λ id. IsSome (flow_at s.slots id)) flows k 0 c.loop-flow-test.true c.requires.held in
-    given_parts s (take k flows) c.args.levels.now c.args.kept.now c.loop-flow.kept (get_or flows k 0) c.requires.parts c.loop-flow.invariant.given held off
+    record {
+      of = record { kept = inv.kept; held = held };
+      part = λ off. given_parts s (take k flows) c.args.levels.now c.args.kept.now c.loop-flow.kept (get_or flows k 0) c.requires.parts inv.given held off;
+    }
 
 pub loop-flow-preserved : goal.loop-flow-preserved
 loop-flow-preserved g c =

@@ -131,44 +131,26 @@ loop-at-preserved g c =
       },
     )
 
-pub returns-clause-activates : goal.returns-clause-activates
-returns-clause-activates g c = record {
-  all = λ n d.
-      let s = c.args.system.now in
-      let row = uses_at s.slots c.args.flow in
-      let inv = c.loop-at.invariant in
-      let end = walked next_of_flow resource_of s.uses row inv.0 c.loop-at.at inv.1.walk c.in_default.not-Some in (
-        inv.1.stays n d,
-        elim (bool_cases (is_in n row)) [
-          | inl i ↦ let at = at_in n row i in absurd (inv.1.done at.0 (omega (arith, at.1, end)) n d (sym at.2))
-          | inr off ↦ off
-        ],
-      );
-  only = c.loop-at.invariant.1.only;
-}
-
-pub returns-clause-shifts : goal.returns-clause-shifts
-returns-clause-shifts g c =
+pub returns : goal.returns
+returns g c =
     let s = c.args.system.now in
     let row = uses_at s.slots c.args.flow in
     let inv = c.loop-at.invariant in
-    let all = take_all row inv.0 (walked next_of_flow resource_of s.uses row inv.0 c.loop-at.at inv.1.walk c.in_default.not-Some) in
-    subst (λ xs. Shifts c.args.before c.args.after xs c.args.kept.now.demands.items c.loop-at.kept.demands.items) all inv.1.shifts
-
-pub returns-clause-counts : goal.returns-clause-counts
-returns-clause-counts g c =
-    let s = c.args.system.now in
-    let row = uses_at s.slots c.args.flow in
-    let inv = c.loop-at.invariant in
-    let all = take_all row inv.0 (walked next_of_flow resource_of s.uses row inv.0 c.loop-at.at inv.1.walk c.in_default.not-Some) in
-    subst (λ xs. Lessens c.args.after xs c.args.kept.now c.loop-at.kept) all inv.1.counts
-
-pub returns-clause-levels : goal.returns-clause-levels
-returns-clause-levels g c = c.loop-at.invariant.1.levels
-
-pub returns-clause-looks : goal.returns-clause-looks
-returns-clause-looks g c =
-    let s = c.args.system.now in
-    let row = uses_at s.slots c.args.flow in
-    let inv = c.loop-at.invariant in
-    omega (arith, inv.1.looks, walked next_of_flow resource_of s.uses row inv.0 c.loop-at.at inv.1.walk c.in_default.not-Some)
+    let end = walked next_of_flow resource_of s.uses row inv.0 c.loop-at.at inv.1.walk c.in_default.not-Some in
+    let all = take_all row inv.0 end in
+    record {
+      activates = record {
+        all = λ n d. (
+          inv.1.stays n d,
+          elim (bool_cases (is_in n row)) [
+            | inl i ↦ let at = at_in n row i in absurd (inv.1.done at.0 (omega (arith, at.1, end)) n d (sym at.2))
+            | inr off ↦ off
+          ],
+        );
+        only = inv.1.only;
+      };
+      shifts = subst (λ xs. Shifts c.args.before c.args.after xs c.args.kept.now.demands.items c.loop-at.kept.demands.items) all inv.1.shifts;
+      counts = subst (λ xs. Lessens c.args.after xs c.args.kept.now c.loop-at.kept) all inv.1.counts;
+      levels = inv.1.levels;
+      looks = omega (arith, inv.1.looks, end);
+    }

@@ -27,8 +27,8 @@ put_to_rest-requires-clause-none g c =
 
 pub look_at-requires-clause-first : goal.look_at-requires-clause-first
 look_at-requires-clause-first g c = record {
-  level_is = subst (λ ls. IsLevelAbove c.args.system.now c.args.resource ls 0 c.in-Some.first.level) c.deref.ensures.value c.in-Some.ensures.level;
-  pass = record { all = c.in-Some.ensures.users.all; few = c.in-Some-left_for.ensures.pass };
+  level_is = subst (λ ls. IsLevelAbove c.args.system.now c.args.resource ls 0 c.in_ok-first.first.level) c.deref.ensures.value c.in_ok-first.ensures.level;
+  pass = record { all = c.in_ok-first.ensures.users.all; few = c.in_ok-looks.ensures.pass };
 }
 
 pub returns-then-has_slack-clause-looks : goal.returns-then-has_slack-clause-looks
@@ -41,39 +41,39 @@ returns-then-not-is_enough-clause-looks g c =
     let given = c.args.given in
     omega (arith, spare_known given.known given.row (length (users_on c.args.system.now.users c.args.resource)) given.ended given.spent c.requires.given)
 
-pub returns-in_default-left_for-clause-looks : goal.returns-in_default-left_for-clause-looks
-returns-in_default-left_for-clause-looks g c =
+pub returns-in_err-looks-clause-looks : goal.returns-in_err-looks-clause-looks
+returns-in_err-looks-clause-looks g c =
     let given = c.args.given in
-    let users = c.in-Some.ensures.users.all in
-    omega (arith, first_fits given.known given.row (length (users_on c.args.system.now.users c.args.resource)) given.ended given.spent c.requires.given (c.is_enough.ensures c.if-not-is_enough.false), c.in-Some.ensures.spent, users)
+    let users = c.in_ok-first.ensures.users.all in
+    omega (arith, first_fits given.known given.row (length (users_on c.args.system.now.users c.args.resource)) given.ended given.spent c.requires.given (c.is_enough.ensures c.if-not-is_enough.false), c.in_ok-first.ensures.spent, users)
 
 pub returns-clause-looks : goal.returns-clause-looks
 returns-clause-looks g c =
     let given = c.args.given in
-    let few = subst (λ u. given.spent + c.in-Some-left_for.looks ≤ spare_looks (max given.known u) (max given.row u) given.ended) c.in-Some.ensures.users.all c.in-Some-left_for.ensures.few in
-    omega (arith, few, c.look_at.ensures.looks, c.in-Some.ensures.spent)
+    let few = subst (λ u. given.spent + c.in_ok-looks.looks ≤ spare_looks (max given.known u) (max given.row u) given.ended) c.in_ok-first.ensures.users.all c.in_ok-looks.ensures.few in
+    omega (arith, few, c.look_at.ensures.looks, c.in_ok-first.ensures.spent)
 
-pub returns-in_default-look_at-clause-looks : goal.returns-in_default-look_at-clause-looks
-returns-in_default-look_at-clause-looks g c =
+pub returns-in_err-left-clause-looks : goal.returns-in_err-left-clause-looks
+returns-in_err-left-clause-looks g c =
     let given = c.args.given in
-    let few = subst (λ u. given.spent + c.in-Some-left_for.looks ≤ spare_looks (max given.known u) (max given.row u) given.ended) c.in-Some.ensures.users.all c.in-Some-left_for.ensures.few in
-    omega (arith, few, c.look_at.ensures.looks, c.in-Some.ensures.spent)
+    let few = subst (λ u. given.spent + c.in_ok-looks.looks ≤ spare_looks (max given.known u) (max given.row u) given.ended) c.in_ok-first.ensures.users.all c.in_ok-looks.ensures.few in
+    omega (arith, few, c.look_at.ensures.looks, c.in_ok-first.ensures.spent)
 
 pub returns-clause-spent : goal.returns-clause-spent
 returns-clause-spent g c =
     let given = c.args.given in
     let next = c.with_row.result in
-    let few : next.spent ≤ spare_looks (max given.known c.in-Some.first.users) (max given.row c.in-Some.first.users) given.ended = omega (arith, c.in-Some-left_for.ensures.few, c.with_row.ensures.spent, c.saturating_sub.ensures) in
-    let a = subst (λ k. next.spent ≤ spare_looks k (max given.row c.in-Some.first.users) given.ended) (sym c.with_row.ensures.known) few in
+    let few : next.spent ≤ spare_looks (max given.known c.in_ok-first.first.users) (max given.row c.in_ok-first.first.users) given.ended = omega (arith, c.in_ok-looks.ensures.few, c.with_row.ensures.spent, c.saturating_sub.ensures) in
+    let a = subst (λ k. next.spent ≤ spare_looks k (max given.row c.in_ok-first.first.users) given.ended) (sym c.with_row.ensures.known) few in
     let b = subst (λ r. next.spent ≤ spare_looks next.known r given.ended) (sym c.with_row.ensures.row) a in
     record {
-      told = omega (arith, c.with_row.ensures.spent, c.saturating_sub.ensures, c.in-Some-look_at.ensures.spent, c.in-Some.ensures.spent);
+      told = omega (arith, c.with_row.ensures.spent, c.saturating_sub.ensures, c.in_ok-left.ensures.spent, c.in_ok-first.ensures.spent);
       few = subst (λ m. next.spent ≤ spare_looks next.known next.row m) (sym c.with_row.ensures.ended) b;
     }
 
 pub returns-clause-known : goal.returns-clause-known
 returns-clause-known g c =
-    let users = c.in-Some.ensures.users.all in
+    let users = c.in_ok-first.ensures.users.all in
     record {
       flows = omega (arith, c.with_row.ensures.known, users);
       row = omega (arith, c.with_row.ensures.row, users);
