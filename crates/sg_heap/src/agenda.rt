@@ -1,5 +1,6 @@
 //! Slots with dates, and the one that comes first.
-ghost use Rattle.std.specs.Prelude.{◌≡◌, ◌≤◌, ◌<◌, ◌+◌, ◌*◌, ℕ, [], None, Some, IfOk, IfNone, IfSome, IsOk, OnErr, OnOk, length, slice_set, vec_capacity, vec_len};
+ghost use Rattle.std.specs.Prelude.{◌≡◌, ◌≤◌, ◌<◌, ◌+◌, ◌*◌, ℕ, [], None, Some, IfOk, IfNone, IfSome, IsOk, IsSome, MatchResult, length, option_map, slice_set, vec_capacity, vec_len};
+ghost use Rattle.sg_base.specs.Ledgers.{IsBlankOf};
 ghost use Rattle.sg_heap.specs.Agenda.{IsLeast, digits, key, key_at, key_count, with_slots};
 ghost use Rattle.sg_heap.specs.kept.Heap.{GrowsTo};
 
@@ -59,8 +60,8 @@ impl Agenda {
     /// Makes room for so many slots in all. Those that come have no key, and there are never less than before.
     /// If there is no memory for all of them, none comes; if none has to come, none is taken.
     pub fn reserve(&mut self, slots: usize) -> Result<(), Memory>
-        ensures room { OnOk result (self.new ≡ with_slots slots self.old) }
-        ensures memory { OnErr result (self.new ≡ self.old) }
+        ensures room { MatchResult result (λ _. self.new ≡ with_slots slots self.old)
+            (λ _. self.new ≡ self.old) }
         ensures enough { slots ≤ length self.old → IsOk result }
     {
         if slots <= self.slots {
@@ -93,7 +94,6 @@ impl Agenda {
 
     /// Takes a slot's key, if it has one. `steps` counts the comparisons of keys, which are as many at most.
     pub fn clear_counted<L: Ledger>(&mut self, slot: usize, steps: &mut Steps<L>)
-        requires { slot < length self.old }
         ensures keys { self.new ≡ slice_set self.old slot None }
         ensures comparisons { steps.new ≤ steps.old + (2 * digits (key_count self.old) + 2) }
     {
@@ -107,37 +107,27 @@ impl Agenda {
         requires { slot < length self.old }
         ensures { self.new ≡ slice_set self.old slot (Some (key date serial)) }
     {
-        self.set_from::<Brand>(slot, date, serial, Blank::new(1));
-    }
-
-    fn set_from<L: Ledger>(&mut self, slot: usize, date: u128, serial: Serial, blank: Blank)
-        requires slot { slot < length self.old }
-        requires name { blank.name ≡ L.name }
-        requires parts { blank.parts ≡ L.parts }
-        requires some { 0 < blank.parts }
-        ensures { self.new ≡ slice_set self.old slot (Some (key date serial)) }
-    {
-        let mut steps = Steps::<L>::new(blank);
-        self.set_counted(slot, date, serial, &mut steps);
+        self.change_from::<Brand>(slot, Some((date, serial)), Blank::new(1));
     }
 
     /// `clear_counted` for a caller that counts nothing.
     pub fn clear(&mut self, slot: usize)
-        requires { slot < length self.old }
         ensures { self.new ≡ slice_set self.old slot None }
     {
-        self.clear_from::<Brand>(slot, Blank::new(1));
+        self.change_from::<Brand>(slot, None, Blank::new(1));
     }
 
-    fn clear_from<L: Ledger>(&mut self, slot: usize, blank: Blank)
-        requires slot { slot < length self.old }
-        requires name { blank.name ≡ L.name }
-        requires parts { blank.parts ≡ L.parts }
-        requires some { 0 < blank.parts }
-        ensures { self.new ≡ slice_set self.old slot None }
+    // Gives a slot this key, or takes the one that it has.
+    fn change_from<L: Ledger>(&mut self, slot: usize, due: Option<(u128, Serial)>, blank: Blank)
+        requires slot { IsSome due → slot < length self.old }
+        requires blank { IsBlankOf L.name L.parts blank }
+        ensures { self.new ≡ slice_set self.old slot (option_map (λ k. key k.0 k.1) due) }
     {
         let mut steps = Steps::<L>::new(blank);
-        self.clear_counted(slot, &mut steps);
+        match due {
+            Some((date, serial)) => self.set_counted(slot, date, serial, &mut steps),
+            None => self.clear_counted(slot, &mut steps),
+        }
     }
 
     /// Returns the slot whose key comes first, with its date and its activity id; `None` if no slot has a key.
