@@ -5,7 +5,7 @@ use Rattle.std.proofs.lemmas.List.Elements.{All-get_or}
 use Rattle.sg_base.specs.MarkSet.{is_in}
 use Rattle.sg_maxmin.specs.Chained.{times, users_on}
 use Rattle.sg_maxmin.specs.Fill.{Flow, is_on, level_of}
-use Rattle.sg_maxmin.specs.Fixing.{Fixed, level, limits, share_of_fixed, taken, waiting}
+use Rattle.sg_maxmin.specs.Fixing.{Fixed, resource_level, flow_limits, share_of_fixed, taken, waiting}
 use Rattle.sg_maxmin.specs.Sharing.{Sharing, flow_at, held, uses_at}
 use Rattle.sg_maxmin.proofs.Held.{held_in}
 use Rattle.sg_maxmin.proofs.Leveled.{IsLeveled, Limited, below, share_of_leveled}
@@ -29,25 +29,25 @@ and_cond : (a b : Bool) (n : ℕ) → cond (a && b) n 0 ≡ cond a (cond b n 0) 
 and_cond true b n = refl
 and_cond false b n = refl
 
-level_part : (caps : List ℕ) (part whole : List Flow) → IsPart part whole → (a : Fixed) (f : Flow) (c : ℕ) → In f part → In c f.uses → level caps part a c ≡ level caps whole a c
-unfolding level taken waiting
+level_part : (caps : List ℕ) (part whole : List Flow) → IsPart part whole → (a : Fixed) (f : Flow) (c : ℕ) → In f part → In c f.uses → resource_level caps part a c ≡ resource_level caps whole a c
+unfolding resource_level taken waiting
 level_part caps part whole is a f c i u =
     ap₂ (λ t w. (slice_index caps c - t) / w)
     (is.alone f i c u (λ g. share_of_fixed g (a g)))
     (simp and_cond (is.alone f i c u (λ g. cond (is_none (a g)) g.weight 0)))
 
-limits_part : (caps : List ℕ) (part whole : List Flow) → IsPart part whole → (a : Fixed) (f : Flow) (l : ℕ) → In f part → In l (limits caps whole a f) → In l (limits caps part a f)
+limits_part : (caps : List ℕ) (part whole : List Flow) → IsPart part whole → (a : Fixed) (f : Flow) (l : ℕ) → In f part → In l (flow_limits caps whole a f) → In l (flow_limits caps part a f)
 limits_part caps part whole is a f l i m =
     elim (limit_cases caps whole a f l m) [
-      | inl e ↦ subst (λ w. In w (limits caps part a f)) e.2 (limit_bound caps part a f e.0 e.1)
-      | inr r ↦ subst (λ w. In w (limits caps part a f)) (level_part caps part whole is a f r.0 i r.1 ∙ r.2) (limit_level caps part a f r.0 r.1)
+      | inl e ↦ subst (λ w. In w (flow_limits caps part a f)) e.2 (limit_bound caps part a f e.0 e.1)
+      | inr r ↦ subst (λ w. In w (flow_limits caps part a f)) (level_part caps part whole is a f r.0 i r.1 ∙ r.2) (limit_level caps part a f r.0 r.1)
     ]
 
-limits_whole : (caps : List ℕ) (part whole : List Flow) → IsPart part whole → (a : Fixed) (f : Flow) (l : ℕ) → In f part → In l (limits caps part a f) → In l (limits caps whole a f)
+limits_whole : (caps : List ℕ) (part whole : List Flow) → IsPart part whole → (a : Fixed) (f : Flow) (l : ℕ) → In f part → In l (flow_limits caps part a f) → In l (flow_limits caps whole a f)
 limits_whole caps part whole is a f l i m =
     elim (limit_cases caps part a f l m) [
-      | inl e ↦ subst (λ w. In w (limits caps whole a f)) e.2 (limit_bound caps whole a f e.0 e.1)
-      | inr r ↦ subst (λ w. In w (limits caps whole a f)) (sym (level_part caps part whole is a f r.0 i r.1) ∙ r.2) (limit_level caps whole a f r.0 r.1)
+      | inl e ↦ subst (λ w. In w (flow_limits caps whole a f)) e.2 (limit_bound caps whole a f e.0 e.1)
+      | inr r ↦ subst (λ w. In w (flow_limits caps whole a f)) (sym (level_part caps part whole is a f r.0 i r.1) ∙ r.2) (limit_level caps whole a f r.0 r.1)
     ]
 
 leveled_part : (caps : List ℕ) (part whole : List Flow) → IsPart part whole → (p : Flow → ℕ) → IsLeveled caps whole p → IsLeveled caps part p
@@ -121,8 +121,8 @@ module _ (s : Sharing) (touched reached : List ℕ) (joined : AreJoined s touche
       (limited_from s.capacities (held s.slots) (held_limits s joined.part.sound)) is_part (flow_in s.slots id) (In-map (flow_in s.slots) touched id (is_in_In id touched i))
 
   -- a reached resource is at its level among the touched flows
-  pub row_is : (state : Fixed) (c : ℕ) → is_in c reached ≡ true → row_level (slice_index s.capacities c) s.slots (λ id. state (flow_in s.slots id)) (users_on s.users c) ≡ level s.capacities (flows_at s.slots touched) state c
-  unfolding level taken waiting
+  pub row_is : (state : Fixed) (c : ℕ) → is_in c reached ≡ true → row_level (slice_index s.capacities c) s.slots (λ id. state (flow_in s.slots id)) (users_on s.users c) ≡ resource_level s.capacities (flows_at s.slots touched) state c
+  unfolding resource_level taken waiting
   row_is state c r =
       sym (row_tells_lem s state c joined.part.sound)
       ∙ sym (ap₂ (λ t w. (slice_index s.capacities c - t) / w) (sum_touched (λ g. share_of_fixed g (state g)) c r) (simp and_cond (sum_touched (λ g. cond (is_none (state g)) g.weight 0) c r)))

@@ -7,7 +7,7 @@ use Rattle.sg_maxmin.specs.declared.uses.Use.{Use}
 use Rattle.sg_maxmin.specs.Chained.{users_on}
 use Rattle.sg_maxmin.specs.Walk.{next_on, user_of}
 use Rattle.sg_maxmin.specs.Fill.{Flow, bound_level, level_of}
-use Rattle.sg_maxmin.specs.Fixing.{level, limits, lowest, share_of_fixed, step, steps_from, unfixed}
+use Rattle.sg_maxmin.specs.Fixing.{resource_level, flow_limits, lowest_limit, share_of_fixed, step, steps_from, unfixed}
 use Rattle.sg_maxmin.specs.Sharing.{Sharing, uses_at}
 use Rattle.sg_maxmin.proofs.Members.{In, In-append_cases, In-append_left, In-append_right, In-from_contains, In-map, In-map_back, contains_from_In}
 use Rattle.sg_maxmin.proofs.OneStep.{limit_bound, limit_cases, limit_level, lowest_in, lowest_le, step_at}
@@ -92,7 +92,7 @@ module _ (s : Sharing) (flow low : ℕ) (reached : List ℕ) (joined : AreJoined
   pub reached_only : (c : ℕ) → is_in c reached ≡ true → users_on s.users c ≡ flow ∷ []
   reached_only c r = alone.only c (reached_used c r)
 
-  level_whole : (c : ℕ) → In c (uses_at s.slots flow) → level s.capacities (flows_at s.slots (flow ∷ [])) unfixed c ≡ whole_level s flow c
+  level_whole : (c : ℕ) → In c (uses_at s.slots flow) → resource_level s.capacities (flows_at s.slots (flow ∷ [])) unfixed c ≡ whole_level s flow c
   level_whole c u =
       sym (row_is s (flow ∷ []) reached joined unfixed c (uses_reached c u))
       ∙ ap (λ row. row_level (slice_index s.capacities c) s.slots (λ id. None) row) (alone.only c (in_is c (uses_at s.slots flow) u))
@@ -101,20 +101,20 @@ module _ (s : Sharing) (flow low : ℕ) (reached : List ℕ) (joined : AreJoined
   abbrev all : List ℕ
   all = alone_limits s flow (uses_at s.slots flow)
 
-  into_limits : (x : ℕ) → In x all → In x (limits s.capacities (flows_at s.slots (flow ∷ [])) unfixed its)
+  into_limits : (x : ℕ) → In x all → In x (flow_limits s.capacities (flows_at s.slots (flow ∷ [])) unfixed its)
   into_limits x i = elim (In-append_cases (option_to_list (bound_limit s.slots flow)) (map (whole_level s flow) (uses_at s.slots flow)) x i) [
     | inl b ↦ of_bound (bound_at s.slots flow) refl b
     | inr m ↦
         let k = In-map_back (whole_level s flow) (uses_at s.slots flow) x m in
-        subst (λ y. In y (limits s.capacities (flows_at s.slots (flow ∷ [])) unfixed its)) (level_whole k.0 k.1 ∙ k.2) (limit_level s.capacities (flows_at s.slots (flow ∷ [])) unfixed its k.0 k.1)
+        subst (λ y. In y (flow_limits s.capacities (flows_at s.slots (flow ∷ [])) unfixed its)) (level_whole k.0 k.1 ∙ k.2) (limit_level s.capacities (flows_at s.slots (flow ∷ [])) unfixed its k.0 k.1)
   ]
     where
-      of_bound : (o : Option ℕ) → bound_at s.slots flow ≡ o → In x (option_to_list (option_map (bound_level (weight_at s.slots flow)) o)) → In x (limits s.capacities (flows_at s.slots (flow ∷ [])) unfixed its)
+      of_bound : (o : Option ℕ) → bound_at s.slots flow ≡ o → In x (option_to_list (option_map (bound_level (weight_at s.slots flow)) o)) → In x (flow_limits s.capacities (flows_at s.slots (flow ∷ [])) unfixed its)
       of_bound None e b = absurd b
-      of_bound (Some bound) e (inl q) = subst (λ y. In y (limits s.capacities (flows_at s.slots (flow ∷ [])) unfixed its)) q (limit_bound s.capacities (flows_at s.slots (flow ∷ [])) unfixed its bound e)
+      of_bound (Some bound) e (inl q) = subst (λ y. In y (flow_limits s.capacities (flows_at s.slots (flow ∷ [])) unfixed its)) q (limit_bound s.capacities (flows_at s.slots (flow ∷ [])) unfixed its bound e)
       of_bound (Some bound) e (inr b) = absurd b
 
-  from_limits : (x : ℕ) → In x (limits s.capacities (flows_at s.slots (flow ∷ [])) unfixed its) → In x all
+  from_limits : (x : ℕ) → In x (flow_limits s.capacities (flows_at s.slots (flow ∷ [])) unfixed its) → In x all
   from_limits x m = elim (limit_cases s.capacities (flows_at s.slots (flow ∷ [])) unfixed its x m) [
     | inl e ↦
         In-append_left (option_to_list (bound_limit s.slots flow)) (map (whole_level s flow) (uses_at s.slots flow)) x
@@ -129,12 +129,12 @@ module _ (s : Sharing) (flow low : ℕ) (reached : List ℕ) (joined : AreJoined
   alone_level =
       let flows = flows_at s.slots (flow ∷ []) in
       let there : In its flows = inl refl in
-      let at : In low (limits s.capacities flows unfixed its) = into_limits low (In-from_contains all low alone.least.0) in
+      let at : In low (flow_limits s.capacities flows unfixed its) = into_limits low (In-from_contains all low alone.least.0) in
       let k = lowest_in s.capacities flows unfixed its low there refl at in
       let one : its ≡ k.0 = same k.0 k.1 in
-      let least : In (lowest s.capacities flows unfixed) (limits s.capacities flows unfixed its) = subst (λ g. In (lowest s.capacities flows unfixed) (limits s.capacities flows unfixed g)) (sym one) k.3 in
-      let is : lowest s.capacities flows unfixed ≡ low =
-      omega (arith, lowest_le s.capacities flows unfixed its low there refl at, alone.least.1 (lowest s.capacities flows unfixed) (contains_from_In all (lowest s.capacities flows unfixed) (from_limits (lowest s.capacities flows unfixed) least))) in
+      let least : In (lowest_limit s.capacities flows unfixed) (flow_limits s.capacities flows unfixed its) = subst (λ g. In (lowest_limit s.capacities flows unfixed) (flow_limits s.capacities flows unfixed g)) (sym one) k.3 in
+      let is : lowest_limit s.capacities flows unfixed ≡ low =
+      omega (arith, lowest_le s.capacities flows unfixed its low there refl at, alone.least.1 (lowest_limit s.capacities flows unfixed) (contains_from_In all (lowest_limit s.capacities flows unfixed) (from_limits (lowest_limit s.capacities flows unfixed) least))) in
       level_fixed 1 s.capacities flows its low (omega arith) (first_step s.capacities flows its ∙ step_at s.capacities flows unfixed its refl least ∙ ap (λ x. Some x) is)
     where
       same : (g : Flow) → In g (flows_at s.slots (flow ∷ [])) → flow_in s.slots flow ≡ g

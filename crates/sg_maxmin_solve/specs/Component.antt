@@ -1,8 +1,8 @@
 -- What is touched and what is reached: numbers, and a row of numbers under each.
-use Rattle.std.specs.Prelude.{◌≡◌, ℕ, Bool, ◌<◌, ◌+◌, ◌≤◌, List, length, sum_by, slice_index, IsTrue}
+use Rattle.std.specs.Prelude.{◌≡◌, ◌≢◌, ℕ, Bool, false, AllPairs, IsSome, ◌<◌, ◌+◌, ◌≤◌, List, length, sum_by, slice_index, IsTrue}
 use Rattle.sg_base.specs.MarkSet.{MarkSet, is_in}
 use Rattle.sg_maxmin.specs.Chained.{users_on}
-use Rattle.sg_maxmin.specs.Sharing.{Sharing, IsSound, uses_at}
+use Rattle.sg_maxmin.specs.Sharing.{Sharing, IsSound, flow_at, uses_at}
 use Rattle.sg_maxmin_solve.specs.declared.component.Component.{Component}
 
 -- the numbers come after those that were there
@@ -55,12 +55,28 @@ pub record MarksRows (rows : ℕ → List ℕ) (numbers : List ℕ) (old new : M
   pub few : length new.members ≤ length old.members + lengths rows numbers
   pub least : (test : ℕ → Bool) → ((i : ℕ) → i < length numbers → RowPasses test (rows (slice_index numbers i))) → AllPass test old.members → AllPass test new.members
 
+-- what reaching the resources of a flow does: each of its uses is visited once
+pub record ReachesUses (s : Sharing) (flow : ℕ) (old new : MarkSet) (before after : ℕ) : Type 0 where
+  pub marks : MarksRow (uses_at s.slots flow) old new
+  pub looks : after ≡ before + length (uses_at s.slots flow)
+
+-- the list has each member of the set once
+pub record ListsOnce (set : MarkSet) (list : List ℕ) : Type 0 where
+  pub members : list ≡ set.members
+  pub once : AllPairs (λ a b. a ≢ b) list
+
 -- there is room for all flows and all resources of a system, and what the touched flows use is reached
 pub record IsOpen (s : Sharing) (component : Component) : Type 0 where
   pub sound : IsSound s
   pub touched_room : length s.slots ≤ component.touched.room
   pub reached_room : component.reached.room ≡ length s.capacities
   pub covers : Covers (uses_at s.slots) component.touched.members component.reached.members
+
+-- and the flow is held, and isn't touched yet
+pub record CanTouch (s : Sharing) (component : Component) (flow : ℕ) : Type 0 where
+  pub ready : IsOpen s component
+  pub held : IsSome (flow_at s.slots flow)
+  pub untouched : is_in flow component.touched.members ≡ false
 
 -- how many uses the touched flows have
 abbrev pub touched_uses : Sharing → Component → ℕ
@@ -79,6 +95,12 @@ pub record Spreads (s : Sharing) (old new : Component) : Type 0 where
 abbrev pub StaysWithin : (ℕ → Bool) → (ℕ → Bool) → Component → Component → Type 0
 StaysWithin one other old new =
     AllPass one old.touched.members → AllPass other old.reached.members → AllPass one new.touched.members × AllPass other new.reached.members
+
+-- Of a spread from some flows: these are touched, and what they use is reached, nothing else.
+pub record SpreadsFrom (s : Sharing) (Starts : (ℕ → Bool) → Type 0) (old new : Component) : Type 0 where
+  pub spreads : Spreads s old new
+  pub there : Starts (λ id. is_in id new.touched.members)
+  pub least : (p q : ℕ → Bool) → Passes p q (uses_at s.slots) → Starts p → StaysWithin p q old new
 
 -- all resources of the touched flows are reached, and all flows on the reached resources are touched
 abbrev pub IsClosedBy : Sharing → Component → Type 0

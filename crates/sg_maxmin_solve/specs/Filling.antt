@@ -104,8 +104,8 @@ pub record HasFlow (s : Sharing) (filling : Filling) (id : ℕ) : Type 0 where
   pub places : HasPlaces s filling
   pub held : IsSome (flow_at s.slots id)
 
--- what fixing a flow at this level does: at each resource that it uses its share is taken off what is left, it waits no more, and the level must be divided again; no level, hold or key changes
-pub record FixesAt (s : Sharing) (flow low : ℕ) (old new : Filling) : Type 0 where
+-- what fixing a flow at this level does: at each resource that it uses its share is taken off what is left, it waits no more, and the level must be divided again; no level, hold or key changes, and each use is visited once
+pub record FixesAt (s : Sharing) (flow low : ℕ) (old new : Filling) (before after : ℕ) : Type 0 where
   pub places : HasPlaces s new
   pub levels : new.levels.items ≡ old.levels.items
   pub agenda : new.agenda ≡ old.agenda
@@ -114,6 +114,7 @@ pub record FixesAt (s : Sharing) (flow low : ℕ) (old new : Filling) : Type 0 w
   pub left : IsLessBy (λ c. times c (uses_at s.slots flow) * share_at (flow_in s.slots flow) low) old.left.items new.left.items
   pub waiting : IsLessBy (weight_on s.slots flow) old.waiting.items new.waiting.items
   pub stale : MarksRow (uses_at s.slots flow) old.stale new.stale
+  pub looks : after ≡ before + length (uses_at s.slots flow)
 
 -- levels, holds, keys and what is fixed stay
 pub record KeepsLevels (old new : Filling) : Type 0 where
@@ -193,6 +194,12 @@ pub record AreJoined (s : Sharing) (touched reached : List ℕ) : Type 0 where
   pub distinct : AllPairs (λ a b. a ≢ b) reached
   pub exist : All (λ c. c < length s.capacities) reached
   pub used : (c : ℕ) → is_in c reached ≡ true → 0 < length (users_on s.users c)
+
+-- and there is a place for each, and nobody waits
+pub record CanFill (s : Sharing) (touched reached : List ℕ) (filling : Filling) : Type 0 where
+  pub joined : AreJoined s touched reached
+  pub places : HasPlaces s filling
+  pub idle : IsIdle filling
 
 -- the levels of the reached resources are those of what is left and waits there
 abbrev pub AreLevels : List ℕ → Filling → Type 0

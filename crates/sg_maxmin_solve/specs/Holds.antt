@@ -7,7 +7,7 @@ use Rattle.sg_maxmin.specs.Sharing.{Sharing}
 use Rattle.sg_maxmin.specs.Numbered.{below_at, row_level}
 use Rattle.sg_maxmin_solve.specs.declared.filling.Filling.{Filling}
 use Rattle.sg_maxmin_solve.specs.declared.limits.Low.{Low}
-use Rattle.sg_maxmin_solve.specs.Dates.{AreDated, HaveNone, IsIdle}
+use Rattle.sg_maxmin_solve.specs.Dates.{AreDated, HaveKeys, HaveNone, IsIdle}
 use Rattle.sg_maxmin.specs.Step.{IsLeast}
 use Rattle.sg_maxmin_solve.specs.Filling.{AreAbove, AreCounted, AreFixed, AreJoined, AreLeveled, AreLevels, AreTaken, HasPlaces, IsFloor, KeepsFixed, KeepsHolds, KeepsOthers, StepsPartly, fixed_at, limits_at, unfixed_bounds, unfixed_limits, unfixed_uses}
 
@@ -72,6 +72,16 @@ pub record IsAtLevel (s : Sharing) (touched reached : List ℕ) (low : Low) (fil
   pub counted : AreCounted s filling.fixed.items touched filling.left.items filling.waiting.items (λ c. is_in c reached)
   pub dated : AreDated reached filling
   pub fresh : AreFresh reached low.level filling
+
+-- and the resources at the level are found by their keys
+pub record IsAtKeys (s : Sharing) (touched reached : List ℕ) (low : Low) (filling : Filling) : Type 0 where
+  pub at : IsAtLevel s touched reached low filling
+  pub keys : HaveKeys filling.agenda
+
+-- a max-min solve before a step at this level: the levels of the reached resources are divided
+pub record CanStep (s : Sharing) (touched reached : List ℕ) (low : Low) (filling : Filling) : Type 0 where
+  pub at : IsAtLevel s touched reached low filling
+  pub levels : AreLevels reached filling
 
 -- what was counted stays so; the uses of each flow that is fixed are walked twice, and the users of each resource that is noted once
 pub record CountsOnce (s : Sharing) (touched reached : List ℕ) (old new : Filling) (before after : ℕ) : Type 0 where

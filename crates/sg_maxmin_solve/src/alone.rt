@@ -5,9 +5,8 @@ ghost use Rattle.sg_maxmin.specs.Chained.{users_on};
 ghost use Rattle.sg_maxmin.specs.Sharing.{uses_at};
 ghost use Rattle.sg_maxmin.specs.Numbered.{IsHeld};
 ghost use Rattle.sg_maxmin_solve.specs.Alone.{IsAlone};
-ghost use Rattle.sg_maxmin_solve.specs.Component.{IsOpen, MarksRow, Passes, Spreads, StaysWithin, touched_uses};
-ghost use Rattle.sg_maxmin_solve.specs.Dates.{IsIdle};
-ghost use Rattle.sg_maxmin_solve.specs.Filling.{AreJoined, HasPlaces, fixed_at};
+ghost use Rattle.sg_maxmin_solve.specs.Component.{CanTouch, MarksRow, ReachesUses, SpreadsFrom, touched_uses};
+ghost use Rattle.sg_maxmin_solve.specs.Filling.{CanFill, fixed_at};
 ghost use Rattle.sg_maxmin_solve.specs.Holds.{IsEnded};
 
 use crate::component::Component;
@@ -52,9 +51,8 @@ pub fn mark_alone<L: Ledger>(
 ) -> Option<u64>
     requires held { IsHeld system.now flow }
     requires room { reached.old.room ≡ length system.now.capacities }
-    ensures marks { MarksRow (uses_at system.now.slots flow) reached.old reached.new }
+    ensures reaches { ReachesUses system.now flow reached.old reached.new steps.old steps.new }
     ensures alone { IfSome result (IsAlone system.now flow) }
-    ensures looks { steps.new ≡ steps.old + length (uses_at system.now.slots flow) }
 {
     let weight = system.weight(flow);
     let mut least = level_of_bound(weight, system.bound(flow));
@@ -81,16 +79,12 @@ pub fn touch_alone<L: Ledger>(
     component: &mut Component,
     steps: &mut Steps<L>,
 ) -> Option<u64>
-    requires held { IsHeld system.now flow }
-    requires open { IsOpen system.now component.old }
-    requires untouched { is_in flow component.old.touched.members ≡ false }
+    requires { CanTouch system.now component.old flow }
     ensures touched { component.new.touched.members
         ≡ component.old.touched.members ++ flow ∷ [] }
     ensures marks { MarksRow (uses_at system.now.slots flow)
         component.old.reached component.new.reached }
-    ensures spreads { Spreads system.now component.old component.new }
-    ensures least { (p q : ℕ → Bool) → Passes p q (uses_at system.now.slots)
-        → IsTrue (p flow) → StaysWithin p q component.old component.new }
+    ensures from { SpreadsFrom system.now (λ p. IsTrue (p flow)) component.old component.new }
     ensures alone { IfSome result (IsAlone system.now flow) }
     ensures looks { steps.new + touched_uses system.now component.old
         ≡ steps.old + touched_uses system.now component.new }
@@ -124,10 +118,8 @@ fn note_alone(system: &System, reached: &[usize], weight: u64, low: u64, holds: 
 
 /// Fixes a flow that is alone on its resources at its level, and notes which of these hold it there.
 pub fn fill_alone(system: &System, flow: usize, low: u64, reached: &[usize], filling: &mut Filling)
-    requires joined { AreJoined system.now (flow ∷ []) reached.now }
+    requires can { CanFill system.now (flow ∷ []) reached.now filling.old }
     requires alone { IsAlone system.now flow low }
-    requires places { HasPlaces system.now filling.old }
-    requires idle { IsIdle filling.old }
     ensures { IsEnded system.now (flow ∷ []) reached.now filling.old filling.new }
 {
     filling.fixed[flow] = Some(low);

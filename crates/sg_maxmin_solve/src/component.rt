@@ -1,9 +1,8 @@
 //! The flows and resources in the connected components of what changed.
 ghost use Rattle.std.specs.Prelude.{◌≡◌, ◌≤◌, ◌<◌, ◌+◌, ℕ, Bool, IfOk, IsTrue, All, length, take};
-ghost use Rattle.sg_base.specs.MarkSet.{is_in};
 ghost use Rattle.sg_maxmin.specs.Chained.{users_on};
 ghost use Rattle.sg_maxmin.specs.Sharing.{uses_at};
-ghost use Rattle.sg_maxmin_solve.specs.Component.{AreIn, AreVisited, IsClosedBy, IsOpen, MarksRow, PassAlong, Passes, RowPasses, Spreads, StaysWithin, lengths, touched_uses};
+ghost use Rattle.sg_maxmin_solve.specs.Component.{AreVisited, IsClosedBy, IsOpen, PassAlong, ReachesUses, RowPasses, Spreads, SpreadsFrom, StaysWithin, lengths, touched_uses};
 
 use sg_base::{Marks, Memory, Steps};
 use sg_maxmin::System;
@@ -34,8 +33,7 @@ impl Component {
 // Reaches the resources of a flow.
 pub fn mark_uses<L: Ledger>(system: &System, flow: usize, reached: &mut Marks, steps: &mut Steps<L>)
     requires { All (λ c. c < reached.old.room) (uses_at system.now.slots flow) }
-    ensures marks { MarksRow (uses_at system.now.slots flow) reached.old reached.new }
-    ensures looks { steps.new ≡ steps.old + length (uses_at system.now.slots flow) }
+    ensures { ReachesUses system.now flow reached.old reached.new steps.old steps.new }
 {
     let mut at = system.first_of(flow);
     while let Some(i) = at {
@@ -54,10 +52,7 @@ pub fn touch<L: Ledger>(
 )
     requires flow { flow < component.old.touched.room }
     requires open { IsOpen system.now component.old }
-    ensures spreads { Spreads system.now component.old component.new }
-    ensures there { IsTrue (is_in flow component.new.touched.members) }
-    ensures least { (p q : ℕ → Bool) → Passes p q (uses_at system.now.slots)
-        → IsTrue (p flow) → StaysWithin p q component.old component.new }
+    ensures from { SpreadsFrom system.now (λ p. IsTrue (p flow)) component.old component.new }
     ensures looks { steps.new + touched_uses system.now component.old
         ≡ steps.old + touched_uses system.now component.new }
 {
@@ -77,12 +72,8 @@ fn touch_users<L: Ledger>(
 )
     requires resource { resource < length system.now.capacities }
     requires open { IsOpen system.now component.old }
-    ensures spreads { Spreads system.now component.old component.new }
-    ensures there { AreIn (users_on system.now.users resource)
-        component.new.touched.members }
-    ensures least { (p q : ℕ → Bool) → Passes p q (uses_at system.now.slots)
-        → RowPasses p (users_on system.now.users resource)
-        → StaysWithin p q component.old component.new }
+    ensures from { SpreadsFrom system.now (λ p. RowPasses p (users_on system.now.users resource))
+        component.old component.new }
     ensures looks { steps.new + touched_uses system.now component.old
         ≡ steps.old + touched_uses system.now component.new
         + length (users_on system.now.users resource) }

@@ -3,8 +3,7 @@ ghost use Rattle.std.specs.Prelude.{◌≡◌, ◌≤◌, ◌<◌, ◌+◌, ◌*
 ghost use Rattle.sg_base.specs.MarkSet.{is_in};
 ghost use Rattle.sg_maxmin.specs.Sharing.{flow_at, uses_at};
 ghost use Rattle.sg_maxmin_solve.specs.Component.{lengths};
-ghost use Rattle.sg_maxmin_solve.specs.Dates.{IsIdle};
-ghost use Rattle.sg_maxmin_solve.specs.Filling.{AreJoined, ArePart, HasPlaces, HasResources, IsMoreBy, fixed_at, weight_of, weight_on};
+ghost use Rattle.sg_maxmin_solve.specs.Filling.{ArePart, CanFill, HasResources, IsMoreBy, fixed_at, weight_of, weight_on};
 ghost use Rattle.sg_maxmin_solve.specs.Holds.{IsEnded};
 
 use crate::steps::{fill_steps, set_levels};
@@ -136,9 +135,7 @@ pub fn fill<L: Ledger>(
     filling: &mut Filling,
     steps: &mut Steps<L>,
 )
-    requires joined { AreJoined system.now touched.now reached.now }
-    requires places { HasPlaces system.now filling.old }
-    requires idle { IsIdle filling.old }
+    requires { CanFill system.now touched.now reached.now filling.old }
     ensures ended { IsEnded system.now touched.now reached.now filling.old filling.new }
     ensures looks { steps.new ≤ steps.old + 4 * lengths (uses_at system.now.slots) touched.now }
 {

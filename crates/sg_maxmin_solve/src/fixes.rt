@@ -2,13 +2,10 @@
 ghost use Rattle.std.specs.Prelude.{◌≡◌, ◌≢◌, ◌<◌, ◌+◌, ◌-◌, ◌^◌, ◌∷◌, ℕ, List, [], None, Some, IsSome, true, false, AllPairs, length, min, slice_index, slice_set};
 ghost use Rattle.sg_base.specs.MarkSet.{with_mark};
 ghost use Rattle.sg_maxmin.specs.Chained.{users_on};
-ghost use Rattle.sg_maxmin.specs.Sharing.{uses_at};
 ghost use Rattle.sg_maxmin.specs.Step.{IsLeast};
 ghost use Rattle.sg_maxmin_solve.specs.Component.{AreIn};
-ghost use Rattle.sg_maxmin_solve.specs.Dates.{HaveKeys};
-ghost use Rattle.sg_maxmin.specs.Numbered.{IsHeld};
 ghost use Rattle.sg_maxmin_solve.specs.Filling.{AreAbove, AreFixed, AreStepped, CanFixBounded, CanFixOn, FixesAt, FixesFlow, FixesFlows, HasFlow, KeepsCount, KeepsLevels, StepsPartly, bound_limit, fixed_at, limits_at};
-ghost use Rattle.sg_maxmin_solve.specs.Holds.{CountsOnce, FixesUsers, IsAtLevel, NotesHolds, noted_at, users_at};
+ghost use Rattle.sg_maxmin_solve.specs.Holds.{CountsOnce, FixesUsers, IsAtKeys, IsAtLevel, NotesHolds, noted_at, users_at};
 
 use crate::dates::{due, has_keys};
 use crate::filling::Filling;
@@ -54,8 +51,7 @@ fn fix<L: Ledger>(
     steps: &mut Steps<L>,
 )
     requires { HasFlow system.now filling.old flow }
-    ensures fixes { FixesAt system.now flow low filling.old filling.new }
-    ensures looks { steps.new ≡ steps.old + length (uses_at system.now.slots flow) }
+    ensures { FixesAt system.now flow low filling.old filling.new steps.old steps.new }
 {
     filling.fixed[flow] = Some(low);
     let weight = system.weight(flow);
@@ -138,13 +134,12 @@ fn fix_on<L: Ledger>(
     }
 }
 
-// Returns whether the bound of a flow is at this level.
-fn is_bound_at(system: &System, flow: usize, low: u64) -> bool
-    requires { IsHeld system.now flow }
-    ensures at { result ≡ true → bound_limit system.now.slots flow ≡ Some low }
-    ensures off { result ≡ false → bound_limit system.now.slots flow ≡ Some low → ⊥ }
+// Returns whether the level of a bound, if there is one, is this one.
+fn is_limit(limit: Option<u64>, low: u64) -> bool
+    ensures at { result ≡ true → limit ≡ Some low }
+    ensures off { result ≡ false → limit ≡ Some low → ⊥ }
 {
-    match level_of_bound(system.weight(flow), system.bound(flow)) {
+    match limit {
         None => false,
         Some(limit) => limit == low,
     }
@@ -167,7 +162,8 @@ fn fix_bounded<L: Ledger>(
     if filling.fixed[flow].is_some() {
         return;
     }
-    if is_bound_at(system, flow, low) {
+    let limit = level_of_bound(system.weight(flow), system.bound(flow));
+    if is_limit(limit, low) {
         fix_flow(system, flow, low, filling, steps);
     }
 }
@@ -224,8 +220,7 @@ fn fix_due<L: Ledger>(
     filling: &mut Filling,
     steps: &mut Steps<L>,
 )
-    requires at { IsAtLevel system.now touched.now reached.now low filling.old }
-    requires keys { HaveKeys filling.old.agenda }
+    requires { IsAtKeys system.now touched.now reached.now low filling.old }
     ensures { FixesUsers system.now touched.now reached.now low filling.old filling.new
         steps.old steps.new }
 {

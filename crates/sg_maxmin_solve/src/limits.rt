@@ -174,19 +174,15 @@ fn below_bounds(least: Least, floor: Option<u64>) -> Option<Low>
     ensures { IfSome result (λ low. (least.level ≡ Some low.level) × (low.floor ≡ floor)
         × IsOver floor low.level × (low.at ≡ least.at)) }
 {
-    match least.level {
-        None => None,
-        Some(level) => {
-            if is_over(floor, level) {
-                Some(Low {
-                    level,
-                    floor,
-                    at: least.at,
-                })
-            } else {
-                None
-            }
-        }
+    let level = least.level?;
+    if is_over(floor, level) {
+        Some(Low {
+            level,
+            floor,
+            at: least.at,
+        })
+    } else {
+        None
     }
 }
 
@@ -206,14 +202,12 @@ fn unbounded(least: Least) -> Option<Low>
     ensures low { (levels : List ℕ) → IsLeast least.level levels → IsLow result levels [] }
     ensures at { IfSome result (λ low. IsUpTo low.level least.level × (low.at ≡ least.at)) }
 {
-    match least.level {
-        Some(level) => Some(Low {
-            level,
-            floor: None,
-            at: least.at,
-        }),
-        None => None,
-    }
+    let level = least.level?;
+    Some(Low {
+        level,
+        floor: None,
+        at: least.at,
+    })
 }
 
 // Returns the lesser of the least level and of the least level of a bound, if there are any.

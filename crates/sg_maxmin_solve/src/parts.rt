@@ -1,6 +1,7 @@
 //! The connected components of some flows and resources, with the result of their max-min solve.
-ghost use Rattle.std.specs.Prelude.{◌≡◌, ◌≢◌, ◌≤◌, ◌<◌, ◌+◌, ℕ, All, AllPairs, IfOk, OnOk, length};
+ghost use Rattle.std.specs.Prelude.{◌≡◌, ◌≤◌, ◌<◌, ◌+◌, ℕ, All, IfOk, OnOk, length};
 ghost use Rattle.sg_maxmin.specs.Found.{IsFound};
+ghost use Rattle.sg_maxmin_solve.specs.Component.{ListsOnce};
 ghost use Rattle.sg_maxmin_solve.specs.Parts.{AreHeldUnless, IsJoinedTo, IsReady, part_looks};
 
 use crate::by_part::{fill_marked, fill_on_all};
@@ -91,16 +92,14 @@ impl Parts {
 
     /// Returns the flows that the last solve touched, each once.
     pub fn touched(&self) -> &[usize]
-        ensures members { result.now ≡ self.now.component.touched.members }
-        ensures once { AllPairs (λ a b. a ≢ b) result.now }
+        ensures { ListsOnce self.now.component.touched result.now }
     {
         self.component.touched.members()
     }
 
     /// Returns the resources that the last solve reached, each once.
     pub fn reached(&self) -> &[usize]
-        ensures members { result.now ≡ self.now.component.reached.members }
-        ensures once { AllPairs (λ a b. a ≢ b) result.now }
+        ensures { ListsOnce self.now.component.reached result.now }
     {
         self.component.reached.members()
     }

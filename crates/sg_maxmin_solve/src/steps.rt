@@ -5,7 +5,7 @@ ghost use Rattle.sg_maxmin.specs.Sharing.{uses_at};
 ghost use Rattle.sg_maxmin_solve.specs.Component.{lengths};
 ghost use Rattle.sg_maxmin_solve.specs.Dates.{AreDated, IsIdle, StayDated};
 ghost use Rattle.sg_maxmin_solve.specs.Filling.{AreJoined, AreLeveled, AreLevels, AreStepped, HasPlaces, KeepsFixed, KeepsHolds};
-ghost use Rattle.sg_maxmin_solve.specs.Holds.{AreNoted, CountsOnce, IsAtLevel, IsBegun, NotesHolds};
+ghost use Rattle.sg_maxmin_solve.specs.Holds.{AreNoted, CanStep, CountsOnce, IsBegun, NotesHolds};
 
 use crate::dates::{date_all, has_keys, is_late};
 use crate::filling::Filling;
@@ -72,8 +72,7 @@ pub fn step<L: Ledger>(
     filling: &mut Filling,
     steps: &mut Steps<L>,
 )
-    requires at { IsAtLevel system.now touched.now reached.now low filling.old }
-    requires levels { AreLevels reached.now filling.old }
+    requires { CanStep system.now touched.now reached.now low filling.old }
     ensures places { HasPlaces system.now filling.new }
     ensures noted { NotesHolds reached.now low.level filling.old filling.new }
     ensures stepped { AreStepped system.now touched.now low.level filling.old filling.new }

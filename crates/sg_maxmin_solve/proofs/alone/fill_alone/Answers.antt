@@ -23,9 +23,9 @@ returns c =
     let flow = c.args.flow in
     let low = c.args.low in
     let reached = c.args.reached.now in
-    let joined = c.requires.joined in
+    let joined = c.requires.can.joined in
     let alone = c.requires.alone in
-    let p = c.requires.places in
+    let p = c.requires.can.places in
     let out = c.note_alone in
     let held = touched_held s (flow ∷ []) reached joined flow (is_here flow) in
     let weight : c.weight.result ≡ weight_at s.slots flow = weight_is s.slots flow c.weight.result held c.weight.ensures in
@@ -43,7 +43,7 @@ returns c =
         stale_room = p.stale_room;
         slots = p.slots;
       };
-      idle = record { waiting = c.requires.idle.waiting; keys = c.requires.idle.keys };
+      idle = record { waiting = c.requires.can.idle.waiting; keys = c.requires.can.idle.keys };
       kept = λ id x off e. get_or-set_other f.fixed.items flow id (Some low) None (λ q. true≢false (sym (is_here flow) ∙ subst (λ n. is_in n (flow ∷ []) ≡ false) q off)) ∙ e;
       holds_kept = λ x off. ap (λ xs. fixed_at xs x) holds ∙ out.ensures.others x off ∙ ap (λ (xs : List (Option ℕ)). fixed_at xs x) c.deref_mut.ensures.value;
       fixed = λ i h. of_one (λ n. fixed_at (set f.fixed.items flow (Some low)) n ≡ Some (level_of s.capacities (flows_at s.slots (flow ∷ [])) (flow_in s.slots n))) flow i (omega (arith, h))

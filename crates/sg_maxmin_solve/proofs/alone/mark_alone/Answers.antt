@@ -118,17 +118,20 @@ loop-at-preserved g c =
       },
     )
 
-pub returns-clause-marks : goal.returns-clause-marks
-returns-clause-marks g c =
+pub returns-clause-reaches : goal.returns-clause-reaches
+returns-clause-reaches g c =
     let s = c.args.system.now in
     let inv = c.loop-at.invariant in
     let end = walked next_of_flow resource_of s.uses (uses_at s.slots c.args.flow) inv.0 c.loop-at.at inv.1.walk c.in_default.not-Some in
     record {
-      grows = inv.1.grows;
-      marked = λ i h. inv.1.done i (omega (arith, h, end));
-      room = inv.1.room;
-      few = omega (arith, inv.1.few, end);
-      least = inv.1.pass;
+      marks = record {
+        grows = inv.1.grows;
+        marked = λ i h. inv.1.done i (omega (arith, h, end));
+        room = inv.1.room;
+        few = omega (arith, inv.1.few, end);
+        least = inv.1.pass;
+      };
+      looks = omega (arith, inv.1.looks, end);
     }
 
 pub returns-clause-alone : goal.returns-clause-alone
@@ -145,9 +148,3 @@ returns-clause-alone g c = from c.if_alone.result refl c.if_alone.ensures
           only = λ r i. let at = at_in r row i in subst (λ n. users_on s.users n ≡ c.args.flow ∷ []) at.2 (inv.1.only h.0 at.0 (omega (arith, at.1, end)));
           least = subst (λ xs. IsLeast (Some low) (alone_limits s c.args.flow xs)) (take_all row inv.0 end) (subst (λ o. IsLeast o (alone_limits s c.args.flow (take inv.0 row))) h.1 inv.1.limits);
         }
-
-pub returns-clause-looks : goal.returns-clause-looks
-returns-clause-looks g c =
-    let s = c.args.system.now in
-    let inv = c.loop-at.invariant in
-    omega (arith, inv.1.looks, walked next_of_flow resource_of s.uses (uses_at s.slots c.args.flow) inv.0 c.loop-at.at inv.1.walk c.in_default.not-Some)

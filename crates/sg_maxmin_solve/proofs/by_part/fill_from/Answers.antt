@@ -34,8 +34,8 @@ reach-requires-clause-visited g c =
     let more : Grows a.reached.members b.reached.members = subst (Grows a.reached.members) (sym marked) (grows_mark c.args.resource a.reached.members) in
     subst (λ n. AreVisited s n b) (sym (ap length c.members-reached.ensures.members)) (visited_on s a b c.requires.at.filled.closed (grows_same a.touched.members) more)
 
-pub fill-requires-clause-joined : goal.fill-requires-clause-joined
-fill-requires-clause-joined g c =
+pub fill-requires : goal.fill-requires
+fill-requires g c =
     let s = c.args.system.now in
     let a : Component = c.args.component.now in
     let b : Component = record { touched = a.touched; reached = c.insert.new.self } in
@@ -58,8 +58,13 @@ fill-requires-clause-joined g c =
     let resources : take (length c.members-2.result.now - length c.members-reached.result.now) (drop (length c.members-reached.result.now) c.members-2.result.now) ≡ drop (length a.reached.members) z.reached.members =
     rest_is (length c.members-reached.result.now) c.members-2.result.now ∙ ap (λ (xs : List ℕ). drop (length xs) c.members-2.result.now) c.members-reached.ensures.members ∙ ap (drop (length a.reached.members)) c.members-2.ensures.members in
     let joined = part_joined s c.requires.at.filled.places.sound a z c.args.filling.now c.requires.at.filled gt gr c.reach.ensures.closed live once distinct exist used in
-    subst (λ xs. AreJoined s xs (take (length c.members-2.result.now - length c.members-reached.result.now) (drop (length c.members-reached.result.now) c.members-2.result.now))) (sym part)
-    (subst (λ xs. AreJoined s (drop (length a.touched.members) z.touched.members) xs) (sym resources) joined)
+    record {
+      joined =
+          subst (λ xs. AreJoined s xs (take (length c.members-2.result.now - length c.members-reached.result.now) (drop (length c.members-reached.result.now) c.members-2.result.now))) (sym part)
+          (subst (λ xs. AreJoined s (drop (length a.touched.members) z.touched.members) xs) (sym resources) joined);
+      places = c.requires.at.filled.places;
+      idle = c.requires.at.filled.idle;
+    }
 
 pub returns : goal.returns
 returns g c =

@@ -12,22 +12,25 @@ use Rattle.sg_maxmin_solve.proofs.Growing.{grows_on, stays}
 use Rattle.sg_maxmin_solve.proofs.OneFlow.{alone_came, alone_closed, alone_once, is_here}
 use Rattle.sg_maxmin_solve.proofs.by_part.fill_part.Goals as goal
 
+pub touch_alone-requires : goal.touch_alone-requires
+touch_alone-requires g c = record { ready = c.requires.filled.ready; held = c.requires.held; untouched = c.requires.untouched }
+
 pub reach-requires-clause-visited : goal.reach-requires-clause-visited
 reach-requires-clause-visited g c =
-    let out = c.touch_alone.ensures.spreads in
+    let out = c.touch_alone.ensures.from.spreads in
     subst (λ n. AreVisited c.args.system.now n c.touch_alone.new.component) (sym (ap length c.members-reached.ensures.members)) (visited_on c.args.system.now c.args.component.now c.touch_alone.new.component c.requires.filled.closed out.touched out.reached)
 
-pub fill-requires-clause-joined : goal.fill-requires-clause-joined
-fill-requires-clause-joined g c =
+pub fill-requires : goal.fill-requires
+fill-requires g c =
     let s = c.args.system.now in
     let a : Component = c.args.component.now in
     let b : Component = c.touch_alone.new.component in
     let z : Component = c.reach.new.component in
-    let one = c.touch_alone.ensures.spreads in
+    let one = c.touch_alone.ensures.from.spreads in
     let two = c.reach.ensures.spreads in
     let gt = grows_on a.touched.members b.touched.members z.touched.members one.touched two.touched in
     let gr = grows_on a.reached.members b.reached.members z.reached.members one.reached two.reached in
-    let leads : Leads s (λ p q. p c.args.flow ≡ true) a z = λ p q along start t r. let m = c.touch_alone.ensures.least p q along.uses start t r in c.reach.ensures.least p q along m.0 m.1 in
+    let leads : Leads s (λ p q. p c.args.flow ≡ true) a z = λ p q along start t r. let m = c.touch_alone.ensures.from.least p q along.uses start t r in c.reach.ensures.least p q along m.0 m.1 in
     let live = part_live s c.requires.filled.places.sound (λ p q. p c.args.flow ≡ true) a z leads c.requires.held c.requires.filled.held in
     let used = part_used s c.requires.filled.places.sound (λ p q. p c.args.flow ≡ true) a z leads refl in
     let once = subst (AllPairs (λ a b. a ≢ b)) c.members-in-None.ensures.members c.members-in-None.ensures.once in
@@ -39,8 +42,13 @@ fill-requires-clause-joined g c =
     let resources : take (length c.members-in-None-2.result.now - length c.members-reached.result.now) (drop (length c.members-reached.result.now) c.members-in-None-2.result.now) ≡ drop (length a.reached.members) z.reached.members =
     rest_is (length c.members-reached.result.now) c.members-in-None-2.result.now ∙ ap (λ (xs : List ℕ). drop (length xs) c.members-in-None-2.result.now) c.members-reached.ensures.members ∙ ap (drop (length a.reached.members)) c.members-in-None-2.ensures.members in
     let joined = part_joined s c.requires.filled.places.sound a z c.args.filling.now c.requires.filled gt gr c.reach.ensures.closed live once distinct exist used in
-    subst (λ xs. AreJoined s xs (take (length c.members-in-None-2.result.now - length c.members-reached.result.now) (drop (length c.members-reached.result.now) c.members-in-None-2.result.now))) (sym part)
-    (subst (λ xs. AreJoined s (drop (length a.touched.members) z.touched.members) xs) (sym resources) joined)
+    record {
+      joined =
+          subst (λ xs. AreJoined s xs (take (length c.members-in-None-2.result.now - length c.members-reached.result.now) (drop (length c.members-reached.result.now) c.members-in-None-2.result.now))) (sym part)
+          (subst (λ xs. AreJoined s (drop (length a.touched.members) z.touched.members) xs) (sym resources) joined);
+      places = c.requires.filled.places;
+      idle = c.requires.filled.idle;
+    }
 
 pub returns-in-None : goal.returns-in-None
 returns-in-None g c =
@@ -48,11 +56,11 @@ returns-in-None g c =
     let a : Component = c.args.component.now in
     let b : Component = c.touch_alone.new.component in
     let z : Component = c.reach.new.component in
-    let one = c.touch_alone.ensures.spreads in
+    let one = c.touch_alone.ensures.from.spreads in
     let two = c.reach.ensures.spreads in
     let gt = grows_on a.touched.members b.touched.members z.touched.members one.touched two.touched in
     let gr = grows_on a.reached.members b.reached.members z.reached.members one.reached two.reached in
-    let leads : Leads s (λ p q. p c.args.flow ≡ true) a z = λ p q along start t r. let m = c.touch_alone.ensures.least p q along.uses start t r in c.reach.ensures.least p q along m.0 m.1 in
+    let leads : Leads s (λ p q. p c.args.flow ≡ true) a z = λ p q along start t r. let m = c.touch_alone.ensures.from.least p q along.uses start t r in c.reach.ensures.least p q along m.0 m.1 in
     let live = part_live s c.requires.filled.places.sound (λ p q. p c.args.flow ≡ true) a z leads c.requires.held c.requires.filled.held in
     let used = part_used s c.requires.filled.places.sound (λ p q. p c.args.flow ≡ true) a z leads refl in
     let once = subst (AllPairs (λ a b. a ≢ b)) c.members-in-None.ensures.members c.members-in-None.ensures.once in
@@ -94,8 +102,8 @@ returns-in-None g c =
     }
 
 -- ---- a flow that is alone on its resources
-pub fill_alone-requires-clause-joined : goal.fill_alone-requires-clause-joined
-fill_alone-requires-clause-joined g c =
+pub fill_alone-requires-clause-can : goal.fill_alone-requires-clause-can
+fill_alone-requires-clause-can g c =
     let s = c.args.system.now in
     let flow = c.args.flow in
     let a : Component = c.args.component.now in
@@ -103,19 +111,23 @@ fill_alone-requires-clause-joined g c =
     let f = c.args.filling.now in
     let out = c.touch_alone.ensures in
     let filled = c.requires.filled in
-    let leads : Leads s (λ p q. p flow ≡ true) a z = λ p q along start t r. out.least p q along.uses start t r in
+    let leads : Leads s (λ p q. p flow ≡ true) a z = λ p q along start t r. out.from.least p q along.uses start t r in
     let live = part_live s filled.places.sound (λ p q. p flow ≡ true) a z leads c.requires.held filled.held in
     let used = part_used s filled.places.sound (λ p q. p flow ≡ true) a z leads refl in
     let once = alone_once a.touched.members z.touched.members flow out.touched (subst (AllPairs (λ a b. a ≢ b)) c.members-touched.ensures.members c.members-touched.ensures.once) c.requires.untouched in
     let distinct = subst (AllPairs (λ a b. a ≢ b)) c.members.ensures.members c.members.ensures.once in
-    let room : z.reached.room ≡ length s.capacities = out.spreads.reached_room ∙ filled.ready.reached_room in
+    let room : z.reached.room ≡ length s.capacities = out.from.spreads.reached_room ∙ filled.ready.reached_room in
     let exist = subst (λ xs. All (λ x. x < length s.capacities) xs) c.members.ensures.members (subst (λ (n : ℕ). All (λ x. x < n) c.members.result.now) room c.members.ensures.in_range) in
-    let closed = alone_closed s a z flow c.in-Some.low filled.closed out.spreads out.marks out.touched c.in-Some.ensures.alone in
+    let closed = alone_closed s a z flow c.in-Some.low filled.closed out.from.spreads out.marks out.touched c.in-Some.ensures.alone in
     let part = alone_came a.touched.members z.touched.members flow out.touched in
     let resources : take (length c.members.result.now - length c.members-reached.result.now) (drop (length c.members-reached.result.now) c.members.result.now) ≡ drop (length a.reached.members) z.reached.members =
     rest_is (length c.members-reached.result.now) c.members.result.now ∙ ap (λ (xs : List ℕ). drop (length xs) c.members.result.now) c.members-reached.ensures.members ∙ ap (drop (length a.reached.members)) c.members.ensures.members in
-    let joined = part_joined s filled.places.sound a z f filled out.spreads.touched out.spreads.reached closed live once distinct exist used in
-    subst (λ xs. AreJoined s (flow ∷ []) xs) (sym resources) (subst (λ xs. AreJoined s xs (drop (length a.reached.members) z.reached.members)) part joined)
+    let joined = part_joined s filled.places.sound a z f filled out.from.spreads.touched out.from.spreads.reached closed live once distinct exist used in
+    record {
+      joined = subst (λ xs. AreJoined s (flow ∷ []) xs) (sym resources) (subst (λ xs. AreJoined s xs (drop (length a.reached.members) z.reached.members)) part joined);
+      places = filled.places;
+      idle = filled.idle;
+    }
 
 pub returns-in-Some : goal.returns-in-Some
 returns-in-Some g c =
@@ -126,31 +138,31 @@ returns-in-Some g c =
     let f = c.args.filling.now in
     let out = c.touch_alone.ensures in
     let filled = c.requires.filled in
-    let leads : Leads s (λ p q. p flow ≡ true) a z = λ p q along start t r. out.least p q along.uses start t r in
+    let leads : Leads s (λ p q. p flow ≡ true) a z = λ p q along start t r. out.from.least p q along.uses start t r in
     let live = part_live s filled.places.sound (λ p q. p flow ≡ true) a z leads c.requires.held filled.held in
     let used = part_used s filled.places.sound (λ p q. p flow ≡ true) a z leads refl in
     let once = alone_once a.touched.members z.touched.members flow out.touched (subst (AllPairs (λ a b. a ≢ b)) c.members-touched.ensures.members c.members-touched.ensures.once) c.requires.untouched in
     let distinct = subst (AllPairs (λ a b. a ≢ b)) c.members.ensures.members c.members.ensures.once in
-    let room : z.reached.room ≡ length s.capacities = out.spreads.reached_room ∙ filled.ready.reached_room in
+    let room : z.reached.room ≡ length s.capacities = out.from.spreads.reached_room ∙ filled.ready.reached_room in
     let exist = subst (λ xs. All (λ x. x < length s.capacities) xs) c.members.ensures.members (subst (λ (n : ℕ). All (λ x. x < n) c.members.result.now) room c.members.ensures.in_range) in
-    let closed = alone_closed s a z flow c.in-Some.low filled.closed out.spreads out.marks out.touched c.in-Some.ensures.alone in
+    let closed = alone_closed s a z flow c.in-Some.low filled.closed out.from.spreads out.marks out.touched c.in-Some.ensures.alone in
     let part = alone_came a.touched.members z.touched.members flow out.touched in
     let resources : take (length c.members.result.now - length c.members-reached.result.now) (drop (length c.members-reached.result.now) c.members.result.now) ≡ drop (length a.reached.members) z.reached.members =
     rest_is (length c.members-reached.result.now) c.members.result.now ∙ ap (λ (xs : List ℕ). drop (length xs) c.members.result.now) c.members-reached.ensures.members ∙ ap (drop (length a.reached.members)) c.members.ensures.members in
     let f' = c.fill_alone.new.filling in
-    let came = lengths_came (uses_at s.slots) a.touched.members z.touched.members out.spreads.touched in
+    let came = lengths_came (uses_at s.slots) a.touched.members z.touched.members out.from.spreads.touched in
     let ready : IsOpen s z = record {
       sound = filled.places.sound;
-      touched_room = omega (arith, filled.ready.touched_room, out.spreads.touched_room);
+      touched_room = omega (arith, filled.ready.touched_room, out.from.spreads.touched_room);
       reached_room = room;
-      covers = out.spreads.covers;
+      covers = out.from.spreads.covers;
     } in
     let ended = subst (λ xs. IsEnded s xs (drop (length a.reached.members) z.reached.members) f f') (sym part) (subst (λ xs. IsEnded s (flow ∷ []) xs f f') resources c.fill_alone.ensures) in
     record {
       on = record {
-        filled = filled_on s filled.places.sound a z f filled out.spreads.touched out.spreads.reached closed live once distinct f' ready exist used ended;
-        touched = out.spreads.touched;
-        reached = out.spreads.reached;
+        filled = filled_on s filled.places.sound a z f filled out.from.spreads.touched out.from.spreads.reached closed live once distinct f' ready exist used ended;
+        touched = out.from.spreads.touched;
+        reached = out.from.spreads.reached;
         looks = omega (arith, out.looks, came);
       };
       there = subst (λ xs. is_in flow xs ≡ true) (sym out.touched) (in_right flow a.touched.members (flow ∷ []) (is_here flow));

@@ -53,21 +53,18 @@ loop-at-preserved g c =
       },
     )
 
-pub returns-clause-marks : goal.returns-clause-marks
-returns-clause-marks g c =
+pub returns : goal.returns
+returns g c =
     let s = c.args.system.now in
     let inv = c.loop-at.invariant in
     let end = walked next_of_flow resource_of s.uses (uses_at s.slots c.args.flow) inv.0 c.loop-at.at inv.1.walk c.in_default.not-Some in
     record {
-      grows = inv.1.grows;
-      marked = λ i h. inv.1.done i (omega (arith, h, end));
-      room = inv.1.room;
-      few = omega (arith, inv.1.few, end);
-      least = inv.1.least;
+      marks = record {
+        grows = inv.1.grows;
+        marked = λ i h. inv.1.done i (omega (arith, h, end));
+        room = inv.1.room;
+        few = omega (arith, inv.1.few, end);
+        least = inv.1.least;
+      };
+      looks = omega (arith, inv.1.looks, end);
     }
-
-pub returns-clause-looks : goal.returns-clause-looks
-returns-clause-looks g c =
-    let s = c.args.system.now in
-    let inv = c.loop-at.invariant in
-    omega (arith, inv.1.looks, walked next_of_flow resource_of s.uses (uses_at s.slots c.args.flow) inv.0 c.loop-at.at inv.1.walk c.in_default.not-Some)

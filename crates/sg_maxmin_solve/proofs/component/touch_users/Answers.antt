@@ -40,19 +40,19 @@ loop-at-preserved g c =
       suc k,
       record {
         walk = walk_on next_on user_of s.uses row k c.loop-at.at inv.1.walk c.in-Some.i c.look-one.result c.in-Some.is c.look-one.ensures.there;
-        spreads = spreads_on s c.args.component.now c.loop-at.component c.touch.new.component inv.1.spreads out.spreads;
-        done = λ i h. below_more _ _ (λ i h. stays (get_or row i 0) old new out.spreads.touched (inv.1.done i h)) (subst (λ n. is_in n new ≡ true) r.is out.there) i (omega (arith, h));
-        least = λ p q closed passes t u. let b = inv.1.least p q closed passes t u in out.least p q closed (subst (λ n. p n ≡ true) (sym r.is) (passes k r.less)) b.0 b.1;
+        spreads = spreads_on s c.args.component.now c.loop-at.component c.touch.new.component inv.1.spreads out.from.spreads;
+        done = λ i h. below_more _ _ (λ i h. stays (get_or row i 0) old new out.from.spreads.touched (inv.1.done i h)) (subst (λ n. is_in n new ≡ true) r.is out.from.there) i (omega (arith, h));
+        least = λ p q closed passes t u. let b = inv.1.least p q closed passes t u in out.from.least p q closed (subst (λ n. p n ≡ true) (sym r.is) (passes k r.less)) b.0 b.1;
         looks = omega (arith, inv.1.looks, out.looks, c.look-one.ensures.looks);
       },
     )
 
-pub returns-clause-there : goal.returns-clause-there
-returns-clause-there g c =
+pub returns-clause-from : goal.returns-clause-from
+returns-clause-from g c =
     let s = c.args.system.now in
     let inv = c.loop-at.invariant in
     let end = walked next_on user_of s.uses (users_on s.users c.args.resource) inv.0 c.loop-at.at inv.1.walk c.in_default.not-Some in
-    λ i h. inv.1.done i (omega (arith, h, end))
+    record { spreads = inv.1.spreads; there = λ i h. inv.1.done i (omega (arith, h, end)); least = inv.1.least }
 
 pub returns-clause-looks : goal.returns-clause-looks
 returns-clause-looks g c =

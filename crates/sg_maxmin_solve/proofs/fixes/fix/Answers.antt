@@ -141,8 +141,8 @@ loop-at-preserved g c =
       },
     )
 
-pub returns-clause-fixes : goal.returns-clause-fixes
-returns-clause-fixes g c =
+pub returns : goal.returns
+returns g c =
     let s = c.args.system.now in
     let row = uses_at s.slots c.args.flow in
     let f = c.args.filling.now in
@@ -170,10 +170,5 @@ returns-clause-fixes g c =
         few = omega (arith, inv.few, end);
         least = inv.least;
       };
+      looks = omega (arith, inv.looks, end);
     }
-
-pub returns-clause-looks : goal.returns-clause-looks
-returns-clause-looks g c =
-    let s = c.args.system.now in
-    let inv = c.loop-at.invariant in
-    omega (arith, inv.1.looks, walked next_of_flow resource_of s.uses (uses_at s.slots c.args.flow) inv.0 c.loop-at.at inv.1.walk c.in_default.not-Some)

@@ -30,7 +30,7 @@ returns-then-is_none-clause-fixes g c =
     let flow = c.args.flow in
     let low = c.args.low in
     let new = c.fix.new.filling in
-    let out = c.fix.ensures.fixes in
+    let out = c.fix.ensures in
     let below : flow < length f.fixed.items = omega (arith, held_below s.slots flow c.requires.of.held, c.requires.of.places.fixed_len) in
     let none = none_read f.fixed.items flow c.index.result.now below c.index.ensures (c.is_none.ensures ∙ ap not c.if-is_none.true) in
     record {
@@ -67,7 +67,7 @@ returns-then-is_none-clause-done g c =
     let f = c.args.filling.now in
     let flow = c.args.flow in
     let below : flow < length f.fixed.items = omega (arith, held_below s.slots flow c.requires.of.held, c.requires.of.places.fixed_len) in
-    subst (λ (xs : List (Option ℕ)). IsSome (fixed_at xs flow)) (sym c.fix.ensures.fixes.fixed) (subst IsSome (sym (get_or-set_same f.fixed.items flow (Some c.args.low) None below)) refl)
+    subst (λ (xs : List (Option ℕ)). IsSome (fixed_at xs flow)) (sym c.fix.ensures.fixed) (subst IsSome (sym (get_or-set_same f.fixed.items flow (Some c.args.low) None below)) refl)
 
 pub returns-else-is_none-clause-fixes : goal.returns-else-is_none-clause-fixes
 returns-else-is_none-clause-fixes g c = fixes_same c.args.system.now c.args.flow c.args.low c.args.filling.now c.args.steps.now c.requires.of.places

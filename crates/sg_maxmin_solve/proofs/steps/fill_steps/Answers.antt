@@ -141,16 +141,20 @@ is_last-requires g c =
     (λ e x r. out.listed e x r ∙ ap₂ (λ (ws ls : List ℕ). key_where (get_or ws x 0) (get_or ls x 0)) c.deref.ensures.value c.deref-in-loop-n.ensures.value) out.others out.none)
     inv.under inv.noted c.in-Some.ensures.low c.in-Some.ensures.at
 
-pub step-requires-clause-at : goal.step-requires-clause-at
-step-requires-clause-at g c =
+pub step-requires : goal.step-requires
+step-requires g c =
     let reached = c.args.reached.now in
     let f = c.loop-n.filling in
     let inv = c.loop-n.invariant in
     let out = c.date_all.ensures in
-    at_low c.args.system.now c.args.touched.now reached c.requires.joined f c.date_all.new.agenda c.loop-n.n c.in-Some.low inv.places out.slots inv.fixed_are inv.counted inv.levels
-    (dated_late reached f c.date_all.new.agenda c.is_late.result inv.dated
-    (λ e x r. out.listed e x r ∙ ap₂ (λ (ws ls : List ℕ). key_where (get_or ws x 0) (get_or ls x 0)) c.deref.ensures.value c.deref-in-loop-n.ensures.value) out.others out.none)
-    inv.under inv.noted c.in-Some.ensures.low c.in-Some.ensures.at
+    record {
+      at =
+          at_low c.args.system.now c.args.touched.now reached c.requires.joined f c.date_all.new.agenda c.loop-n.n c.in-Some.low inv.places out.slots inv.fixed_are inv.counted inv.levels
+          (dated_late reached f c.date_all.new.agenda c.is_late.result inv.dated
+          (λ e x r. out.listed e x r ∙ ap₂ (λ (ws ls : List ℕ). key_where (get_or ws x 0) (get_or ls x 0)) c.deref.ensures.value c.deref-in-loop-n.ensures.value) out.others out.none)
+          inv.under inv.noted c.in-Some.ensures.low c.in-Some.ensures.at;
+      levels = inv.levels;
+    }
 
 pub loop-n-preserved : goal.loop-n-preserved
 loop-n-preserved g c =
