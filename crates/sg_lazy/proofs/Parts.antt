@@ -2,7 +2,7 @@
 use Rattle.std.proofs.Common.{◌≡◌, ℕ, ◌-◌, ◌*◌, ◌/◌, ◌<◌, ◌≤◌, inl, inr, min, Bool, true, false, cond, not, ◌&&◌, true≢false, Some, is_none, List, filter, get_or, ◌==◌, eqb-true, refl, sym, ap, ap₂, subst, ◌∙◌, arith}
 use Rattle.std.proofs.lemmas.Grind.{div_ceil_times}
 use Rattle.sg_maxmin.specs.Fill.{Flow, is_on, bounded, share_at, bound_level, level_of, share_of}
-use Rattle.sg_maxmin.specs.Fixing.{Fixed, share_of_fixed, taken, waiting, level, limits}
+use Rattle.sg_maxmin.specs.Fixing.{Fixed, share_of_fixed, taken, waiting, resource_level, flow_limits}
 use Rattle.sg_maxmin.specs.Laws.{HaveLimits}
 use Rattle.sg_maxmin.proofs.Members.{In, In-filter, In-filter_back, In-from_contains, contains_from_In, list_any_in, list_any_back}
 use Rattle.sg_maxmin.proofs.Sums.{sum_by-filter}
@@ -23,25 +23,25 @@ and_cond false b n = refl
 abbrev pub AgreeOn : List ℕ → List ℕ → List Flow → Type 0
 AgreeOn a b part = (f : Flow) → In f part → (c : ℕ) → In c f.uses → get_or a c 0 ≡ get_or b c 0
 
-level_part : (a b : List ℕ) (part whole : List Flow) → AgreeOn a b part → IsPart part whole → (x : Fixed) (f : Flow) (c : ℕ) → In f part → In c f.uses → level a part x c ≡ level b whole x c
-unfolding level taken waiting
+level_part : (a b : List ℕ) (part whole : List Flow) → AgreeOn a b part → IsPart part whole → (x : Fixed) (f : Flow) (c : ℕ) → In f part → In c f.uses → resource_level a part x c ≡ resource_level b whole x c
+unfolding resource_level taken waiting
 level_part a b part whole same is x f c i u =
     ap₂ (λ t w. t / w)
     (ap₂ (λ k t. k - t) (same f i c u) (is.alone f i c u (λ g. share_of_fixed g (x g))))
     (simp and_cond (is.alone f i c u (λ g. cond (is_none (x g)) g.weight 0)))
 
-limits_part : (a b : List ℕ) (part whole : List Flow) → AgreeOn a b part → IsPart part whole → (x : Fixed) (f : Flow) (l : ℕ) → In f part → In l (limits b whole x f) → In l (limits a part x f)
+limits_part : (a b : List ℕ) (part whole : List Flow) → AgreeOn a b part → IsPart part whole → (x : Fixed) (f : Flow) (l : ℕ) → In f part → In l (flow_limits b whole x f) → In l (flow_limits a part x f)
 limits_part a b part whole same is x f l i m =
     elim (limit_cases b whole x f l m) [
-      | inl e ↦ subst (λ w. In w (limits a part x f)) e.2 (limit_bound a part x f e.0 e.1)
-      | inr r ↦ subst (λ w. In w (limits a part x f)) (level_part a b part whole same is x f r.0 i r.1 ∙ r.2) (limit_level a part x f r.0 r.1)
+      | inl e ↦ subst (λ w. In w (flow_limits a part x f)) e.2 (limit_bound a part x f e.0 e.1)
+      | inr r ↦ subst (λ w. In w (flow_limits a part x f)) (level_part a b part whole same is x f r.0 i r.1 ∙ r.2) (limit_level a part x f r.0 r.1)
     ]
 
-limits_whole : (a b : List ℕ) (part whole : List Flow) → AgreeOn a b part → IsPart part whole → (x : Fixed) (f : Flow) (l : ℕ) → In f part → In l (limits a part x f) → In l (limits b whole x f)
+limits_whole : (a b : List ℕ) (part whole : List Flow) → AgreeOn a b part → IsPart part whole → (x : Fixed) (f : Flow) (l : ℕ) → In f part → In l (flow_limits a part x f) → In l (flow_limits b whole x f)
 limits_whole a b part whole same is x f l i m =
     elim (limit_cases a part x f l m) [
-      | inl e ↦ subst (λ w. In w (limits b whole x f)) e.2 (limit_bound b whole x f e.0 e.1)
-      | inr r ↦ subst (λ w. In w (limits b whole x f)) (sym (level_part a b part whole same is x f r.0 i r.1) ∙ r.2) (limit_level b whole x f r.0 r.1)
+      | inl e ↦ subst (λ w. In w (flow_limits b whole x f)) e.2 (limit_bound b whole x f e.0 e.1)
+      | inr r ↦ subst (λ w. In w (flow_limits b whole x f)) (sym (level_part a b part whole same is x f r.0 i r.1) ∙ r.2) (limit_level b whole x f r.0 r.1)
     ]
 
 leveled_part : (a b : List ℕ) (part whole : List Flow) → AgreeOn a b part → IsPart part whole → (p : Flow → ℕ) → IsLeveled b whole p → IsLeveled a part p

@@ -6,12 +6,15 @@ use Rattle.sg_lazy.proofs.Taking.{in_take_self, in_take_other, not_before}
 use Rattle.sg_maxmin.proofs.Listed.{eq_cases, part_next}
 use Rattle.sg_lazy.proofs.settle.end_all.Goals as goal
 
-pub end-requires-clause-held : goal.end-requires-clause-held
-end-requires-clause-held g c =
+pub end-requires : goal.end-requires
+end-requires g c =
     let s = c.args.system.now in
     let k = c.loop-flow.flow-index in
     let flow = get_or c.args.ended.now k 0 in
-    subst IsSome (sym (c.loop-flow.invariant.without.slots flow ∙ ap (λ b. cond b None (flow_at s.slots flow)) (not_before c.args.ended.now k c.loop-flow-test.true c.requires.once))) (c.requires.there k c.loop-flow-test.true)
+    record {
+      between = c.loop-flow.invariant.between;
+      held = subst IsSome (sym (c.loop-flow.invariant.without.slots flow ∙ ap (λ b. cond b None (flow_at s.slots flow)) (not_before c.args.ended.now k c.loop-flow-test.true c.requires.once))) (c.requires.there k c.loop-flow-test.true);
+    }
 
 pub loop-flow-preserved : goal.loop-flow-preserved
 loop-flow-preserved g c =

@@ -10,12 +10,12 @@ use Rattle.sg_lazy.proofs.Starting.{bound_lazy, bound_slots, bound_told, ended_s
 use Rattle.sg_maxmin.proofs.Listed.{some_of}
 use Rattle.sg_lazy.proofs.lazy.Lazy.change_bound.Goals as goal
 
-pub set_bound-requires-clause-held : goal.set_bound-requires-clause-held
-set_bound-requires-clause-held c =
+pub set_bound-requires : goal.set_bound-requires
+set_bound-requires c =
     let i = c.self.inside in
     let r = some_of (running_at c.args.self.now.slots c.args.flow) c.requires in
     let here = is_here i.system.slots i.rated.rates.items i.pending.began.members i.pending.marked.members i.pending.ended.members c.args.flow r.0 (ap (λ (v : Lazily). running_at v.slots c.args.flow) c.self.view_is ∙ r.1) in
-    subst IsSome (sym here.held) refl
+    record { between = c.self.invariant.2.between; held = subst IsSome (sym here.held) refl }
 
 pub insert-requires : goal.insert-requires
 insert-requires c =
