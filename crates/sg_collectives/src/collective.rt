@@ -69,9 +69,7 @@ impl Collective {
             → HasAmounts self → IfSome result (IsAction extent) }
     {
         let list = members.as_slice();
-        let Some(number) = members.rank_of(actor) else {
-            return None;
-        };
+        let number = members.rank_of(actor)?;
         let rank = Rank {
             number,
             members: list.len() as u32,
@@ -79,9 +77,6 @@ impl Collective {
         if place >= self.steps(rank) {
             return None;
         }
-        match self.step(rank, place) {
-            Some(step) => Some(step.action(list)),
-            None => None,
-        }
+        Some(self.step(rank, place)?.action(list))
     }
 }

@@ -1,5 +1,5 @@
 //! Who takes part in collectives.
-ghost use Rattle.std.specs.Prelude.{◌≡◌, ◌+◌, ◌++◌, ◌∷◌, ◌^◌, ◌<◌, ◌≤◌, ℕ, [], All, None, OnErr, OnOk, length, slice_index_or};
+ghost use Rattle.std.specs.Prelude.{◌≡◌, ◌+◌, ◌++◌, ◌∷◌, ◌^◌, ◌<◌, ◌≤◌, ℕ, [], All, MatchResult, None, OnOk, length, slice_index_or};
 ghost use Rattle.sg_collectives.specs.Members.{rank_of};
 
 use sg_base::{ActorId, Memory};
@@ -60,8 +60,8 @@ impl Members {
     pub fn push(&mut self, actor: ActorId) -> Result<(), Memory>
         requires rising { All (λ member. member.0 < actor.0) self.old }
         requires few { length self.old + 1 < 2 ^ 32 }
-        ensures ok { OnOk result (self.new ≡ self.old ++ actor ∷ []) }
-        ensures err { OnErr result (self.new ≡ self.old) }
+        ensures { MatchResult result (λ _. self.new ≡ self.old ++ actor ∷ [])
+            (λ _. self.new ≡ self.old) }
     {
         let number = actor.0 as usize;
         lengthen(&mut self.ranks, number + 1)?;
@@ -75,10 +75,7 @@ impl Members {
     pub fn rank_of(&self, actor: ActorId) -> Option<u32>
         ensures { result ≡ rank_of self.now actor.0 }
     {
-        match self.ranks.get(actor.0 as usize) {
-            Some(rank) => *rank,
-            None => None,
-        }
+        *self.ranks.get(actor.0 as usize)?
     }
 
     /// Returns the members by rank.

@@ -36,10 +36,7 @@ fn first_readings(alloc: Global, hosts: u32) -> Result<Vec<Reading>, Memory>
 {
     let mut readings = Vec::new(alloc);
     for _host in 0..hosts {
-        match readings.push(FIRST) {
-            Ok(()) => {}
-            Err(_) => return Err(Memory),
-        }
+        readings.push(FIRST)?;
     }
     Ok(readings)
 }

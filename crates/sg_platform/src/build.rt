@@ -109,15 +109,13 @@ fn power_of(row: &Value) -> Option<Power>
     ensures { result ≡ host_power (view row.now) }
 {
     let off = whole_at(0, 1_000_000_000, 0, row, "power_off");
-    match powers_in(items_at(row, "power")) {
-        Some(powers) => Some(Power {
-            idle: powers.idle,
-            epsilon: powers.epsilon,
-            all: powers.all,
-            off,
-        }),
-        None => None,
-    }
+    let powers = powers_in(items_at(row, "power"))?;
+    Some(Power {
+        idle: powers.idle,
+        epsilon: powers.epsilon,
+        all: powers.all,
+        off,
+    })
 }
 
 fn link_id(names: &Names, name: &str) -> LinkId
@@ -212,10 +210,7 @@ fn gap_of(row: &Value) -> Option<u64>
         ≡ option_and_then (quantity_value quantity.Time)
         (text_at (codes "loop") (view row.now)) }
 {
-    match text_at(row, "loop") {
-        Some(text) => Quantity::Time.value(text.as_bytes()),
-        None => None,
-    }
+    Quantity::Time.value(text_at(row, "loop")?.as_bytes())
 }
 
 /// Returns the links down to a child: by default the reverse of those up.
@@ -315,10 +310,7 @@ impl Row for ZoneRow {
         row: &Value,
     ) -> Result<ZoneRow, Memory> {
         let id = Text::new(alloc, text_or_empty(row, "id"))?;
-        let parent = match text_at(row, "parent") {
-            Some(name) => Some(zone_id(names, name)),
-            None => None,
-        };
+        let parent = text_at(row, "parent").map(|name| zone_id(names, name));
         let routing = routing_of(text_or_empty(row, "routing"));
         Ok(ZoneRow {
             id,

@@ -331,10 +331,8 @@ pub fn read_platform(alloc: Global, bytes: &[u8]) -> Result<PlatformText, Platfo
     ensures { result ≢ Err Memory
         → result_map_both (λ p. p) platform_rule result ≡ platform_of bytes.now }
 {
-    match text_tree(alloc, bytes) {
-        Ok(mut tree) => tree_platform(alloc, &mut tree),
-        Err(why) => Err(why),
-    }
+    let mut tree = text_tree(alloc, bytes)?;
+    tree_platform(alloc, &mut tree)
 }
 
 /// Reads a platform as `read_platform` does, and drops its text as soon as its tree is there.
@@ -348,8 +346,5 @@ pub fn take_platform(alloc: Global, text: Vec<u8>) -> Result<PlatformText, Platf
 {
     let tree = text_tree(alloc, &text);
     mem::drop(text);
-    match tree {
-        Ok(mut tree) => tree_platform(alloc, &mut tree),
-        Err(why) => Err(why),
-    }
+    tree_platform(alloc, &mut tree?)
 }

@@ -24,10 +24,7 @@ pub struct Powers {
 fn milliwatts_in(item: &Value) -> Option<u64>
     ensures { result ≡ milliwatts_in (view item.now) }
 {
-    match item.as_integer() {
-        Some(number) => whole_value(0, 1_000_000_000, number),
-        None => None,
-    }
+    whole_value(0, 1_000_000_000, item.as_integer()?)
 }
 
 fn powers_of(idle: Option<u64>, epsilon: Option<u64>, all: Option<u64>) -> Option<Powers>

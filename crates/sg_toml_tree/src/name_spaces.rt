@@ -16,10 +16,7 @@ use toml::Value;
 pub fn small_number(number: usize) -> Result<u32, Memory>
     ensures { IfOk result (λ small. small ≡ number) }
 {
-    match u32::try_from(number) {
-        Ok(small) => Ok(small),
-        Err(_) => Err(Memory),
-    }
+    u32::try_from(number).map_err(|_| Memory)
 }
 
 /// Gives a name its number, unless it has one. After `Memory` the space is as before.

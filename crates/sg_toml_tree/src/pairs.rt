@@ -19,10 +19,7 @@ pub fn point_at(points: &IndexMap<String, u32>, row: &Value, key: &str) -> Optio
     ensures { result
         ≡ option_and_then (λ q. get_by_text points.now q) (text_at key.now (view row.now)) }
 {
-    match text_at(row, key) {
-        Some(name) => points.get(name).copied(),
-        None => None,
-    }
+    points.get(text_at(row, key)?).copied()
 }
 
 /// Returns the truth value at a key, which is true if the row doesn't have the key.

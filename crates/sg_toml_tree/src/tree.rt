@@ -89,10 +89,7 @@ pub fn take_rows(alloc: Global, tree: &mut Table, name: &str) -> Vec<Value>
 pub fn text_at<'a>(row: &'a Value, key: &str) -> Option<&'a str>
     ensures { option_copied result ≡ text_at key.now (view row.now) }
 {
-    match row.get(key) {
-        Some(value) => value.as_str(),
-        None => None,
-    }
+    row.get(key)?.as_str()
 }
 
 /// Returns the text at a key of a row, and the empty text if there is no such key.

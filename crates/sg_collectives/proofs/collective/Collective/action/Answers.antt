@@ -7,13 +7,13 @@ use Rattle.sg_collectives.proofs.Limited.{step_keeps_limits}
 use Rattle.sg_collectives.proofs.MemberLemmas.{rank_below}
 use Rattle.sg_collectives.proofs.collective.Collective.action.Goals as goal
 
-pub returns-in-Some-step-clause-limited : goal.returns-in-Some-step-clause-limited
-returns-in-Some-step-clause-limited c = λ extent exist has.
+pub returns-clause-limited : goal.returns-clause-limited
+returns-clause-limited c = λ extent exist has.
     let members : List ActorId = c.as_slice-list.result.now in
     let value : members ≡ c.args.members.now = c.as_slice-list.ensures.value in
-    let rank_is : rank_of members c.args.actor.0 ≡ Some c.in-Some.number =
-    ap (λ (m : List ActorId). rank_of m c.args.actor.0) value ∙ sym c.in-Some.ensures in
+    let rank_is : rank_of members c.args.actor.0 ≡ Some c.in_ok-number.number =
+    ap (λ (m : List ActorId). rank_of m c.args.actor.0) value ∙ sym c.in_ok-number.ensures in
     subst (IsAction extent) (sym c.action.ensures)
-    (step_keeps_limits extent members c.args.self c.in-Some.number c.args.place c.in-Some-step.step
-    (rank_below members c.args.actor.0 c.in-Some.number rank_is) (sym c.in-Some-step.ensures)
+    (step_keeps_limits extent members c.args.self c.in_ok-number.number c.args.place c.in_ok-step.field-0
+    (rank_below members c.args.actor.0 c.in_ok-number.number rank_is) (sym c.in_ok-step.ensures)
     (subst (λ (m : List ActorId). All (IsActorIn extent) m) (sym value) exist) has)
