@@ -1,9 +1,9 @@
 -- First-in-first-out queues of values, each in a slot.
-use Rattle.std.specs.Prelude.{◌≡◌, ◌≢◌, ℕ, ◌<◌, ◌≤◌, ◌==◌, Bool, true, not, List, [], ◌∷◌, ◌++◌, length, map, filter, slice_set, AllPairs, Result, OnOk, refl}
+use Rattle.std.specs.Prelude.{◌≡◌, ◌≢◌, ℕ, ◌<◌, ◌≤◌, ◌==◌, Bool, true, not, List, [], ◌∷◌, ◌++◌, length, map, filter, slice_set, AllPairs, Option, option_map, Result, IfOk, OnOk, OnErr, refl}
 use Rattle.std.specs.List.{list_any}
 use Rattle.std.specs.Coded.{Coded, code_by, coded×, coded_ℕ, coded_list}
 use Rattle.sg_base.specs.declared.memory.Memory.{Memory}
-use Rattle.sg_queues.specs.Rings.{queue_at, behind}
+use Rattle.sg_queues.specs.Rings.{queue_at, behind, front}
 
 -- the values of each queue, in order, each with its slot; and room for so many more
 pub record Queues (T : Type 0) : Type 0 where
@@ -61,3 +61,16 @@ module _ {T : Type 0} where
     pub room : OnOk result (n ≤ new.room)
     pub grows : old.room ≤ new.room
     pub kept : new ≡ record old { room = new.room }
+
+  -- an empty queue is added, whose number is how many there were, or nothing changes
+  pub record AddsQueue (old new : Queues T) (result : Result ℕ Memory) : Type 0 where
+    pub number : IfOk result (λ number. number ≡ length old.queues)
+    pub queue : OnOk result (new ≡ record old { queues = old.queues ++ [] ∷ [] })
+    pub slots : OnOk result (AreSlots new.queues)
+    pub kept : OnErr result (new ≡ old)
+
+  -- the first value of a queue leaves it and is returned, if there is one, and there is no less room
+  pub record PopsFront (at : ℕ) (old new : Queues T) (result : Option T) : Type 0 where
+    pub first : result ≡ option_map value (front (queue_at old.queues at))
+    pub rest : new.queues ≡ shortened old.queues at
+    pub room : old.room ≤ new.room

@@ -1,6 +1,7 @@
 -- Slots, each of which is alone, idle or in one queue at any time.
-use Rattle.std.specs.Prelude.{◌≡◌, ◌≢◌, ℕ, ◌<◌, ◌==◌, nat_eq, Bool, true, false, not, Option, None, Some, List, [], ◌∷◌, ◌++◌, length, map, filter, slice_index_or, slice_set, AllPairs}
+use Rattle.std.specs.Prelude.{◌≡◌, ◌≢◌, ℕ, ◌+◌, ◌<◌, ◌==◌, nat_eq, Bool, true, false, not, Option, None, Some, List, [], ◌∷◌, ◌++◌, length, map, filter, slice_index_or, slice_set, AllPairs, Result, IfOk, OnOk, OnErr}
 use Rattle.std.specs.List.{list_any}
+use Rattle.sg_base.specs.declared.memory.Memory.{Memory}
 
 -- how many nodes there are: slots, and heads, which never move; the head of the idle slots, and after it that of each queue; and which slots are idle and in each queue, in order
 pub record Rings : Type 0 where
@@ -61,6 +62,22 @@ rows_of rings = rings.idle ∷ rings.queues
 
 abbrev pub IsApart : Rings → Type 0
 IsApart rings = AreApart rings.nodes rings.heads (rows_of rings)
+
+-- an empty queue is added, whose number is how many there were, or nothing changes
+pub record AddsQueue (old new : Rings) (result : Result ℕ Memory) : Type 0 where
+  pub number : IfOk result (λ number. number ≡ length old.queues)
+  pub queue : OnOk result (new ≡ record old { nodes = old.nodes + 1; heads = old.heads ++ old.nodes ∷ []; queues = old.queues ++ [] ∷ [] })
+  pub apart : OnOk result (IsApart new)
+  pub kept : OnErr result (new ≡ old)
+
+-- a slot is added, which is alone, and whose number is how many nodes there were, or nothing changes
+pub record AddsSlot (old new : Rings) (result : Result ℕ Memory) : Type 0 where
+  pub number : IfOk result (λ slot. slot ≡ old.nodes)
+  pub slot : OnOk result (new ≡ record old { nodes = old.nodes + 1 })
+  pub alone : OnOk result (IsAlone old.nodes (rows_of new))
+  pub is : OnOk result (IsSlot new.nodes new.heads old.nodes)
+  pub apart : OnOk result (IsApart new)
+  pub kept : OnErr result (new ≡ old)
 
 -- the slot is alone, and there is such a queue for it
 pub record CanJoin (node at : ℕ) (rings : Rings) : Type 0 where

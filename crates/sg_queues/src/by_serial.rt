@@ -40,14 +40,8 @@ fn value_in<T: Copy>(entry: &Option<Entry<T>>, serial: u64) -> Option<T>
     ensures { result ≡ value_in_spec entry.now serial }
 {
     match entry {
-        Some(entry) => {
-            if entry.serial == serial {
-                Some(entry.value)
-            } else {
-                None
-            }
-        }
-        None => None,
+        Some(entry) if entry.serial == serial => Some(entry.value),
+        _ => None,
     }
 }
 
@@ -129,14 +123,10 @@ fn replace_far<T: Copy + Drop>(far: &mut HashMap<u64, T>, serial: u64, value: T)
     ensures kept { IsNone result → far.new ≡ far.old }
     ensures room { hash.spare far.new ≡ hash.spare far.old }
 {
-    match far.get_mut(&serial) {
-        Some(there) => {
-            let was = *there;
-            *there = value;
-            Some(was)
-        }
-        None => None,
-    }
+    let there = far.get_mut(&serial)?;
+    let was = *there;
+    *there = value;
+    Some(was)
 }
 
 // Puts a value into the map.
@@ -169,10 +159,7 @@ fn add_places<T: Copy + Drop>(near: &mut Vec<Option<Entry<T>>>, n: usize) -> Res
         ≡ slice_index_or near.old.items at None }
 {
     for _at in near.len()..n {
-        match near.push(None) {
-            Ok(()) => {}
-            Err(_) => return Err(Memory),
-        }
+        near.push(None)?;
     }
     Ok(())
 }

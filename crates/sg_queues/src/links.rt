@@ -1,5 +1,5 @@
 //! Rings of nodes, linked both ways.
-ghost use Rattle.std.specs.Prelude.{◌≡◌, ◌≢◌, ◌<◌, ◌≤◌, ◌+◌, ◌++◌, ◌∷◌, ◌^◌, [], ℕ, length, IfOk, OnOk, OnErr, slice_set, vec_len, vec_capacity};
+ghost use Rattle.std.specs.Prelude.{◌≡◌, ◌≢◌, ◌<◌, ◌≤◌, ◌+◌, ◌++◌, ◌∷◌, ◌^◌, [], ℕ, length, IfOk, OnOk, OnErr, slice_set};
 ghost use Rattle.sg_queues.specs.kept.Links.{at, AreLinked, IsExchanged};
 
 use sg_base::Memory;
@@ -12,17 +12,6 @@ pub(crate) const MOST: usize = 1 << 32;
 pub(crate) struct Links {
     pub(crate) next: Vec<u32>,
     pub(crate) prev: Vec<u32>,
-}
-
-pub(crate) fn push<T: Copy + Drop>(items: &mut Vec<T>, item: T)
-    requires { vec_len items.old < vec_capacity items.old }
-    ensures items { items.new.items ≡ items.old.items ++ item ∷ [] }
-    ensures capacity { vec_capacity items.old ≤ vec_capacity items.new }
-{
-    match items.push(item) {
-        Ok(()) => {}
-        Err(_) => unreachable!(),
-    }
 }
 
 impl Links {
@@ -92,8 +81,8 @@ impl Links {
         }
         self.next.reserve(1)?;
         self.prev.reserve(1)?;
-        push(&mut self.next, node as u32);
-        push(&mut self.prev, node as u32);
+        self.next.push_reserved(node as u32);
+        self.prev.push_reserved(node as u32);
         Ok(node)
     }
 }

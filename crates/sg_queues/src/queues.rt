@@ -1,9 +1,8 @@
 //! First-in-first-out queues of values.
-ghost use Rattle.std.specs.Prelude.{◌≡◌, ◌<◌, ◌≤◌, ◌+◌, ◌-◌, ◌++◌, ◌∷◌, [], ℕ, false, length, option_map, IfOk, OnOk, OnErr};
+ghost use Rattle.std.specs.Prelude.{◌≡◌, ◌<◌, ◌+◌, ◌-◌, [], ℕ, false, length, IfOk, MatchResult};
 ghost use Rattle.sg_queues.specs.Rings.{front, queue_at};
-ghost use Rattle.sg_queues.specs.Queues.{holds, let_go, queued, shortened, AreSlots, CanPush, IsHeld, MakesRoom};
+ghost use Rattle.sg_queues.specs.Queues.{holds, let_go, queued, AddsQueue, AreSlots, CanPush, IsHeld, MakesRoom, PopsFront};
 
-use crate::links::push;
 use crate::rings::Rings;
 use sg_base::Memory;
 use std::alloc::Global;
@@ -65,23 +64,19 @@ impl<T: Copy + Drop> Queues<T> {
 
     /// Adds an empty queue, and returns its number, which is how many queues there were.
     pub fn add_queue(&mut self) -> Result<usize, Memory>
-        ensures number { IfOk result (λ number. number ≡ length self.old.queues) }
-        ensures queue { OnOk result (self.new ≡ record self.old {
-          queues = self.old.queues ++ [] ∷ [];
-        }) }
-        ensures slots { OnOk result (AreSlots self.new.queues) }
-        ensures kept { OnErr result (self.new ≡ self.old) }
+        ensures { AddsQueue self.old self.new result }
     {
         self.homes.reserve(1)?;
         let number = self.rings.add_queue()?;
-        push(&mut self.homes, NOWHERE);
+        self.homes.push_reserved(NOWHERE);
         Ok(number)
     }
 
     // Adds a slot, which is free.
     fn add_slot(&mut self) -> Result<(), Memory>
-        ensures room { OnOk result (self.new ≡ record self.old { room = self.old.room + 1 }) }
-        ensures kept { OnErr result (self.new ≡ self.old) }
+        ensures { MatchResult result
+            (λ _. self.new ≡ record self.old { room = self.old.room + 1 })
+            (λ _. self.new ≡ self.old) }
     {
         let place = self.values.len();
         if place >= NOWHERE as usize {
@@ -91,8 +86,8 @@ impl<T: Copy + Drop> Queues<T> {
         self.values.reserve(1)?;
         let slot = self.rings.add_slot()?;
         self.rings.retire(slot);
-        push(&mut self.homes, place as u32);
-        push(&mut self.values, self.blank);
+        self.homes.push_reserved(place as u32);
+        self.values.push_reserved(self.blank);
         self.room += 1;
         Ok(())
     }
@@ -115,9 +110,8 @@ impl<T: Copy + Drop> Queues<T> {
         ensures fresh { (q : ℕ) → holds result (queue_at self.old.queues q) ≡ false }
         ensures slots { AreSlots self.new.queues }
     {
-        let slot = match self.rings.idle() {
-            Some(slot) => slot,
-            None => unreachable!(),
+        let Some(slot) = self.rings.idle() else {
+            unreachable!()
         };
         let home = self.homes[slot] as usize;
         self.values[home] = value;
@@ -133,13 +127,9 @@ impl<T: Copy + Drop> Queues<T> {
         ensures first { result ≡ front (queue_at self.now.queues queue) }
         ensures slots { AreSlots self.now.queues }
     {
-        match self.rings.front(queue) {
-            Some(slot) => {
-                let home = self.homes[slot] as usize;
-                Some((slot, self.values[home]))
-            }
-            None => None,
-        }
+        let slot = self.rings.front(queue)?;
+        let home = self.homes[slot] as usize;
+        Some((slot, self.values[home]))
     }
 
     /// Removes the value in this slot from its queue, from any place.
@@ -157,17 +147,10 @@ impl<T: Copy + Drop> Queues<T> {
     /// Takes the first value of a queue away, if there is one.
     pub fn pop_front(&mut self, queue: usize) -> Option<T>
         requires { queue < length self.old.queues }
-        ensures first { result
-            ≡ option_map (λ entry. entry.1) (front (queue_at self.old.queues queue)) }
-        ensures rest { self.new.queues ≡ shortened self.old.queues queue }
-        ensures room { self.old.room ≤ self.new.room }
+        ensures { PopsFront queue self.old self.new result }
     {
-        match self.front(queue) {
-            Some((slot, value)) => {
-                self.remove(slot);
-                Some(value)
-            }
-            None => None,
-        }
+        let (slot, value) = self.front(queue)?;
+        self.remove(slot);
+        Some(value)
     }
 }

@@ -1,9 +1,9 @@
 //! Slots that move from queue to queue.
-ghost use Rattle.std.specs.Prelude.{◌≡◌, ◌<◌, ◌+◌, ◌++◌, ◌∷◌, [], suc, length, IfOk, OnOk, OnErr};
-ghost use Rattle.sg_queues.specs.Rings.{front, joined, left, queue_at, rows_of, without, CanJoin, IsAlone, IsApart, IsSlot};
+ghost use Rattle.std.specs.Prelude.{◌≡◌, ◌<◌, ◌++◌, ◌∷◌, [], suc, length, IfOk};
+ghost use Rattle.sg_queues.specs.Rings.{front, joined, left, queue_at, rows_of, without, AddsQueue, AddsSlot, CanJoin, IsAlone, IsApart, IsSlot};
 ghost use Rattle.sg_queues.specs.kept.Links.{head_at};
 
-use crate::links::{Links, push};
+use crate::links::Links;
 use sg_base::Memory;
 use std::alloc::Global;
 use std::marker::Model;
@@ -62,30 +62,18 @@ impl Rings {
 
     /// Adds an empty queue, and returns its number, which is how many queues there were.
     pub fn add_queue(&mut self) -> Result<usize, Memory>
-        ensures number { IfOk result (λ number. number ≡ length self.old.queues) }
-        ensures queue { OnOk result (self.new ≡ record self.old {
-          nodes = self.old.nodes + 1;
-          heads = self.old.heads ++ self.old.nodes ∷ [];
-          queues = self.old.queues ++ [] ∷ [];
-        }) }
-        ensures apart { OnOk result (IsApart self.new) }
-        ensures kept { OnErr result (self.new ≡ self.old) }
+        ensures { AddsQueue self.old self.new result }
     {
         self.heads.reserve(1)?;
         let head = self.links.add()?;
         let number = self.heads.len();
-        push(&mut self.heads, head as u32);
+        self.heads.push_reserved(head as u32);
         Ok(number)
     }
 
     /// Adds a slot, which is alone, and returns its number, which is how many nodes there were.
     pub fn add_slot(&mut self) -> Result<usize, Memory>
-        ensures number { IfOk result (λ slot. slot ≡ self.old.nodes) }
-        ensures slot { OnOk result (self.new ≡ record self.old { nodes = self.old.nodes + 1 }) }
-        ensures alone { OnOk result (IsAlone self.old.nodes (rows_of self.new)) }
-        ensures is { OnOk result (IsSlot self.new.nodes self.new.heads self.old.nodes) }
-        ensures apart { OnOk result (IsApart self.new) }
-        ensures kept { OnErr result (self.new ≡ self.old) }
+        ensures { AddsSlot self.old self.new result }
     {
         let slot = self.links.add()?;
         Ok(slot)
