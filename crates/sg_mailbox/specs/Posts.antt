@@ -1,9 +1,10 @@
 -- Communications with one endpoint, mailbox by mailbox.
-use Rattle.std.specs.Prelude.{◌≡◌, ◌≢◌, ℕ, ◌-◌, ◌<◌, Bool, not, ◌==◌, Option, None, Some, option_map, List, [], ◌∷◌, ◌++◌, All, filter, slice_index_or, if◌then◌else◌}
+use Rattle.std.specs.Prelude.{◌≡◌, ◌≢◌, ℕ, ◌-◌, ◌<◌, ◌≤◌, Bool, not, ◌==◌, Option, None, Some, option_map, List, [], ◌∷◌, ◌++◌, All, filter, slice_index_or, if◌then◌else◌, Result, OnOk}
 use Rattle.std.specs.List.{find, AllPairs}
 use Rattle.std.specs.Map.{lookup}
 use Rattle.sg_base.specs.declared.ids.BoxId.{BoxId}
 use Rattle.sg_base.specs.declared.ids.Serial.{Serial}
+use Rattle.sg_base.specs.declared.memory.Memory.{Memory}
 use Rattle.sg_base.specs.contracts.ids.BoxIdPartialEq.TheImpl as box_eq_impl
 use Rattle.sg_mailbox.specs.declared.sides.Side.{Side}
 use Rattle.sg_mailbox.specs.declared.sides.Found.{Found}
@@ -91,6 +92,17 @@ AreRising posts = AllPairs (λ (first later : Post). first.serial.0 < later.seri
 pub record CanCome (serial : ℕ) (posts : Posts) : Type 0 where
   pub room : 0 < posts.room
   pub above : AreBelow serial posts
+
+-- there is room for an arriving endpoint, and this is what it finds
+pub record CanEnter (mailbox : BoxId) (sends : Bool) (here : Found) (posts : Posts) : Type 0 where
+  pub room : 0 < posts.room
+  pub found : IsFound posts mailbox sends here
+
+-- There is room for so many arriving endpoints, unless memory was lacking. The same endpoints wait, and the room doesn't shrink.
+pub record AcceptsMore (n : ℕ) (old new : Posts) (result : Result Unit Memory) : Type 0 where
+  pub room : OnOk result (n ≤ new.room)
+  pub grows : old.room ≤ new.room
+  pub kept : AllStay old new
 
 -- an endpoint arrived at a mailbox, matched one there or waits, and took its room
 pub record Comes (mailbox : BoxId) (sends : Bool) (side : Side) (serial : Serial) (old new : Posts) (met : Meeting) : Type 0 where

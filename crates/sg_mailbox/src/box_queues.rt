@@ -1,5 +1,5 @@
 //! What the mailboxes keep: a queue for each in which somebody waits.
-ghost use Rattle.std.specs.Prelude.{◌≡◌, ◌+◌, ◌-◌, ◌<◌, ◌≤◌, [], ◌∷◌, ◌++◌, None, Some, IfOk, IsTrue, OnOk, All, length, min, vec_len, vec_capacity};
+ghost use Rattle.std.specs.Prelude.{◌≡◌, ◌+◌, ◌-◌, ◌<◌, ◌≤◌, [], None, Some, IfOk, IsTrue, OnOk, All, length, min};
 ghost use Rattle.std.specs.HashMap.{get, hash_map_len, spare};
 ghost use Rattle.sg_base.specs.declared.ids.BoxId.{BoxId};
 ghost use Rattle.sg_queues.specs.Serials as serials;
@@ -56,17 +56,6 @@ pub(crate) fn first(alloc: Global) -> Result<Kept, Memory>
     })
 }
 
-fn push(items: &mut Vec<usize>, item: usize)
-    requires { vec_len items.old < vec_capacity items.old }
-    ensures items { items.new.items ≡ items.old.items ++ item ∷ [] }
-    ensures capacity { vec_capacity items.old ≤ vec_capacity items.new }
-{
-    match items.push(item) {
-        Ok(()) => {}
-        Err(_) => unreachable!(),
-    }
-}
-
 // Makes room for so many endpoints, except for the queues of so many mailboxes.
 fn grow(kept: &mut Kept, n: usize) -> Result<(), Memory>
     requires { CanGrow n kept.old }
@@ -95,7 +84,7 @@ fn add_queue(kept: &mut Kept) -> Result<(), Memory>
 {
     kept.empty.reserve(kept.numbers.len() + 1)?;
     let queue = kept.queues.add_queue()?;
-    push(&mut kept.empty, queue);
+    kept.empty.push_reserved(queue);
     Ok(())
 }
 
@@ -248,7 +237,7 @@ fn close(kept: &mut Kept, mailbox: BoxId, queue: usize)
 {
     if kept.queues.front(queue).is_none() {
         kept.numbers.remove(&mailbox);
-        push(&mut kept.empty, queue);
+        kept.empty.push_reserved(queue);
     }
 }
 

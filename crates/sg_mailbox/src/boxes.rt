@@ -1,7 +1,7 @@
 //! The mailboxes.
-ghost use Rattle.std.specs.Prelude.{◌≡◌, ◌<◌, ◌≤◌, [], true, false, IfOk, OnOk};
+ghost use Rattle.std.specs.Prelude.{◌≡◌, [], true, false, IfOk};
 ghost use Rattle.sg_base.specs.declared.ids.BoxId.{BoxId};
-ghost use Rattle.sg_mailbox.specs.Posts.{waiters, partner, partner_side, posts_without, AllStay, AreBelow, AreRising, CanCome, Comes, IsFound};
+ghost use Rattle.sg_mailbox.specs.Posts.{waiters, partner, partner_side, posts_without, AcceptsMore, AreBelow, AreRising, CanCome, CanEnter, Comes, IsFound};
 
 use crate::box_queues::{Kept, enter, first, look, reserve, withdraw};
 use crate::sides::{Found, Meeting, Side};
@@ -49,9 +49,7 @@ impl Boxes {
 
     /// Makes room for so many arriving endpoints.
     pub fn reserve(&mut self, n: usize) -> Result<(), Memory>
-        ensures room { OnOk result (n ≤ self.new.room) }
-        ensures grows { self.old.room ≤ self.new.room }
-        ensures kept { AllStay self.old self.new }
+        ensures { AcceptsMore n self.old self.new result }
     {
         reserve(&mut self.kept, n)
     }
@@ -73,8 +71,7 @@ impl Boxes {
         side: Side,
         serial: Serial,
     ) -> Meeting
-        requires room { 0 < self.old.room }
-        requires found { IsFound self.old mailbox sends found }
+        requires able { CanEnter mailbox sends found self.old }
         requires above { AreBelow serial.0 self.old }
         ensures { Comes mailbox sends side serial self.old self.new result }
     {

@@ -1,8 +1,8 @@
 //! The waiters of each activity.
-ghost use Rattle.std.specs.Prelude.{◌≡◌, ◌≢◌, ◌+◌, ◌-◌, ◌<◌, ◌≤◌, ◌^◌, ◌++◌, ◌∷◌, [], length, slice_index_or, slice_set, OnOk};
+ghost use Rattle.std.specs.Prelude.{◌≡◌, ◌≢◌, ◌-◌, ◌<◌, ◌++◌, ◌∷◌, [], slice_index_or, slice_set};
 ghost use Rattle.sg_mailbox.specs.declared.owners.How.TheVariants as how;
 ghost use Rattle.sg_mailbox.specs.declared.owners.Whose.TheVariants.{Over};
-ghost use Rattle.sg_mailbox.specs.Owners.{whose_of as whose_of_spec};
+ghost use Rattle.sg_mailbox.specs.Owners.{whose_of as whose_of_spec, CanPush, HoldsMore, IsDrawn};
 
 use crate::sides::Side;
 use sg_base::{ActorId, BoxId, Memory, Serial};
@@ -79,9 +79,7 @@ impl Owners {
 
     /// Makes room for this many more activities.
     pub fn reserve(&mut self, n: usize) -> Result<(), Memory>
-        ensures room { OnOk result (n ≤ self.new.room) }
-        ensures grows { self.old.room ≤ self.new.room }
-        ensures kept { self.new ≡ record self.old { room = self.new.room } }
+        ensures { HoldsMore n self.old self.new result }
     {
         let n = n.max(self.room);
         self.owners.reserve(n)?;
@@ -91,8 +89,7 @@ impl Owners {
 
     /// Sets the waiters of the activity of the next id.
     pub fn push(&mut self, whose: Whose)
-        requires few { length self.old.whose < 10 ^ 9 }
-        requires room { 0 < self.old.room }
+        requires { CanPush self.old }
         ensures { self.new ≡ record {
           whose = self.old.whose ++ whose ∷ [];
           room = self.old.room - 1;
@@ -105,8 +102,7 @@ impl Owners {
 
     /// Returns the waiters of the activity of this id.
     pub fn of(&self, serial: Serial) -> Whose
-        requires from { 0 < serial.0 }
-        requires to { serial.0 ≤ length self.now.whose }
+        requires { IsDrawn serial.0 self.now }
         ensures { result ≡ slice_index_or self.now.whose (serial.0 - 1) (Over how.Done) }
     {
         whose_of(self.owners.get(serial.0))
@@ -114,8 +110,7 @@ impl Owners {
 
     /// Gives the activity of this id these waiters.
     pub fn put(&mut self, serial: Serial, whose: Whose)
-        requires from { 0 < serial.0 }
-        requires to { serial.0 ≤ length self.old.whose }
+        requires drawn { IsDrawn serial.0 self.old }
         requires room { 0 < self.old.room }
         ensures { self.new ≡ record {
           whose = slice_set self.old.whose (serial.0 - 1) whose;
@@ -128,8 +123,7 @@ impl Owners {
 
     /// Marks the activity of this id, which hasn't ended, as failed, and returns its waiters.
     pub fn fail(&mut self, serial: Serial) -> Whose
-        requires from { 0 < serial.0 }
-        requires to { serial.0 ≤ length self.old.whose }
+        requires drawn { IsDrawn serial.0 self.old }
         requires under_way { slice_index_or self.old.whose (serial.0 - 1) (Over how.Done)
             ≢ Over how.Done }
         ensures was { result ≡ slice_index_or self.old.whose (serial.0 - 1) (Over how.Done) }
@@ -145,8 +139,7 @@ impl Owners {
 
     /// Marks the activity of this id as done, and returns its waiters.
     pub fn take(&mut self, serial: Serial) -> Whose
-        requires from { 0 < serial.0 }
-        requires to { serial.0 ≤ length self.old.whose }
+        requires { IsDrawn serial.0 self.old }
         ensures was { result ≡ slice_index_or self.old.whose (serial.0 - 1) (Over how.Done) }
         ensures is { self.new ≡ record self.old {
           whose = slice_set self.old.whose (serial.0 - 1) (Over how.Done);

@@ -21,7 +21,7 @@ returns-then-is_none c =
     let is : (m : BoxId) → g m ≡ cond (box_eq c.args.mailbox m) None (f m) = c.remove.ensures.updates.0 in
     let none : queue_at old.queues.queues c.args.queue ≡ [] = nobody_first (queue_at old.queues.queues c.args.queue) (ap is_some (sym c.front.ensures.first) ∙ c.is_none.ensures ∙ ap not c.if-is_none.true) in
     let less : hash_map_len c.remove.new.self + 1 ≡ hash_map_len old.numbers = ap (λ o. hash_map_len c.remove.new.self + cond (is_some o) 1 0) (sym (c.remove.ensures.value ∙ c.requires.queue)) ∙ c.remove.ensures.len in
-    let more : length c.push.new.items.items ≡ length old.empty.items + 1 = ap length c.push.ensures.items ∙ length_push old.empty.items c.args.queue in
+    let more : length c.push_reserved.new.self.items ≡ length old.empty.items + 1 = ap length c.push_reserved.ensures.items ∙ length_push old.empty.items c.args.queue in
     record {
       same = closed_waiters f g c.args.mailbox old.queues.queues c.args.queue c.requires.queue none is;
       room = refl;
@@ -31,9 +31,9 @@ returns-then-is_none c =
           empty = omega (arith, was.roomy.empty, more);
           places = was.roomy.places;
           queues = was.roomy.queues;
-          stack = omega (arith, was.roomy.stack, less, more, c.push.ensures.capacity);
+          stack = omega (arith, was.roomy.stack, less, more, c.push_reserved.ensures.capacity);
         };
-        numbered = subst (λ l. AreNumbered g l old.queues.queues) (sym c.push.ensures.items) (numbered_closed f g c.args.mailbox old.queues.queues c.args.queue old.empty.items c.requires.queue none is was.numbered);
+        numbered = subst (λ l. AreNumbered g l old.queues.queues) (sym c.push_reserved.ensures.items) (numbered_closed f g c.args.mailbox old.queues.queues c.args.queue old.empty.items c.requires.queue none is was.numbered);
         placed = placed_like f g (place old) (place old) old.queues.queues old.queues.queues (λ q. refl) (λ s. refl) (closed_keeps f g c.args.mailbox old.queues.queues c.args.queue c.requires.queue none is) was.placed;
         slots = was.slots;
         ordered = was.ordered;

@@ -24,17 +24,17 @@ pub unreachable-requires : goal.unreachable-requires
 unreachable-requires c =
     let s = c.self.inside in
     let f : ℕ → Option Whose = serials.at s.owners in
-    let within : c.args.serial.0 - 1 < s.drawn = omega (arith, c.requires.from, c.requires.to, ap (λ (o : Owned). length o.whose) c.self.view_is, length-table f 1 s.drawn) in
+    let within : c.args.serial.0 - 1 < s.drawn = omega (arith, c.requires.drawn.from, c.requires.drawn.to, ap (λ (o : Owned). length o.whose) c.self.view_is, length-table f 1 s.drawn) in
     let none : f c.args.serial.0 ≡ None = sym c.replace.ensures.was ∙ c.in-None.is in
-    c.requires.under_way (found c.args.self.now f s.drawn c.args.serial.0 c.requires.from within (ap (λ (o : Owned). o.whose) c.self.view_is) ∙ ap whose_of none)
+    c.requires.under_way (found c.args.self.now f s.drawn c.args.serial.0 c.requires.drawn.from within (ap (λ (o : Owned). o.whose) c.self.view_is) ∙ ap whose_of none)
 
 pub returns-clause-was : goal.returns-clause-was
 returns-clause-was c =
     let s = c.self.inside in
     let f : ℕ → Option Whose = serials.at s.owners in
-    let within : c.args.serial.0 - 1 < s.drawn = omega (arith, c.requires.from, c.requires.to, ap (λ (o : Owned). length o.whose) c.self.view_is, length-table f 1 s.drawn) in
+    let within : c.args.serial.0 - 1 < s.drawn = omega (arith, c.requires.drawn.from, c.requires.drawn.to, ap (λ (o : Owned). length o.whose) c.self.view_is, length-table f 1 s.drawn) in
     let there : Some c.in-Some.was ≡ f c.args.serial.0 = sym c.in-Some.is ∙ c.replace.ensures.was in
-    ap whose_of there ∙ sym (found c.args.self.now f s.drawn c.args.serial.0 c.requires.from within (ap (λ (o : Owned). o.whose) c.self.view_is))
+    ap whose_of there ∙ sym (found c.args.self.now f s.drawn c.args.serial.0 c.requires.drawn.from within (ap (λ (o : Owned). o.whose) c.self.view_is))
 
 pub returns-clause-is : goal.returns-clause-is
 returns-clause-is c =
@@ -47,5 +47,5 @@ returns-clause-is c =
     let up = c.replace.ensures.puts some in
     let here : g serial ≡ Some w = up serial ∙ ap (λ b. cond b (Some w) (f serial)) (agrees serial) in
     let apart : (j : ℕ) → j ≢ serial → g j ≡ f j = λ j away. up j ∙ ap (λ b. cond b (Some w) (f j)) (differs serial j away) in
-    ap (λ l. record { whose = l; room = s.room }) (table-set f g 1 s.drawn serial c.requires.from apart ∙ ap (λ x. set (table f 1 s.drawn) (serial - 1) (whose_of x)) here)
+    ap (λ l. record { whose = l; room = s.room }) (table-set f g 1 s.drawn serial c.requires.drawn.from apart ∙ ap (λ x. set (table f 1 s.drawn) (serial - 1) (whose_of x)) here)
     ∙ ap (λ (o : Owned). record o { whose = set o.whose (serial - 1) w }) c.self.view_is

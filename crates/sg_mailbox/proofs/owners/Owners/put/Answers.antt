@@ -19,5 +19,5 @@ returns c =
     let up = c.insert.ensures.puts in
     let here : g c.args.serial.0 ≡ Some c.args.whose = up c.args.serial.0 ∙ ap (λ b. cond b (Some c.args.whose) (f c.args.serial.0)) (agrees c.args.serial.0) in
     let apart : (j : ℕ) → j ≢ c.args.serial.0 → g j ≡ f j = λ j away. up j ∙ ap (λ b. cond b (Some c.args.whose) (f j)) (differs c.args.serial.0 j away) in
-    ap (λ l. record { whose = l; room = s.room - 1 }) (table-set f g 1 s.drawn c.args.serial.0 c.requires.from apart ∙ ap (λ x. set (table f 1 s.drawn) (c.args.serial.0 - 1) (whose_of x)) here)
+    ap (λ l. record { whose = l; room = s.room - 1 }) (table-set f g 1 s.drawn c.args.serial.0 c.requires.drawn.from apart ∙ ap (λ x. set (table f 1 s.drawn) (c.args.serial.0 - 1) (whose_of x)) here)
     ∙ ap (λ (o : Owned). record { whose = set o.whose (c.args.serial.0 - 1) c.args.whose; room = o.room - 1 }) c.self.view_is
