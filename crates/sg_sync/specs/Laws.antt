@@ -14,7 +14,7 @@ comers caller Refused = []
 
 -- Nobody is lost, and nobody continues who didn't wait: who waits after the call or continues by it waited before, or begins to wait.
 abbrev pub KeepsAll : ActorId → Objects → Done → Type 0
-KeepsAll caller o done = (actor : ActorId) → waiting done.after actor + times actor done.after.others ≡ waiting o actor + times actor (comers caller done.outcome)
+KeepsAll caller o done = (actor : ActorId) → waiting done.after actor + times actor done.woken ≡ waiting o actor + times actor (comers caller done.outcome)
 
 -- an actor waits in one queue at most, and once there
 abbrev pub WaitsOnce : Objects → Type 0

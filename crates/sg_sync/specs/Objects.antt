@@ -7,8 +7,7 @@ use Rattle.sg_sync.specs.declared.outcome.Outcome.TheVariants.{GoesOn, Waits, Re
 use Rattle.sg_queues.specs.Rings.{queue_at, front}
 use Rattle.sg_sync.specs.Queues.{with_waiter, left, shortened, times, waits, without}
 
--- the owner of each mutex and who waits for it; the count of each semaphore and who waits there; who has arrived at the barrier, in order, and its number of members; and who else continued by the last
--- call
+-- the owner of each mutex and who waits for it; the count of each semaphore and who waits there; who has arrived at the barrier, in order, and its number of members
 pub record Objects : Type 0 where
   pub actors : ℕ
   pub owners : List (Option ActorId)
@@ -17,7 +16,6 @@ pub record Objects : Type 0 where
   pub acquiring : List (List ActorId)
   pub members : ℕ
   pub arrived : List ActorId
-  pub others : List ActorId
 
 -- the actor that owns a mutex; none: it is free
 abbrev pub owner_of : Objects → ℕ → Option ActorId
@@ -31,15 +29,16 @@ count_of o semaphore = slice_index_or o.counts semaphore 0
 abbrev pub waiting : Objects → ActorId → ℕ
 waiting o actor = waits actor o.locking + waits actor o.acquiring + times actor o.arrived
 
--- what a call does: its answer, and the objects after it
+-- what a call does: its answer, the objects after it, and who else continues by it, in order
 pub record Done : Type 0 where
   pub outcome : Outcome
   pub after : Objects
+  pub woken : List ActorId
 
 -- a free mutex gets its owner; else the actor waits, its owner too
 abbrev pub locked_by : Option ActorId → ActorId → ℕ → Objects → Done
-locked_by None actor mutex o = record { outcome = GoesOn; after = record o { owners = slice_set o.owners mutex (Some actor); others = [] } }
-locked_by (Some owner) actor mutex o = record { outcome = Waits; after = record o { locking = with_waiter o.locking mutex actor; others = [] } }
+locked_by None actor mutex o = record { outcome = GoesOn; after = record o { owners = slice_set o.owners mutex (Some actor) }; woken = [] }
+locked_by (Some owner) actor mutex o = record { outcome = Waits; after = record o { locking = with_waiter o.locking mutex actor }; woken = [] }
 
 -- a lock: a free mutex gets the caller as its owner; else the caller waits
 abbrev pub locked : ActorId → ℕ → Objects → Done
@@ -47,13 +46,13 @@ locked actor mutex o = locked_by (owner_of o mutex) actor mutex o
 
 -- the call is refused: no owner, count or queue changes
 abbrev pub refused : Objects → Done
-refused o = record { outcome = Refused; after = record o { others = [] } }
+refused o = record { outcome = Refused; after = o; woken = [] }
 
 -- the first that waits owns the mutex and continues, or nobody owns it
 abbrev pub passed_on : ℕ → Objects → Done
 passed_on mutex o =
     let first = front (queue_at o.locking mutex) in
-    record { outcome = GoesOn; after = record o { owners = slice_set o.owners mutex first; locking = shortened o.locking mutex; others = option_to_list first } }
+    record { outcome = GoesOn; after = record o { owners = slice_set o.owners mutex first; locking = shortened o.locking mutex }; woken = option_to_list first }
 
 -- by its owner alone
 abbrev pub unlocked_by : Option ActorId → ActorId → ℕ → Objects → Done
@@ -68,13 +67,13 @@ unlocked actor mutex o = unlocked_by (owner_of o mutex) actor mutex o
 abbrev pub acquired : ActorId → ℕ → Objects → Done
 acquired actor semaphore o =
     if nat_lt 0 (count_of o semaphore)
-    then record { outcome = GoesOn; after = record o { counts = slice_set o.counts semaphore (count_of o semaphore - 1); others = [] } }
-    else record { outcome = Waits; after = record o { acquiring = with_waiter o.acquiring semaphore actor; others = [] } }
+    then record { outcome = GoesOn; after = record o { counts = slice_set o.counts semaphore (count_of o semaphore - 1) }; woken = [] }
+    else record { outcome = Waits; after = record o { acquiring = with_waiter o.acquiring semaphore actor }; woken = [] }
 
 -- the first that waits continues, or the count rises by one
 abbrev pub released_to : Option ActorId → ℕ → Objects → Done
-released_to None semaphore o = record { outcome = GoesOn; after = record o { counts = slice_set o.counts semaphore (count_of o semaphore + 1); others = [] } }
-released_to (Some first) semaphore o = record { outcome = GoesOn; after = record o { acquiring = shortened o.acquiring semaphore; others = first ∷ [] } }
+released_to None semaphore o = record { outcome = GoesOn; after = record o { counts = slice_set o.counts semaphore (count_of o semaphore + 1) }; woken = [] }
+released_to (Some first) semaphore o = record { outcome = GoesOn; after = record o { acquiring = shortened o.acquiring semaphore }; woken = first ∷ [] }
 
 -- a release: the first that waits for the semaphore continues, or its count rises by one
 abbrev pub released : ℕ → Objects → Done
@@ -84,9 +83,9 @@ released semaphore o = released_to (front (queue_at o.acquiring semaphore)) sema
 abbrev pub arrived : ActorId → Objects → Done
 arrived actor o =
     if nat_lt (length o.arrived + 1) o.members
-    then record { outcome = Waits; after = record o { arrived = o.arrived ++ actor ∷ []; others = [] } }
-    else record { outcome = GoesOn; after = record o { arrived = []; others = o.arrived } }
+    then record { outcome = Waits; after = record o { arrived = o.arrived ++ actor ∷ [] }; woken = [] }
+    else record { outcome = GoesOn; after = record o { arrived = [] }; woken = o.arrived }
 
--- an actor waits nowhere any more, and nobody continues by that
+-- an actor waits nowhere any more
 abbrev pub after_withdrawal : ActorId → Objects → Objects
-after_withdrawal actor o = record o { locking = left actor o.locking; acquiring = left actor o.acquiring; arrived = without actor o.arrived; others = [] }
+after_withdrawal actor o = record o { locking = left actor o.locking; acquiring = left actor o.acquiring; arrived = without actor o.arrived }

@@ -69,14 +69,10 @@ impl Arrivals {
         ensures shortened { self.new
             ≡ record self.old { queues = shortened self.old.queues 0 } }
     {
-        match self.queues.take_first(QUEUE) {
-            Some(first) => {
-                self.here[first.0 as usize] = false;
-                self.len -= 1;
-                Some(first)
-            }
-            None => None,
-        }
+        let first = self.queues.take_first(QUEUE)?;
+        self.here[first.0 as usize] = false;
+        self.len -= 1;
+        Some(first)
     }
 
     /// Removes an actor, if it waits.

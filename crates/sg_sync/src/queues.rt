@@ -66,13 +66,9 @@ impl Queues {
             ≡ record self.old { queues = shortened self.old.queues queue } }
         ensures actor { IfSome result (λ actor. actor.0 ≤ self.old.actors) }
     {
-        match self.rings.front(queue as usize) {
-            Some(slot) => {
-                self.rings.leave(slot);
-                Some(ActorId(slot as u32))
-            }
-            None => None,
-        }
+        let slot = self.rings.front(queue as usize)?;
+        self.rings.leave(slot);
+        Some(ActorId(slot as u32))
     }
 
     /// Removes an actor from the queue in which it waits, if it waits.

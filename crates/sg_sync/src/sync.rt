@@ -1,9 +1,10 @@
 //! The objects at which actors wait for one another.
-ghost use Rattle.std.specs.Prelude.{◌≡◌, ◌<◌, ◌≤◌, ◌+◌, ◌∷◌, ◌++◌, ◌^◌, [], None, IfOk, length, replicate};
+ghost use Rattle.std.specs.Prelude.{◌≡◌, ◌<◌, ◌≤◌, ◌+◌, ◌∷◌, ◌^◌, [], None, IfOk, length, replicate};
 ghost use Rattle.std.specs.Vec.{vec_capacity};
 ghost use Rattle.sg_queues.specs.Rings.{queue_at};
 ghost use Rattle.sg_sync.specs.Queues.{IsActor};
 ghost use Rattle.sg_sync.specs.Objects.{acquired, arrived, count_of, locked, passed_on, released, unlocked, after_withdrawal};
+ghost use Rattle.sg_sync.specs.Sync.{Does};
 ghost use Rattle.sg_sync.specs.Waits.{CanWait};
 
 use crate::arrivals::Arrivals;
@@ -46,36 +47,26 @@ impl Model for Sync {
     ghost use Rattle.std.specs.Prelude.{◌≡◌, ◌≤◌, length};
     ghost use Rattle.std.specs.Vec.{vec_capacity};
     ghost use Rattle.sg_queues.specs.Rings.{queue_at};
-    ghost use Rattle.sg_sync.specs.Objects.{Objects};
+    ghost use Rattle.sg_sync.specs.Sync.{SyncState};
     ghost use Rattle.sg_sync.specs.kept.Objects.{IsKept};
 
-    ghost Value = { Objects };
+    ghost Value = { SyncState };
 
     ghost view = { λ s. record {
-      actors = s.arrived.actors;
-      owners = s.owners.items;
-      locking = s.locking.queues;
-      counts = s.counts.items;
-      acquiring = s.acquiring.queues;
-      members = s.members;
-      arrived = queue_at s.arrived.queues 0;
+      objects = record {
+        actors = s.arrived.actors;
+        owners = s.owners.items;
+        locking = s.locking.queues;
+        counts = s.counts.items;
+        acquiring = s.acquiring.queues;
+        members = s.members;
+        arrived = queue_at s.arrived.queues 0;
+      };
       others = s.others.items;
     } };
 
     ghost invariant = { λ s. IsKept s.locking s.acquiring s.arrived
         (length s.owners.items) (length s.counts.items) (vec_capacity s.others) };
-}
-
-// Notes one more actor that continues.
-fn tell(others: &mut Vec<ActorId>, actor: ActorId)
-    requires { length others.old.items < vec_capacity others.old }
-    ensures more { others.new.items ≡ others.old.items ++ actor ∷ [] }
-    ensures capacity { vec_capacity others.old ≤ vec_capacity others.new }
-{
-    match others.push(actor) {
-        Ok(()) => {}
-        Err(_) => unreachable!(),
-    }
 }
 
 // Removes all from the barrier, in order, and notes that they continue.
@@ -89,7 +80,7 @@ fn tell_all(others: &mut Vec<ActorId>, arrived: &mut Arrivals)
     ensures left { arrived.new ≡ record arrived.old { queues = [] ∷ [] } }
 {
     while let Some(actor) = arrived.take_first() {
-        tell(others, actor);
+        others.push_reserved(actor);
     }
 }
 
@@ -103,13 +94,15 @@ impl Sync {
         members: u32,
     ) -> Result<Sync, Memory>
         ensures { IfOk result (λ s. s ≡ record {
-          actors = actors;
-          owners = replicate mutexes None;
-          locking = replicate mutexes [];
-          counts = semaphores.now;
-          acquiring = replicate (length semaphores.now) [];
-          members = members;
-          arrived = [];
+          objects = record {
+            actors = actors;
+            owners = replicate mutexes None;
+            locking = replicate mutexes [];
+            counts = semaphores.now;
+            acquiring = replicate (length semaphores.now) [];
+            members = members;
+            arrived = [];
+          };
           others = [];
         }) }
     {
@@ -126,10 +119,9 @@ impl Sync {
 
     /// Locks a mutex: a free one gets its owner; an actor that finds an owner waits, even the owner itself.
     pub fn lock(&mut self, actor: ActorId, mutex: u32) -> Outcome
-        requires waits { CanWait self.old actor }
-        requires mutex { mutex < length self.old.owners }
-        ensures outcome { result ≡ (locked actor mutex self.old).outcome }
-        ensures after { self.new ≡ (locked actor mutex self.old).after }
+        requires waits { CanWait self.old.objects actor }
+        requires mutex { mutex < length self.old.objects.owners }
+        ensures { Does (locked actor mutex self.old.objects) result self.new }
     {
         self.others.clear();
         match self.owners[mutex as usize] {
@@ -146,39 +138,35 @@ impl Sync {
 
     /// Unlocks a mutex for its owner: the first that waits becomes the owner and continues.
     pub fn unlock(&mut self, actor: ActorId, mutex: u32) -> Outcome
-        requires mutex { mutex < length self.old.owners }
-        ensures outcome { result ≡ (unlocked actor mutex self.old).outcome }
-        ensures after { self.new ≡ (unlocked actor mutex self.old).after }
+        requires mutex { mutex < length self.old.objects.owners }
+        ensures { Does (unlocked actor mutex self.old.objects) result self.new }
     {
         self.others.clear();
         match self.owners[mutex as usize] {
-            Some(owner) if owner == actor => {
-                self.pass_on(mutex);
-                Outcome::GoesOn
-            }
+            Some(owner) if owner == actor => self.pass_on(mutex),
             _ => Outcome::Refused,
         }
     }
 
     // Gives the mutex to the first that waits, or to nobody.
-    fn pass_on(&mut self, mutex: u32)
-        requires mutex { mutex < length self.old.owners }
+    fn pass_on(&mut self, mutex: u32) -> Outcome
+        requires mutex { mutex < length self.old.objects.owners }
         requires none { self.old.others ≡ [] }
-        ensures { self.new ≡ (passed_on mutex self.old).after }
+        ensures { Does (passed_on mutex self.old.objects) result self.new }
     {
         let first = self.locking.take_first(mutex);
         self.owners[mutex as usize] = first;
         if let Some(first) = first {
-            tell(&mut self.others, first);
+            self.others.push_reserved(first);
         }
+        Outcome::GoesOn
     }
 
     /// Acquires a semaphore: a count above 0 falls by one, else the actor waits.
     pub fn acquire(&mut self, actor: ActorId, semaphore: u32) -> Outcome
-        requires waits { CanWait self.old actor }
-        requires semaphore { semaphore < length self.old.counts }
-        ensures outcome { result ≡ (acquired actor semaphore self.old).outcome }
-        ensures after { self.new ≡ (acquired actor semaphore self.old).after }
+        requires waits { CanWait self.old.objects actor }
+        requires semaphore { semaphore < length self.old.objects.counts }
+        ensures { Does (acquired actor semaphore self.old.objects) result self.new }
     {
         self.others.clear();
         let count = self.counts[semaphore as usize];
@@ -193,14 +181,13 @@ impl Sync {
 
     /// Releases a semaphore: the first that waits continues, or the count rises by one.
     pub fn release(&mut self, semaphore: u32) -> Outcome
-        requires semaphore { semaphore < length self.old.counts }
-        requires room { count_of self.old semaphore + 1 < 2 ^ 64 }
-        ensures outcome { result ≡ (released semaphore self.old).outcome }
-        ensures after { self.new ≡ (released semaphore self.old).after }
+        requires semaphore { semaphore < length self.old.objects.counts }
+        requires room { count_of self.old.objects semaphore + 1 < 2 ^ 64 }
+        ensures { Does (released semaphore self.old.objects) result self.new }
     {
         self.others.clear();
         match self.acquiring.take_first(semaphore) {
-            Some(first) => tell(&mut self.others, first),
+            Some(first) => self.others.push_reserved(first),
             None => self.counts[semaphore as usize] += 1,
         }
         Outcome::GoesOn
@@ -209,9 +196,8 @@ impl Sync {
     /// Enters the barrier: once all members have arrived, all continue in the order of arrival, this one last. A
     /// barrier of no members blocks nobody.
     pub fn arrive(&mut self, actor: ActorId) -> Outcome
-        requires { CanWait self.old actor }
-        ensures outcome { result ≡ (arrived actor self.old).outcome }
-        ensures after { self.new ≡ (arrived actor self.old).after }
+        requires { CanWait self.old.objects actor }
+        ensures { Does (arrived actor self.old.objects) result self.new }
     {
         self.others.clear();
         if self.arrived.len() as u64 + 1 < self.members as u64 {
@@ -226,8 +212,11 @@ impl Sync {
     /// Removes an actor from whatever queue it waits in, at any place, and all others keep their order. It keeps the
     /// mutexes that it owns. Nobody continues by this.
     pub fn leave(&mut self, actor: ActorId)
-        requires { IsActor self.old.actors actor }
-        ensures { self.new ≡ after_withdrawal actor self.old }
+        requires { IsActor self.old.objects.actors actor }
+        ensures { self.new ≡ record {
+          objects = after_withdrawal actor self.old.objects;
+          others = [];
+        } }
     {
         self.others.clear();
         self.locking.leave(actor);
