@@ -1,7 +1,8 @@
 -- The requests of actors.
-use Rattle.std.specs.Prelude.{ℕ, ◌-◌, ◌==◌, nat_lt, Option, if◌then◌else◌, List, [], ◌∷◌, ◌++◌, map, slice_index_or, slice_set}
+use Rattle.std.specs.Prelude.{◌≡◌, ℕ, ◌-◌, ◌^◌, ◌<◌, ◌≤◌, ◌==◌, nat_lt, Option, Result, OnOk, if◌then◌else◌, List, [], ◌∷◌, ◌++◌, length, map, slice_index_or, slice_set}
 use Rattle.std.specs.Option.{option_to_list}
 use Rattle.sg_base.specs.declared.awaits.Await.{Await}
+use Rattle.sg_base.specs.declared.memory.Memory.{Memory}
 use Rattle.sg_queues.specs.Rings.{front, behind}
 
 -- what each actor may wait for, by actor from 1 on, oldest first; how many requests were made in all; room for so many more; and the activity ids awaited by the last released actor
@@ -10,6 +11,18 @@ pub record Requested : Type 0 where
   pub asked : ℕ
   pub room : ℕ
   pub awaited : List ℕ
+
+-- there is room for so many more requests, unless memory was lacking; nothing else changes, and the room doesn't shrink
+pub record HasReserved (n : ℕ) (result : Result Unit Memory) (old new : Requested) : Type 0 where
+  pub room : OnOk result (n ≤ new.room)
+  pub grows : old.room ≤ new.room
+  pub kept : new ≡ record old { room = new.room }
+
+-- there is room for a request of this actor
+pub record CanPush (requested : Requested) (who : ℕ) : Type 0 where
+  pub actor : (0 < who) × (who ≤ length requested.queues)
+  pub few : requested.asked < 10 ^ 18
+  pub room : 0 < requested.room
 
 -- what the actor of this number may wait for
 abbrev pub queue_at : List (List Await) → ℕ → List Await

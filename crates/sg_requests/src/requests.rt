@@ -1,6 +1,6 @@
 //! The requests of all actors.
-ghost use Rattle.std.specs.Prelude.{◌≡◌, ◌+◌, ◌-◌, ◌^◌, ◌<◌, ◌≤◌, [], length, replicate, IfOk, OnOk};
-ghost use Rattle.sg_requests.specs.Requested.{awaited_with, oldest, queue_at, queues_with_request, queues_without_oldest, without_requests};
+ghost use Rattle.std.specs.Prelude.{◌≡◌, ◌+◌, ◌-◌, ◌<◌, ◌≤◌, [], length, replicate, IfOk};
+ghost use Rattle.sg_requests.specs.Requested.{awaited_with, oldest, queue_at, queues_with_request, queues_without_oldest, without_requests, CanPush, HasReserved};
 
 use crate::serials::{begin, empty, sort};
 use sg_base::{ActorId, Await, Memory, Party, Serial};
@@ -90,9 +90,7 @@ impl Requests {
 
     /// Makes room for so many more requests.
     pub fn reserve(&mut self, n: usize) -> Result<(), Memory>
-        ensures room { OnOk result (n ≤ self.new.room) }
-        ensures grows { self.old.room ≤ self.new.room }
-        ensures kept { self.new ≡ record self.old { room = self.new.room } }
+        ensures { HasReserved n result self.old self.new }
     {
         self.queues.reserve(n)?;
         let room = n.max(self.room);
@@ -106,14 +104,11 @@ impl Requests {
 
     /// Adds a request of an actor, which becomes its newest.
     pub fn push(&mut self, actor: ActorId, request: Await)
-        requires actor { (0 < actor.0) × (actor.0 ≤ length self.old.queues) }
-        requires few { self.old.asked < 10 ^ 18 }
-        requires room { 0 < self.old.room }
-        ensures { self.new ≡ record {
+        requires { CanPush self.old actor.0 }
+        ensures { self.new ≡ record self.old {
           queues = queues_with_request self.old.queues actor.0 request;
           asked = self.old.asked + 1;
           room = self.old.room - 1;
-          awaited = self.old.awaited;
         } }
     {
         let _ = self.queues.push_back(actor.index(), request);
@@ -130,13 +125,9 @@ impl Requests {
           queues = queues_without_oldest self.old.queues actor.0;
         } }
     {
-        match self.queues.pop_front(actor.index()) {
-            Some(request) => {
-                self.standing -= 1;
-                Some(request)
-            }
-            None => None,
-        }
+        let request = self.queues.pop_front(actor.index())?;
+        self.standing -= 1;
+        Some(request)
     }
 
     /// Releases all requests of an actor, which makes none any more. `awaited` returns their activity ids then, with

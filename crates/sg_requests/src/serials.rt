@@ -1,5 +1,5 @@
 //! Lists of activity ids.
-ghost use Rattle.std.specs.Prelude.{◌≡◌, ◌+◌, ◌<◌, ◌≤◌, ◌++◌, ◌∷◌, [], length, map, slice_set, vec_capacity, vec_len};
+ghost use Rattle.std.specs.Prelude.{◌≡◌, ◌+◌, ◌<◌, ◌≤◌, ◌++◌, [], length, map, slice_set, vec_capacity, vec_len};
 ghost use Rattle.std.specs.Option.{option_to_list};
 ghost use Rattle.sg_queues.specs.Queues.{values_of};
 ghost use Rattle.sg_queues.specs.Rings.{queue_at};
@@ -7,19 +7,6 @@ ghost use Rattle.sg_requests.specs.Requested.{rising_numbers, serial_of};
 
 use sg_base::Await;
 use sg_queues::Queues;
-
-// Adds an activity id at the end of a list that has room.
-fn push(serials: &mut Vec<u64>, serial: u64)
-    requires { vec_len serials.old < vec_capacity serials.old }
-    ensures items { serials.new.items ≡ serials.old.items ++ serial ∷ [] }
-    ensures len { vec_len serials.new ≡ vec_len serials.old + 1 }
-    ensures capacity { vec_capacity serials.old ≤ vec_capacity serials.new }
-{
-    match serials.push(serial) {
-        Ok(()) => {}
-        Err(_) => unreachable!(),
-    }
-}
 
 /// Begins the list anew, with the id of this activity, if there is one. It has room for that.
 pub(crate) fn begin(serials: &mut Vec<u64>, on: Option<Await>)
@@ -30,7 +17,7 @@ pub(crate) fn begin(serials: &mut Vec<u64>, on: Option<Await>)
 {
     serials.clear();
     if let Some(on) = on {
-        push(serials, on.serial.0);
+        serials.push_reserved(on.serial.0);
     }
 }
 
@@ -49,7 +36,7 @@ pub(crate) fn empty(queues: &mut Queues<Await>, queue: usize, serials: &mut Vec<
     ensures capacity { vec_capacity serials.old ≤ vec_capacity serials.new }
 {
     while let Some(request) = queues.pop_front(queue) {
-        push(serials, request.serial.0);
+        serials.push_reserved(request.serial.0);
     }
 }
 

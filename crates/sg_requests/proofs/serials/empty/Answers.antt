@@ -1,15 +1,13 @@
-use Rattle.std.proofs.Common.{◌≡◌, ◌+◌, ◌∷◌, ◌++◌, [], List, length, map, set, refl, sym, ap, ◌∙◌, arith, append_assoc, append-nil}
-use Rattle.std.proofs.lemmas.List.{set-get_or, set-set}
-use Rattle.sg_base.specs.declared.awaits.Await.{Await}
+use Rattle.std.proofs.Common.{◌∷◌, ◌++◌, [], length, map, set, sym, ap, ◌∙◌, arith, append_assoc, append-nil}
 use Rattle.sg_queues.specs.Queues.{value, values_of}
 use Rattle.sg_queues.specs.Rings.{behind, queue_at}
 use Rattle.sg_queues.proofs.Values.{shortened_values, values_at}
 use Rattle.sg_requests.specs.Requested.{serial_of}
-use Rattle.sg_requests.proofs.Emptied.{none_left, taken_is, IsTaken}
+use Rattle.sg_requests.proofs.Emptied.{none_left, taken_is}
 use Rattle.sg_requests.proofs.serials.empty.Goals as goal
 
-pub push-requires : goal.push-requires
-push-requires c =
+pub push_reserved-requires : goal.push_reserved-requires
+push_reserved-requires c =
     let inv = c.loop-request.invariant in
     let step = taken_is c.loop-request.queues.queues c.pop_front.new.self.queues c.args.queue c.in-Some.request (omega (arith, c.requires.queue, inv.long)) (sym c.in-Some.is ∙ c.pop_front.ensures.first) c.pop_front.ensures.rest in
     omega (arith, c.requires.room, inv.len, inv.capacity, step.fewer)
@@ -25,15 +23,15 @@ loop-request-preserved c =
     let left = map serial_of (queue_at (values_of new) queue) in
     record {
       items =
-          ap (λ l. l ++ left) c.push.ensures.items
+          ap (λ l. l ++ left) c.push_reserved.ensures.items
           ∙ append_assoc c.loop-request.serials.items (serial_of request ∷ []) left
           ∙ ap (λ q. c.loop-request.serials.items ++ map serial_of q) (sym step.first)
           ∙ inv.items;
       rest = step.rest ∙ inv.rest;
       long = step.long ∙ inv.long;
       slots = omega (arith, inv.slots, c.pop_front.ensures.room);
-      capacity = omega (arith, inv.capacity, c.push.ensures.capacity);
-      len = omega (arith, inv.len, step.fewer, c.push.ensures.len);
+      capacity = omega (arith, inv.capacity, c.push_reserved.ensures.capacity);
+      len = omega (arith, inv.len, step.fewer, c.push_reserved.ensures.len);
     }
 
 pub loop-request-smaller : goal.loop-request-smaller

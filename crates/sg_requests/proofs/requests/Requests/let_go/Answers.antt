@@ -1,10 +1,6 @@
-use Rattle.std.proofs.Common.{rules, ◌≡◌, ◌-◌, ◌+◌, ◌<◌, ◌++◌, [], List, length, map, set, sym, ap, ◌∙◌, arith}
-use Rattle.std.proofs.lemmas.List.{length-map, map-append}
-use Rattle.std.specs.List.{sum_by}
-use Rattle.std.specs.Option.{option_to_list}
-use Rattle.sg_base.specs.declared.awaits.Await.{Await}
+use Rattle.std.proofs.Common.{◌≡◌, ◌<◌, length, map, ap, arith}
+use Rattle.std.proofs.lemmas.List.{length-map}
 use Rattle.sg_queues.specs.Queues.{value, values_of}
-use Rattle.sg_queues.specs.Rings.{queue_at}
 use Rattle.sg_requests.proofs.Emptied.{emptied_total}
 use Rattle.sg_requests.specs.Requested.{Requested}
 use Rattle.sg_requests.proofs.requests.Requests.let_go.Goals as goal
