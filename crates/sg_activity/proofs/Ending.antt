@@ -32,7 +32,7 @@ module _ (kept : Kept) (lazy : Lazily) (lives : Pool) (agenda : List (Option Key
   abbrev s : State
   s = state_of kept
 
-  pub ends : Ends kept (record kept { lazy = lazy; lives = lives; agenda = agenda; index = index; settled = false; flows = kept.flows - flows_ahead live.kind; uses = kept.uses - uses_ahead live.kind live.links }) key live None
+  pub ends : Ends kept (record kept { lazy = lazy; lives = lives; agenda = agenda; index = index; settled = false; flows = kept.flows - flows_ahead live.kind; uses = kept.uses - uses_ahead live.kind live.place }) key live None
   ends =
       let within = there_within kept.lives.slots key live at in
       let keys_in : key < length kept.agenda = omega (arith, within, sound.room.agenda_long) in
@@ -68,7 +68,7 @@ module _ (kept : Kept) (lazy : Lazily) (lives : Pool) (agenda : List (Option Key
 -- the same, of what the two branches left
 pub ends_from : (kept mid : Kept) (lazy : Lazily) (lives : Pool) (agenda : List (Option Key)) (index : Indexed) (key : ℕ) (live : Live) → IsSound kept → slot_at kept.lives.slots key ≡ Some live → Goes kept lazy key live → mid ≡ record kept { lazy = lazy } →
     lives.slots ≡ set mid.lives.slots key None → lives.room ≡ mid.lives.room → agenda ≡ set mid.agenda key None → IsRow mid.index.rows index.rows key [] →
-    Ends kept (record mid { lives = lives; agenda = agenda; index = index; settled = false; flows = mid.flows - flows_ahead live.kind; uses = mid.uses - uses_ahead live.kind live.links }) key live None
+    Ends kept (record mid { lives = lives; agenda = agenda; index = index; settled = false; flows = mid.flows - flows_ahead live.kind; uses = mid.uses - uses_ahead live.kind live.place }) key live None
 ends_from kept mid lazy lives agenda index key live sound at goes e slots room keys row =
-    subst (λ (m : Kept). Ends kept (record m { lives = lives; agenda = agenda; index = index; settled = false; flows = m.flows - flows_ahead live.kind; uses = m.uses - uses_ahead live.kind live.links }) key live None) (sym e)
+    subst (λ (m : Kept). Ends kept (record m { lives = lives; agenda = agenda; index = index; settled = false; flows = m.flows - flows_ahead live.kind; uses = m.uses - uses_ahead live.kind live.place }) key live None) (sym e)
     (ends kept lazy lives agenda index key live sound at goes (slots ∙ ap (λ (m : Kept). set m.lives.slots key None) e) (room ∙ ap (λ (m : Kept). m.lives.room) e) (keys ∙ ap (λ (m : Kept). set m.agenda key None) e) (subst (λ (m : Kept). IsRow m.index.rows index.rows key []) e row))

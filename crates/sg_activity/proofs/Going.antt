@@ -139,6 +139,7 @@ module _ (s : State) (is : IsKept s) (set : IsTrue s.settled) where
             weighs = h.weighs;
             paced = h.paced;
             placed = h.placed;
+            fits = h.fits;
             counted = h.counted;
             flow = λ full. let f = h.flow full in record { marked = f.marked; runs = f.runs; limit = f.limit; within = f.within; known = f.known };
             dated = h.dated;

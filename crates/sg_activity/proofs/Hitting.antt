@@ -5,7 +5,6 @@ use Rattle.sg_heap.specs.Agenda.{Key, key_at, with_slots}
 use Rattle.sg_lazy.specs.Lazily.{Lazily}
 use Rattle.sg_lazy.specs.RunningFlow.{RunningFlow, running_at}
 use Rattle.sg_activity.specs.declared.activity_state.Kept.{Kept}
-use Rattle.sg_activity_table.specs.declared.kinds.PhaseKind.TheVariants as phase
 use Rattle.sg_activity_table.specs.declared.lives.Live.{Live}
 use Rattle.sg_activity.specs.Links.{Switches}
 use Rattle.sg_activity.specs.Task.{uses_off}
@@ -30,7 +29,7 @@ module _ (on : Switches) (slots : List (Option Live)) (ways : ℕ → List LinkI
   }
 
   -- one that was idle begins, and is hit or not
-  pub hits_more : (key : ℕ) (live : Live) (others : List (Option Live)) (paths : ℕ → List LinkId) (off : Bool) → slot_at slots key ≡ None → key < length slots → uses_off on (place_of live.kind live.host live.peer (links_at paths key)) ≡ off → others ≡ set slots key (Some live) → ((k : ℕ) → k ≢ key → links_at paths k ≡ links_at ways k) →
+  pub hits_more : (key : ℕ) (live : Live) (others : List (Option Live)) (paths : ℕ → List LinkId) (off : Bool) → slot_at slots key ≡ None → key < length slots → uses_off on (place_of live.place (links_at paths key)) ≡ off → others ≡ set slots key (Some live) → ((k : ℕ) → k ≢ key → links_at paths k ≡ links_at ways k) →
       AreHits on others paths (noted off key live.serial hits)
   hits_more key live others paths false free within off others_are same = hits_still others paths (λ k. elim (eq_cases k key) [
     | inl e ↦
@@ -103,13 +102,6 @@ hit_stamped on links flows runs date (Some live) = go (is_among flows live)
     go : (b : Bool) → hit_in on links (Some (cond b (record live { kept = left_at live.kept live.rate live.stamp date; stamp = date; rate = rate_in (running_at runs live.flow) }) live)) ≡ hit_in on links (Some live)
     go true = refl
     go false = refl
-
--- a flow is hit as its latency is
-pub hit_on : (on : Switches) (links : List LinkId) (old live : Live) → old.kind ≡ phase.Latency → live ≡ record old { kind = live.kind; kept = live.kept; stamp = live.stamp; rate = live.rate; flow = live.flow } → live.kind ≡ phase.Flow → hit_in on links (Some live) ≡ hit_in on links (Some old)
-hit_on on links old live was rest is =
-    ap (λ (l : Live). hit_in on links (Some l)) rest
-    ∙ ap (λ k. cond (uses_off on (place_of k old.host old.peer links)) (Some (record { date = 0; serial = old.serial })) None) is
-    ∙ sym (ap (λ k. cond (uses_off on (place_of k old.host old.peer links)) (Some (record { date = 0; serial = old.serial })) None) was)
 
 -- an activity is done, and isn't hit any more
 pub hits_left : (kept mid : Kept) (lazy : Lazily) (index : Indexed) (slots : List (Option Live)) (hits : List (Option Key)) (key : ℕ) (live : Live) → AreHit kept hits → slot_at kept.lives.slots key ≡ Some live → mid ≡ record kept { lazy = lazy } → slots ≡ set mid.lives.slots key None → IsRow mid.index.rows index.rows key [] →

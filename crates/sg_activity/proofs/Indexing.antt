@@ -1,24 +1,26 @@
 -- The index has what the activities use, as these come and go.
-use Rattle.std.proofs.Common.{◌≡◌, ◌≢◌, ℕ, zero, suc, ◌+◌, ◌-◌, ◌*◌, ◌^◌, ◌<◌, ◌≤◌, ◌⊎◌, inl, inr, Bool, true, false, cond, Option, None, Some, option_map, List, [], ◌∷◌, ◌++◌, drop, length, length-set, get_or, map, set, take, All, refl, sym, ap, ap₂, subst, ◌∙◌, arith}
+use Rattle.std.proofs.Common.{◌≡◌, ◌≢◌, ℕ, zero, suc, ◌+◌, ◌-◌, ◌*◌, ◌^◌, ◌<◌, ◌≤◌, inl, inr, Bool, true, false, cond, Option, None, Some, option_map, List, [], ◌∷◌, ◌++◌, drop, length, length-set, get_or, map, set, take, All, refl, sym, ap, ap₂, subst, ◌∙◌, arith}
 use Rattle.std.proofs.Math.Path.{fun_ext}
 use Rattle.std.proofs.Math.Seq.{take-suc}
 use Rattle.sg_base.specs.declared.ids.LinkId.{LinkId}
 use Rattle.sg_lazy.specs.Lazily.{Lazily}
 use Rattle.sg_lazy.specs.RunningFlow.{RunningFlow, running_at}
 use Rattle.sg_activity.specs.declared.activity_state.Kept.{Kept}
-use Rattle.sg_activity_table.specs.declared.kinds.PhaseKind.{PhaseKind}
-use Rattle.sg_activity_table.specs.declared.kinds.PhaseKind.TheVariants as phase
+use Rattle.sg_activity_table.specs.declared.kinds.Place.{Place as LivePlace}
+use Rattle.sg_activity_table.specs.declared.kinds.Place.TheVariants as place_is
 use Rattle.sg_activity_table.specs.declared.lives.Live.{Live}
 use Rattle.std.proofs.lemmas.List.{length-map, map-append}
-use Rattle.sg_activity.specs.Links.{Capacities}
-use Rattle.sg_activity.specs.Task.{Place, Way, over}
+use Rattle.sg_maxmin.specs.Fill.{flow}
+use Rattle.sg_activity_table.specs.Slots.{sooner}
+use Rattle.sg_activity.specs.Links.{Capacities, route_bound, shared_of}
+use Rattle.sg_activity.specs.Task.{Place, Task, Way, flow_at, over}
 use Rattle.sg_activity.proofs.Routed.{all_cons}
 use Rattle.sg_activity.specs.kept.Grows.{Grows}
 use Rattle.sg_activity.specs.kept.Index.{IsIndexed, used_at, used_by}
 use Rattle.sg_activity.specs.kept.Rows.{Indexed, IsRow, IsWayRow, IsWider, link_of, row_at, way_in}
 use Rattle.sg_activity_table.specs.Pool.{slot_at}
 use Rattle.sg_activity.specs.kept.Renewal.{is_among, rate_in, restamped}
-use Rattle.sg_activity.specs.kept.Sound.{IsPath, IsPlace}
+use Rattle.sg_activity.specs.kept.Sound.{IsOver, IsPath, IsPlace, IsWay}
 use Rattle.sg_activity.specs.kept.Stamps.{left_at}
 use Rattle.sg_activity.specs.kept.State.{links_at, place_of, state_of, ways_of}
 use Rattle.sg_activity.specs.kept.Whole.{IsUsed}
@@ -84,12 +86,6 @@ used_stamped hosts count links flows runs date (Some live) = go (is_among flows 
     go true = refl
     go false = refl
 
--- a flow uses what its latency did
-pub used_on : (hosts count : ℕ) (links : List LinkId) (old live : Live) → old.kind ≡ phase.Latency → live ≡ record old { kind = live.kind; kept = live.kept; stamp = live.stamp; rate = live.rate; flow = live.flow } → live.kind ≡ phase.Flow → used_by hosts count links (Some live) ≡ used_by hosts count links (Some old)
-used_on hosts count links old live was rest is =
-    ap (λ (l : Live). used_at hosts count (place_of l.kind l.host l.peer links)) rest
-    ∙ ap (λ k. used_at hosts count (place_of k old.host old.peer links)) is ∙ sym (ap (λ k. used_at hosts count (place_of k old.host old.peer links)) was)
-
 -- an activity is done, and uses nothing any more
 pub used_gone : (kept mid : Kept) (lazy : Lazily) (slots : List (Option Live)) (new : Indexed) (key : ℕ) (live : Live) → IsUsed kept kept.index → slot_at kept.lives.slots key ≡ Some live → mid ≡ record kept { lazy = lazy } → slots ≡ set mid.lives.slots key None →
     IsRow mid.index.rows new.rows key [] → length new.users ≡ length mid.index.users → mid.index.room ≤ new.room → IsIndexed (state_of mid).capacities slots (ways_of (record mid { index = new })) mid.room new
@@ -152,10 +148,24 @@ pub place_row : (capacities : Capacities) (row : List ℕ) (place : Place) (way 
 place_row capacities row place way e is row_is =
     subst (IsWayRow (length capacities.hosts)) (sym (row_is ∙ ap (used_at (length capacities.hosts) (length capacities.links)) e)) (way_row capacities way (subst (IsPlace capacities) e is))
 
--- so of a latency or a flow
-pub over_row : (capacities : Capacities) (row : List ℕ) (kind : PhaseKind) (host peer : ℕ) (links : List LinkId) → (kind ≡ phase.Latency) ⊎ (kind ≡ phase.Flow) → IsPlace capacities (place_of kind host peer links) → row ≡ used_at (length capacities.hosts) (length capacities.links) (place_of kind host peer links) → IsWayRow (length capacities.hosts) row
-over_row capacities row kind host peer links (inl e) is row_is = place_row capacities row (place_of kind host peer links) (record { links = links; sender = host; receiver = peer }) (ap (λ k. place_of k host peer links) e) is row_is
-over_row capacities row kind host peer links (inr e) is row_is = place_row capacities row (place_of kind host peer links) (record { links = links; sender = host; receiver = peer }) (ap (λ k. place_of k host peer links) e) is row_is
+-- so of a communication
+pub over_row : (capacities : Capacities) (row : List ℕ) (place : LivePlace) (links : List LinkId) → IsOver place → IsPlace capacities (place_of place links) → row ≡ used_at (length capacities.hosts) (length capacities.links) (place_of place links) → IsWayRow (length capacities.hosts) row
+over_row capacities row place_is.Nowhere links has is row_is = absurd has
+over_row capacities row (place_is.OnHost host) links has is row_is = absurd has
+over_row capacities row (place_is.Over sender receiver count) links has is row_is =
+    place_row capacities row (place_of (place_is.Over sender receiver count) links) (record { links = links; sender = sender.0; receiver = receiver.0 }) refl is row_is
+
+-- its route exists
+pub over_way : (capacities : Capacities) (place : LivePlace) (links : List LinkId) → IsOver place → IsPlace capacities (place_of place links) → IsWay capacities links
+over_way capacities place_is.Nowhere links has is = absurd has
+over_way capacities (place_is.OnHost host) links has is = absurd has
+over_way capacities (place_is.Over sender receiver count) links has is = is.links
+
+-- and its flow asks for the links of this route
+pub over_flow : (capacities : Capacities) (task : Task) (place : LivePlace) (links : List LinkId) → IsOver place → flow_at capacities task (place_of place links) ≡ flow (shared_of (length capacities.hosts) capacities.links links) task.weight (sooner (route_bound capacities.links links) task.bound)
+over_flow capacities task place_is.Nowhere links has = absurd has
+over_flow capacities task (place_is.OnHost host) links has = absurd has
+over_flow capacities task (place_is.Over sender receiver count) links has = refl
 
 -- one more thing was read
 pub way_ends : (hosts : ℕ) (row : List ℕ) (k : ℕ) → k < 2 → way_in hosts (take (suc k) row) ≡ []

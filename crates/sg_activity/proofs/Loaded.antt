@@ -7,8 +7,8 @@ use Rattle.sg_base.specs.declared.ids.LinkId.{LinkId}
 use Rattle.sg_maxmin.specs.Chained.{times, users_on}
 use Rattle.sg_activity.specs.declared.activity_state.Kept.{Kept}
 use Rattle.sg_activity_table.specs.declared.kinds.HostCap.{HostCap}
-use Rattle.sg_activity_table.specs.declared.kinds.PhaseKind.{PhaseKind}
-use Rattle.sg_activity_table.specs.declared.kinds.PhaseKind.TheVariants as phase
+use Rattle.sg_activity_table.specs.declared.kinds.Place.{Place as LivePlace}
+use Rattle.sg_activity_table.specs.declared.kinds.Place.TheVariants as place_is
 use Rattle.sg_activity_table.specs.declared.lives.Live.{Live}
 use Rattle.sg_activity.specs.Hosts.{IsHost, host_at, offer_of}
 use Rattle.sg_activity.specs.Laws.{IsHostOf}
@@ -110,17 +110,15 @@ away host n (link ∷ links) less =
 
 module _ (s : State) (is : IsKept s) (set : IsTrue s.settled) (host : ℕ) where
   added : (ℕ → ℕ) → Live → ℕ
-  added amount live = cond (takes_share live.kind && is_there host (place_of live.kind live.host live.peer [])) (amount live.rate) 0
+  added amount live = cond (takes_share live.kind && is_there host (place_of live.place [])) (amount live.rate) 0
 
   task_adds : (ℕ → ℕ) → Task → ℕ
   task_adds amount task = cond (loads host task) (amount (rate (under_of s) task)) 0
 
-  there_over : (kind : PhaseKind) (h peer : ℕ) (links : List LinkId) → is_there host (place_of kind h peer []) ≡ is_there host (place_of kind h peer links)
-  there_over phase.Latency h peer links = refl
-  there_over phase.Flow h peer links = refl
-  there_over phase.Exec h peer links = refl
-  there_over phase.Timer h peer links = refl
-  there_over phase.Kept h peer links = refl
+  there_over : (place : LivePlace) (links : List LinkId) → is_there host (place_of place []) ≡ is_there host (place_of place links)
+  there_over place_is.Nowhere links = refl
+  there_over (place_is.OnHost h) links = refl
+  there_over (place_is.Over sender receiver count) links = refl
 
   abbrev place : ℕ → ℕ
   place key = serial_at s.slots key - 1
@@ -128,7 +126,7 @@ module _ (s : State) (is : IsKept s) (set : IsTrue s.settled) (host : ℕ) where
   as_much : (amount : ℕ → ℕ) (key : ℕ) (live : Live) → slot_at s.slots key ≡ Some live → added amount live ≡ task_adds amount (task_of s key live)
   unfolding added task_adds
   as_much amount key live at =
-      ap₂ (λ b r. cond (takes_share live.kind && b) (amount r) 0) (there_over live.kind live.host live.peer (links_at s.ways key)) (sym (rate_told s is set key live at))
+      ap₂ (λ b r. cond (takes_share live.kind && b) (amount r) 0) (there_over live.place (links_at s.ways key)) (sym (rate_told s is set key live at))
 
   slots_sum : (amount : ℕ → ℕ) → sum_by (part (added amount)) s.slots ≡ sum_by (part (task_adds amount)) (under_of s).tasks
   slots_sum amount = paired_sums (added amount) (task_adds amount) s.slots (under_of s).tasks place (record {
@@ -144,30 +142,34 @@ module _ (s : State) (is : IsKept s) (set : IsTrue s.settled) (host : ℕ) where
   })
 
   module _ (hosts links : ℕ) (exists : host < hosts) where
-    kind_adds : (amount : ℕ → ℕ) (kind : PhaseKind) (h peer r : ℕ) (way : List LinkId) →
-        times host (used_at hosts links (place_of kind h peer way)) * part amount (cond (takes_share kind) (Some r) None) ≡ cond (takes_share kind && is_there host (place_of kind h peer [])) (amount r) 0
-    kind_adds amount phase.Latency h peer r way = omega arith
-    kind_adds amount phase.Flow h peer r way = ap (λ n. n * amount r) none ∙ nothing (amount r)
+    -- where it isn't
+    none_adds : (amount : ℕ → ℕ) (full : Bool) (r n : ℕ) → n ≡ 0 → n * part amount (cond full (Some r) None) ≡ cond (full && false) (amount r) 0
+    none_adds amount true r n none = ap (λ m. m * amount r) none ∙ nothing (amount r)
       where
-        nothing : (n : ℕ) → 0 * n ≡ 0
-        nothing n = omega arith
+        nothing : (m : ℕ) → 0 * m ≡ 0
+        nothing m = omega arith
+    none_adds amount false r n none = ap (λ m. m * 0) none
 
-        ends : List ℕ
-        ends = (hosts + links + peer) ∷ map (λ (link : LinkId). hosts + link.0) way
-
-        none : times host ((hosts + links + h) ∷ (hosts + links + peer) ∷ map (λ (link : LinkId). hosts + link.0) way) ≡ 0
+    place_adds : (amount : ℕ → ℕ) (full : Bool) (place : LivePlace) (r : ℕ) (way : List LinkId) →
+        times host (used_at hosts links (place_of place way)) * part amount (cond full (Some r) None) ≡ cond (full && is_there host (place_of place [])) (amount r) 0
+    place_adds amount full place_is.Nowhere r way = none_adds amount full r 0 refl
+    place_adds amount full (place_is.Over sender receiver count) r way = none_adds amount full r (times host ((hosts + links + sender.0) ∷ (hosts + links + receiver.0) ∷ map (λ (link : LinkId). hosts + link.0) way)) none
+      where
+        none : times host ((hosts + links + sender.0) ∷ (hosts + links + receiver.0) ∷ map (λ (link : LinkId). hosts + link.0) way) ≡ 0
         none =
-            sum_by-cons (λ other. cond (other == host) 1 0) (hosts + links + h) ((hosts + links + peer) ∷ map (λ (link : LinkId). hosts + link.0) way)
-            ∙ ap₂ (λ (b : Bool) m. cond b 1 0 + m) (ne_eqb (hosts + links + h) host (λ e. absurd (omega (arith, e, exists))))
-            (sum_by-cons (λ other. cond (other == host) 1 0) (hosts + links + peer) (map (λ (link : LinkId). hosts + link.0) way)
-            ∙ ap₂ (λ (b : Bool) m. cond b 1 0 + m) (ne_eqb (hosts + links + peer) host (λ e. absurd (omega (arith, e, exists)))) (away host hosts way exists))
-    kind_adds amount phase.Exec h peer r way = ap (λ n. n * amount r) (sum_by-cons (λ other. cond (other == host) 1 0) h []) ∙ go (h == host) (amount r)
+            sum_by-cons (λ other. cond (other == host) 1 0) (hosts + links + sender.0) ((hosts + links + receiver.0) ∷ map (λ (link : LinkId). hosts + link.0) way)
+            ∙ ap₂ (λ (b : Bool) m. cond b 1 0 + m) (ne_eqb (hosts + links + sender.0) host (λ e. absurd (omega (arith, e, exists))))
+            (sum_by-cons (λ other. cond (other == host) 1 0) (hosts + links + receiver.0) (map (λ (link : LinkId). hosts + link.0) way)
+            ∙ ap₂ (λ (b : Bool) m. cond b 1 0 + m) (ne_eqb (hosts + links + receiver.0) host (λ e. absurd (omega (arith, e, exists)))) (away host hosts way exists))
+    place_adds amount true (place_is.OnHost h) r way = ap (λ n. n * amount r) (sum_by-cons (λ other. cond (other == host) 1 0) h.0 []) ∙ go (h.0 == host) (amount r)
       where
         go : (b : Bool) (n : ℕ) → (cond b 1 0 + 0) * n ≡ cond b n 0
         go true n = omega arith
         go false n = omega arith
-    kind_adds amount phase.Timer h peer r way = omega arith
-    kind_adds amount phase.Kept h peer r way = omega arith
+    place_adds amount false (place_is.OnHost h) r way = nothing (times host (h.0 ∷ []))
+      where
+        nothing : (n : ℕ) → n * 0 ≡ 0
+        nothing n = omega arith
 
 -- what all cores offer
 bounded_product : (a b : ℕ) → a ≤ 10 ^ 15 → b ≤ 1024 → a * b ≤ 1024 * 10 ^ 15
@@ -199,7 +201,7 @@ module _ (kept : Kept) (sound : IsSound kept) (index : Indexed) (used : IsUsed k
           ap (λ o. times key users * part amount (rate_of o)) at ∙ nothing (times key users) ∙ sym (ap (part (added s sound.are set host amount)) at)
       go key (Some live) at =
           ap₂ (λ n o. n * part amount (rate_of o)) (both key host ∙ ap (times host) (used.rows key ∙ ap (used_by (length kept.hosts.items) (length kept.links.items) (links_at (ways_of kept) key)) at)) at
-          ∙ kind_adds s sound.are set host (length kept.hosts.items) (length kept.links.items) exists amount live.kind live.host live.peer live.rate (links_at (ways_of kept) key)
+          ∙ place_adds s sound.are set host (length kept.hosts.items) (length kept.links.items) exists amount (takes_share live.kind) live.place live.rate (links_at (ways_of kept) key)
           ∙ sym (ap (part (added s sound.are set host amount)) at)
 
   all_sum : (amount : ℕ → ℕ) → sum_by amount (rates_of kept.lives.slots users) ≡ sum_by (part (task_adds s sound.are set host amount)) (under_of s).tasks

@@ -9,6 +9,8 @@ use Rattle.sg_energy.proofs.Metering.{set_is_past, set_power_is_used}
 use Rattle.sg_activity.specs.declared.activity_state.Kept.{Kept}
 use Rattle.sg_activity_table.specs.declared.kinds.PhaseKind.{PhaseKind}
 use Rattle.sg_activity_table.specs.declared.kinds.PhaseKind.TheVariants as phase
+use Rattle.sg_activity_table.specs.declared.kinds.Place.{Place as LivePlace}
+use Rattle.sg_activity_table.specs.declared.kinds.Place.TheVariants as place_is
 use Rattle.sg_activity_table.specs.declared.lives.Live.{Live}
 use Rattle.sg_activity.specs.Doing.{Doing, ended_first, ended_in, later_in, settled_in}
 use Rattle.sg_activity.specs.Laws.{IsHostOf, IsSameHost}
@@ -16,12 +18,11 @@ use Rattle.sg_activity.specs.Links.{Capacities}
 use Rattle.sg_activity.specs.Power.{is_there, loads}
 use Rattle.sg_activity_table.specs.Slots.{listed, passes}
 use Rattle.sg_activity.specs.Task.{Task, next_phase, rekinded}
-use Rattle.sg_activity_table.specs.Kinds.{is_exec, takes_share}
+use Rattle.sg_activity_table.specs.Kinds.{takes_share}
 use Rattle.sg_activity.specs.Underway.{Underway, later, load, next_in, power_at, rate, used_later, with_task, work_of}
-use Rattle.sg_activity.specs.kept.Metered.{AreFirst, AreTold, IsMetered, energies, metered_in, noted}
+use Rattle.sg_activity.specs.kept.Metered.{AreFirst, AreTold, IsMetered, energies, metered_in, noted, IsWithin}
 use Rattle.sg_activity.specs.kept.Sound.{IsKept, IsPlace}
 use Rattle.sg_activity_table.specs.Pool.{slot_at}
-use Rattle.sg_activity.specs.kept.Stamps.{left_at}
 use Rattle.sg_activity.specs.kept.State.{State, links_at, place_of, state_of, task_of, under_of}
 use Rattle.sg_activity.specs.kept.Turns.{Turns}
 use Rattle.sg_activity.proofs.Elsewhere.{same_later, same_task}
@@ -160,59 +161,59 @@ pub metered_kept : (kept new : Kept) (meters : List Metered) (touched : MarkSet)
 metered_kept kept new meters touched was hosts date sound sound' same = metered_still kept new meters touched touched was hosts date refl sound sound' (λ host out. (out, same host))
 
 -- ---- another phase is running
-kind_elsewhere : (host h peer : ℕ) (links : List LinkId) (kind : PhaseKind) → (is_exec kind ≡ true → host ≢ h) → (takes_share kind && is_there host (place_of kind h peer links)) ≡ false
-kind_elsewhere host h peer links phase.Latency ne = refl
-kind_elsewhere host h peer links phase.Flow ne = refl
-kind_elsewhere host h peer links phase.Exec ne = ne_eqb h host (λ e. ne refl (sym e))
-kind_elsewhere host h peer links phase.Timer ne = refl
-kind_elsewhere host h peer links phase.Kept ne = refl
+-- it isn't the host of an execution at this place
+abbrev pub IsElsewhere : ℕ → LivePlace → Type 0
+IsElsewhere host (place_is.OnHost other) = host ≢ other.0
+IsElsewhere host other = Unit {0}
 
--- what follows a phase takes no share of a host
-next_elsewhere : (host left h peer weight bytes : ℕ) (bound : Option ℕ) (links : List LinkId) (kind : PhaseKind) → passes (loads host) (next_phase kind (record { kind = kind; left = left; place = place_of kind h peer links; weight = weight; bound = bound; bytes = bytes })) ≡ false
-next_elsewhere host left h peer weight bytes bound links phase.Latency = refl
-next_elsewhere host left h peer weight bytes bound links phase.Flow = refl
-next_elsewhere host left h peer weight bytes bound links phase.Exec = refl
-next_elsewhere host left h peer weight bytes bound links phase.Timer = refl
-next_elsewhere host left h peer weight bytes bound links phase.Kept = refl
+there_elsewhere : (host : ℕ) (place : LivePlace) (links : List LinkId) → IsElsewhere host place → is_there host (place_of place links) ≡ false
+there_elsewhere host place_is.Nowhere links ne = refl
+there_elsewhere host (place_is.OnHost other) links ne = ne_eqb other.0 host (λ e. ne (sym e))
+there_elsewhere host (place_is.Over sender receiver count) links ne = refl
 
-pub next_not : (s : State) (key : ℕ) (live : Live) (host : ℕ) → passes (loads host) (next_phase live.kind (task_of s key live)) ≡ false
-next_not s key live host = next_elsewhere host (left_at live.kept live.rate live.stamp s.date) live.host live.peer live.weight live.bytes live.bound (links_at s.ways key) live.kind
+loads_elsewhere : (host : ℕ) (full : Bool) (place : LivePlace) (links : List LinkId) → IsElsewhere host place → (full && is_there host (place_of place links)) ≡ false
+loads_elsewhere host true place links ne = there_elsewhere host place links ne
+loads_elsewhere host false place links ne = refl
+
+-- what follows a phase takes no share of another host
+pub next_not : (s : State) (key : ℕ) (live : Live) (host : ℕ) → IsElsewhere host live.place → passes (loads host) (next_phase live.kind (task_of s key live)) ≡ false
+next_not s key live host ne = go live.kind
+  where
+    go : (kind : PhaseKind) → passes (loads host) (next_phase kind (task_of s key live)) ≡ false
+    go phase.Latency = there_elsewhere host live.place (links_at s.ways key) ne
+    go phase.Flow = refl
+    go phase.Exec = refl
+    go phase.Timer = refl
+    go phase.Kept = refl
 
 -- an execution that isn't suspended takes a share of its own host alone
-pub held_not : (s : State) (key : ℕ) (live : Live) (host : ℕ) → live.kind ≡ phase.Kept → host ≢ live.host → passes (loads host) (Some (rekinded phase.Exec (task_of s key live))) ≡ false
-held_not s key live host kind ne = ap (λ k. is_there host (place_of k live.host live.peer (links_at s.ways key))) kind ∙ ne_eqb live.host host (λ e. ne (sym e))
+pub held_not : (s : State) (key : ℕ) (live : Live) (host : ℕ) → IsElsewhere host live.place → passes (loads host) (Some (rekinded phase.Exec (task_of s key live))) ≡ false
+held_not s key live host ne = there_elsewhere host live.place (links_at s.ways key) ne
 
--- the host of what computes, or is held, exists
-pub exec_host : (s : State) (key : ℕ) (live : Live) → IsKept s → slot_at s.slots key ≡ Some live → is_exec live.kind ≡ true → live.host < length s.capacities.hosts
-exec_host s key live is at e = go live.kind e (is.each key live at).placed
+-- the host of an execution exists
+pub within_hosts : (s : State) (key : ℕ) (live : Live) → IsKept s → slot_at s.slots key ≡ Some live → IsWithin (length s.capacities.hosts) live.place
+within_hosts s key live is at = go live.place (links_at s.ways key) (is.each key live at).placed
   where
-    go : (kind : PhaseKind) → is_exec kind ≡ true → IsPlace s.capacities (place_of kind live.host live.peer (links_at s.ways key)) → live.host < length s.capacities.hosts
-    go phase.Latency e placed = absurd (true≢false (sym e))
-    go phase.Flow e placed = absurd (true≢false (sym e))
-    go phase.Exec e placed = placed
-    go phase.Timer e placed = absurd (true≢false (sym e))
-    go phase.Kept e placed = absurd (true≢false (sym e))
-
-pub held_host : (s : State) (key : ℕ) (live : Live) → IsKept s → slot_at s.slots key ≡ Some live → live.kind ≡ phase.Kept → live.host < length s.capacities.hosts
-held_host s key live is at e = subst (λ k. IsPlace s.capacities (place_of k live.host live.peer (links_at s.ways key))) e (is.each key live at).placed
+    go : (place : LivePlace) (links : List LinkId) → IsPlace s.capacities (place_of place links) → IsWithin (length s.capacities.hosts) place
+    go place_is.Nowhere links placed = tt
+    go (place_is.OnHost host) links placed = placed
+    go (place_is.Over sender receiver count) links placed = tt
 
 -- who isn't among those that are touched once the host of an execution is
-pub not_noted : (live : Live) (host : ℕ) (members : List ℕ) → is_in host (noted live members) ≡ false → (is_in host members ≡ false) × (is_exec live.kind ≡ true → host ≢ live.host)
-not_noted live host members out = go (is_exec live.kind) refl out
-  where
-    go : (b : Bool) → is_exec live.kind ≡ b → is_in host (cond b (with_mark live.host members) members) ≡ false → (is_in host members ≡ false) × (is_exec live.kind ≡ true → host ≢ live.host)
-    go true e out = let r = not_marked live.host host members out in (r.0, λ exec. r.1)
-    go false e out = (out, λ exec. absurd (true≢false (sym exec ∙ e)))
+pub not_noted : (place : LivePlace) (host : ℕ) (members : List ℕ) → is_in host (noted place members) ≡ false → (is_in host members ≡ false) × IsElsewhere host place
+not_noted place_is.Nowhere host members out = (out, tt)
+not_noted (place_is.OnHost other) host members out = not_marked other.0 host members out
+not_noted (place_is.Over sender receiver count) host members out = (out, tt)
 
 -- The phase of an activity completes, is suspended or resumed: the hosts that aren't touched stay the same.
 pub metered_turned : (kept new : Kept) (meters : List Metered) (touched more : MarkSet) (key : ℕ) (live : Live) (slot : Option Live) (after : Option Task) → IsMetered kept meters touched → more.room ≡ touched.room → IsKept (state_of kept) → IsKept (state_of new) →
     slot_at kept.lives.slots key ≡ Some live → Turns (state_of kept) (state_of new) key live.serial slot → under_of (state_of new) ≡ with_task live.serial after (under_of (state_of kept)) →
-    ((host : ℕ) → is_in host more.members ≡ false → (is_in host touched.members ≡ false) × ((is_exec live.kind ≡ true → host ≢ live.host) × (passes (loads host) after ≡ false))) → IsMetered new meters more
+    ((host : ℕ) → is_in host more.members ≡ false → (is_in host touched.members ≡ false) × (IsElsewhere host live.place × (passes (loads host) after ≡ false))) → IsMetered new meters more
 metered_turned kept new meters touched more key live slot after was room is is' at turns under not =
     let s = state_of kept in
     metered_still kept new meters touched more was (ap (λ (c : Capacities). length c.hosts) turns.capacities) turns.date room is is' (λ host out.
     let r = not host out in
-    (r.0, subst (λ u. IsSameHost (under_of s) u host) (sym under) (same_task (under_of s) host live.serial after (ap (passes (loads host)) (task_there s is key live at) ∙ kind_elsewhere host live.host live.peer (links_at s.ways key) live.kind r.1.0) r.1.1)))
+    (r.0, subst (λ u. IsSameHost (under_of s) u host) (sym under) (same_task (under_of s) host live.serial after (ap (passes (loads host)) (task_there s is key live at) ∙ loads_elsewhere host (takes_share live.kind) live.place (links_at s.ways key) r.1.0) r.1.1)))
 
 -- ---- time passes
 module _ (kept new : Kept) (meters told : List Metered) (touched : MarkSet) (was : IsMetered kept meters touched) (are : AreTold (under_of (state_of kept)) meters told touched.members) (span : ℕ) (date : new.date ≡ kept.date + span) where

@@ -236,6 +236,7 @@ module _ (s : State) (capacities : Capacities) (resource : ℕ) (runs : List (Op
           weighs = h.weighs;
           paced = h.paced;
           placed = place_moved s.capacities capacities resource moved (place_at s key live) h.placed;
+          fits = h.fits;
           counted = h.counted;
           flow = λ full. flow_held key live at full (h.flow full);
           dated = h.dated;
@@ -271,7 +272,7 @@ module _ (kept mid : Kept) (capacities : Capacities) (resource value : ℕ) (sou
   pub flows_reset : HasFlows mid
   flows_reset = subst HasFlows (sym rest) (record {
     places = λ key live at.
-        subst (λ n. IsPlace (machines mid.hosts.items mid.links.items) (place_of live.kind live.host live.peer (way_in n (row_at kept.index.rows key)))) (sym hosts_long)
+        subst (λ n. IsPlace (machines mid.hosts.items mid.links.items) (place_of live.place (way_in n (row_at kept.index.rows key)))) (sym hosts_long)
         (subst (λ c. IsPlace c (place_at s key live)) (sym caps) (place_moved s.capacities capacities resource moved (place_at s key live) (sound.are.each key live at).placed));
     runs = λ key live at full. subst IsSome (sym (ap (λ (l : Lazily). running_at l.slots live.flow) lazy ∙ ((sound.are.each key live at).flow full).runs)) refl;
     own = λ key live at full. ((sound.are.each key live at).flow full).known;

@@ -17,5 +17,5 @@ pub uses_set : (slots : List (Option Live)) (key : ℕ) (slot : Option Live) →
 uses_set slots key slot within = sum_by-set slot_uses slots key slot None within
 
 -- and so were its uses
-pub uses_counted : (slots : List (Option Live)) (key : ℕ) (live : Live) → key < length slots → slot_at slots key ≡ Some live → uses_ahead live.kind live.links ≤ sum_by slot_uses slots
+pub uses_counted : (slots : List (Option Live)) (key : ℕ) (live : Live) → key < length slots → slot_at slots key ≡ Some live → uses_ahead live.kind live.place ≤ sum_by slot_uses slots
 uses_counted slots key live within at = omega (arith, get_or-le-sum_by slot_uses slots key None within, ap slot_uses at)

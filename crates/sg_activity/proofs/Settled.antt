@@ -148,6 +148,7 @@ module _ (s : State) (lazy new : Lazily) (pool : Pool) (marks more : MarkSet) (k
               weighs = h.weighs;
               paced = λ empty. absurd (true≢false (sym full.0 ∙ empty));
               placed = h.placed;
+              fits = h.fits;
               counted = h.counted;
               flow = λ _.
                   let has = h.flow full.0 in
@@ -174,6 +175,7 @@ module _ (s : State) (lazy new : Lazily) (pool : Pool) (marks more : MarkSet) (k
               weighs = h.weighs;
               paced = h.paced;
               placed = h.placed;
+              fits = h.fits;
               counted = h.counted;
               flow = λ full.
                   let has = h.flow full in

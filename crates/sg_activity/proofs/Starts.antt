@@ -9,9 +9,9 @@ use Rattle.sg_lazy.specs.RunningFlow.{RunningFlow, running_at}
 use Rattle.sg_activity_table.specs.declared.kinds.PhaseKind.TheVariants as phase
 use Rattle.sg_activity_table.specs.declared.lives.Live.{Live}
 use Rattle.sg_activity_table.specs.Kinds.{takes_share, pace}
-use Rattle.sg_activity_table.specs.Pool.{slot_at}
+use Rattle.sg_activity_table.specs.Pool.{links_of, slot_at}
 use Rattle.sg_activity.specs.kept.State.{State, links_at, task_of, asked_by, date_of, dated, due_at, told_at}
-use Rattle.sg_activity.specs.kept.Sound.{IsPlace, IsHeld, IsFlowOf, IsKept, place_at}
+use Rattle.sg_activity.specs.kept.Sound.{IsPlace, IsPlaceOf, IsHeld, IsFlowOf, IsKept, place_at}
 use Rattle.sg_activity.proofs.Listing.{some_same}
 use Rattle.sg_activity.proofs.Lookup.{told_none}
 use Rattle.sg_activity.proofs.Pairing.{set_cases}
@@ -24,8 +24,8 @@ undated fresh key live e = ap (λ b. cond b None (date_of live)) e
 
 -- of an activity that takes no share
 pub held_unfilled : (new : State) (key : ℕ) (live : Live) → takes_share live.kind ≡ false → 0 < live.serial → live.serial ≤ new.drawn → live.stamp ≡ new.date → live.rate ≡ pace live.kind → live.kept ≤ 10 ^ 24 → live.bytes ≤ 10 ^ 15 → IsPriority live.weight →
-    IsPlace new.capacities (place_at new key live) → (live.kind ≡ phase.Latency → length (links_at new.ways key) ≤ live.links) → is_in key new.fresh ≡ true → key_at new.keys key ≡ None → IsHeld new key live
-held_unfilled new key live empty from to stamp rate small bytes weighs placed counted fresh no_key = record {
+    IsPlace new.capacities (place_at new key live) → IsPlaceOf live.kind live.place → (live.kind ≡ phase.Latency → length (links_at new.ways key) ≤ links_of live.place) → is_in key new.fresh ≡ true → key_at new.keys key ≡ None → IsHeld new key live
+held_unfilled new key live empty from to stamp rate small bytes weighs placed fits counted fresh no_key = record {
   from = from;
   to = to;
   stamped = omega (arith, stamp);
@@ -35,6 +35,7 @@ held_unfilled new key live empty from to stamp rate small bytes weighs placed co
   weighs = weighs;
   paced = λ _. rate;
   placed = placed;
+  fits = fits;
   counted = counted;
   flow = λ full. absurd (true≢false (sym full ∙ empty));
   dated = no_key ∙ sym (undated new.fresh key live fresh);
@@ -42,8 +43,8 @@ held_unfilled new key live empty from to stamp rate small bytes weighs placed co
 
 -- of one whose flow begins
 pub held_filled : (new : State) (key : ℕ) (live : Live) → IsTrue (takes_share live.kind) → 0 < live.serial → live.serial ≤ new.drawn → live.stamp ≡ new.date → live.kept ≤ 10 ^ 24 → live.bytes ≤ 10 ^ 15 → IsPriority live.weight →
-    running_at new.runs live.flow ≡ Some (record { flow = asked_by new key live; rate = live.rate; began = true; marked = true }) → HasLimit (asked_by new key live) → IsPlace new.capacities (place_at new key live) → live.flow < length new.by_flow → slice_index new.by_flow live.flow ≡ key → is_in key new.fresh ≡ true → key_at new.keys key ≡ None → IsHeld new key live
-held_filled new key live full from to stamp small bytes weighs runs limit placed within known fresh no_key = record {
+    running_at new.runs live.flow ≡ Some (record { flow = asked_by new key live; rate = live.rate; began = true; marked = true }) → HasLimit (asked_by new key live) → IsPlace new.capacities (place_at new key live) → IsPlaceOf live.kind live.place → live.flow < length new.by_flow → slice_index new.by_flow live.flow ≡ key → is_in key new.fresh ≡ true → key_at new.keys key ≡ None → IsHeld new key live
+held_filled new key live full from to stamp small bytes weighs runs limit placed fits within known fresh no_key = record {
   from = from;
   to = to;
   stamped = omega (arith, stamp);
@@ -53,6 +54,7 @@ held_filled new key live full from to stamp small bytes weighs runs limit placed
   weighs = weighs;
   paced = λ empty. absurd (true≢false (sym full ∙ empty));
   placed = placed;
+  fits = fits;
   counted = λ latency. absurd (true≢false (sym full ∙ ap takes_share latency));
   flow = λ _. record {
     marked = true;

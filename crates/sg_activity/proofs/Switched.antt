@@ -73,6 +73,7 @@ flipped_kept s on is = record {
         weighs = h.weighs;
         paced = h.paced;
         placed = h.placed;
+        fits = h.fits;
         counted = h.counted;
         flow = λ full. let f = h.flow full in record { marked = f.marked; runs = f.runs; limit = f.limit; within = f.within; known = f.known };
         dated = h.dated;

@@ -16,9 +16,9 @@ use Rattle.sg_activity.specs.Task.{Task, flow_in, flow_of, next_phase, rekinded}
 use Rattle.sg_activity_table.specs.Kinds.{takes_share, pace, is_held}
 use Rattle.sg_activity.specs.Underway.{with_task}
 use Rattle.sg_activity.specs.kept.Stamps.{left_at, due_of}
-use Rattle.sg_activity_table.specs.Pool.{slot_at}
+use Rattle.sg_activity_table.specs.Pool.{links_of, slot_at}
 use Rattle.sg_activity.specs.kept.State.{State, links_at, place_of, task_from, task_of, asked_by, told_at, under_of}
-use Rattle.sg_activity.specs.kept.Sound.{IsPlace, IsHeld, IsFlowOf, IsKept, place_at}
+use Rattle.sg_activity.specs.kept.Sound.{IsPlace, IsPlaceOf, IsHeld, IsFlowOf, IsKept, place_at}
 use Rattle.sg_activity_table.specs.Kinds.{flows_ahead}
 use Rattle.sg_activity.specs.kept.Turns.{Turns}
 use Rattle.sg_activity.proofs.Listing.{some_same}
@@ -79,6 +79,7 @@ pub record Begins (s : State) (drawn key : ℕ) (live : Live) (keys : List (Opti
   pub stamp : live.stamp ≡ s.date
   pub small : live.kept ≤ 10 ^ 24
   pub bytes : live.bytes ≤ 10 ^ 15
+  pub fits : IsPlaceOf live.kind live.place
   pub weighs : IsPriority live.weight
   pub unfilled : (old : Live) → slot_at s.slots key ≡ Some old → takes_share old.kind ≡ false
   pub was : (old : Live) → slot_at s.slots key ≡ Some old → old.serial ≡ live.serial
@@ -110,7 +111,7 @@ flow_turns s drawn key live keys is b full rate idle id_in by_in limit placed = 
   flows = λ k other ne at filled. flows_came s key live.flow is run idle k other at filled;
   back = back_came s key live.flow is new run live idle b.unfilled by_in refl refl others here full refl;
   holds = λ l e. subst (IsHeld new key) (some_same e) (held_filled new key live full b.from b.to b.stamp b.small b.bytes b.weighs
-      (set_here s.runs live.flow (Some run) id_in ∙ ap (λ r. Some (record { flow = asked; rate = r; began = true; marked = true })) (sym rate)) limit placed (omega (arith, by_in, length-set s.by_flow live.flow key))
+      (set_here s.runs live.flow (Some run) id_in ∙ ap (λ r. Some (record { flow = asked; rate = r; began = true; marked = true })) (sym rate)) limit placed b.fits (omega (arith, by_in, length-set s.by_flow live.flow key))
       (get_or-set_same s.by_flow live.flow key 0 by_in) (mark_self key s.fresh) b.no_key);
   was = b.was;
   is = λ l e. ap (λ (x : Live). x.serial) (sym (some_same e));
@@ -136,7 +137,7 @@ flow_turns s drawn key live keys is b full rate idle id_in by_in limit placed = 
 
 -- a sleep or a latency begins
 pub time_turns : (s : State) (drawn key : ℕ) (live : Live) (ways : ℕ → List LinkId) → IsKept s → Begins s drawn key live s.keys → slot_at s.slots key ≡ None → takes_share live.kind ≡ false → live.rate ≡ pace live.kind → ((k : ℕ) → k ≢ key → links_at ways k ≡ links_at s.ways k) →
-    IsPlace s.capacities (place_of live.kind live.host live.peer (links_at ways key)) → (live.kind ≡ phase.Latency → length (links_at ways key) ≤ live.links) → Turns s (begun_state s drawn key live ways s.keys s.runs s.by_flow) key live.serial (Some live)
+    IsPlace s.capacities (place_of live.place (links_at ways key)) → (live.kind ≡ phase.Latency → length (links_at ways key) ≤ links_of live.place) → Turns s (begun_state s drawn key live ways s.keys s.runs s.by_flow) key live.serial (Some live)
 time_turns s drawn key live ways is b free empty rate ways_same placed counted = record {
   capacities = refl;
   resources = refl;
@@ -156,7 +157,7 @@ time_turns s drawn key live ways is b free empty rate ways_same placed counted =
   by_flow_long = omega arith;
   flows = λ k other ne at filled. (refl, refl);
   back = λ id r e. back_still s new key id (λ old at. absurd (nothing_there (slot_at s.slots key) free old at)) others refl (is.back id r e);
-  holds = λ l e. subst (IsHeld new key) (some_same e) (held_unfilled new key live empty b.from b.to b.stamp rate b.small b.bytes b.weighs placed counted (mark_self key s.fresh) b.no_key);
+  holds = λ l e. subst (IsHeld new key) (some_same e) (held_unfilled new key live empty b.from b.to b.stamp rate b.small b.bytes b.weighs placed b.fits counted (mark_self key s.fresh) b.no_key);
   was = b.was;
   is = λ l e. ap (λ (x : Live). x.serial) (sym (some_same e));
   stamped = λ l e. ap (λ (x : Live). x.stamp) (sym (some_same e)) ∙ b.stamp;
@@ -254,7 +255,7 @@ pub flow_under : (s : State) (key : ℕ) (old live : Live) (keys : List (Option 
     Turns s (begun_state s s.drawn key live s.ways keys runs by_flow) key live.serial (Some live) → under_of (begun_state s s.drawn key live s.ways keys runs by_flow) ≡ with_task old.serial (next_phase old.kind (task_of s key old)) (under_of s)
 flow_under s key old live keys runs by_flow is at latency live_is by =
     let place : task_from s.date (links_at s.ways key) (record old { kind = phase.Flow; kept = old.bytes * 1000000000; stamp = s.date; rate = 0; flow = live.flow }) ≡ record (task_of s key old) { kind = phase.Flow; left = old.bytes * 1000000000 } =
-    ap₂ (λ n p. record { kind = phase.Flow; left = n; place = p; weight = old.weight; bound = old.bound; bytes = old.bytes }) (left_fresh (old.bytes * 1000000000) 0 s.date) (ap (λ k. place_of k old.host old.peer (links_at s.ways key)) (sym latency)) in
+    ap (λ n. record { kind = phase.Flow; left = n; place = place_of old.place (links_at s.ways key); weight = old.weight; bound = old.bound; bytes = old.bytes }) (left_fresh (old.bytes * 1000000000) 0 s.date) in
     let next : Some (task_from s.date (links_at s.ways key) live) ≡ next_phase old.kind (task_of s key old) = ap Some (ap (task_from s.date (links_at s.ways key)) live_is ∙ place) ∙ sym (latency_next old.kind (task_of s key old) latency) in
     again_under s key old live keys runs by_flow is at (ap takes_share latency) (ap (λ (l : Live). l.serial) live_is) by
     ∙ ap (λ o. with_task old.serial o (under_of s)) next
@@ -272,7 +273,7 @@ pub resumed_under : (s : State) (key : ℕ) (old live : Live) (runs : List (Opti
 resumed_under s key old live runs by_flow is at kept live_is by =
     let stopped : old.rate ≡ 0 = (is.each key old at).paced (ap takes_share kept) ∙ ap pace kept in
     let place : task_from s.date (links_at s.ways key) (record old { kind = phase.Exec; stamp = s.date; rate = 0; flow = live.flow }) ≡ rekinded phase.Exec (task_of s key old) =
-    ap₂ (λ n p. record { kind = phase.Exec; left = n; place = p; weight = old.weight; bound = old.bound; bytes = old.bytes }) (left_fresh old.kept 0 s.date ∙ sym (left_kept old.kept old.rate old.stamp s.date stopped)) (ap (λ k. place_of k old.host old.peer (links_at s.ways key)) (sym kept)) in
+    ap (λ n. record { kind = phase.Exec; left = n; place = place_of old.place (links_at s.ways key); weight = old.weight; bound = old.bound; bytes = old.bytes }) (left_fresh old.kept 0 s.date ∙ sym (left_kept old.kept old.rate old.stamp s.date stopped)) in
     again_under s key old live s.keys runs by_flow is at (ap takes_share kept) (ap (λ (l : Live). l.serial) live_is) by
     ∙ ap (λ t. with_task old.serial (Some t) (under_of s)) (ap (task_from s.date (links_at s.ways key)) live_is ∙ place)
 
@@ -335,7 +336,7 @@ held_under s key old live runs ended is at exec live_is ended_is by =
     let serial : live.serial ≡ old.serial = ap (λ (l : Live). l.serial) live_is in
     let before : told_at (task_of s) s.slots live.serial ≡ Some (task_of s key old) = told_found (task_of s) s.slots live.serial key old is.apart at (sym serial) in
     let place : task_from s.date (links_at s.ways key) (record old { kind = phase.Kept; kept = left_at old.kept old.rate old.stamp s.date; stamp = s.date; rate = 0 }) ≡ rekinded phase.Kept (task_of s key old) =
-    ap₂ (λ n p. record { kind = phase.Kept; left = n; place = p; weight = old.weight; bound = old.bound; bytes = old.bytes }) (left_fresh (left_at old.kept old.rate old.stamp s.date) 0 s.date) (ap (λ k. place_of k old.host old.peer (links_at s.ways key)) (sym exec)) in
+    ap (λ n. record { kind = phase.Kept; left = n; place = place_of old.place (links_at s.ways key); weight = old.weight; bound = old.bound; bytes = old.bytes }) (left_fresh (left_at old.kept old.rate old.stamp s.date) 0 s.date) in
     under_set s new key live.serial (Some live) is by (Some (task_of new key live)) refl (omega (arith, h.from, serial)) (omega (arith, h.to, serial)) (told_here s new key live.serial (Some live) is by (task_of new) live refl)
     (ap (λ o. is_some o || true) before) (changed_here s new key live.serial (Some live) is by live refl (mark_self key s.fresh))
     (ended_is ∙ ap (λ o. s.ended ++ option_to_list (flow_in s.capacities o)) (sym before))
@@ -343,8 +344,8 @@ held_under s key old live runs ended is at exec live_is ended_is by =
 
 -- ---- what begins
 -- the next activity id begins
-pub new_begins : (s : State) (key : ℕ) (live : Live) → IsKept s → key < length s.slots → slot_at s.slots key ≡ None → live.serial ≡ s.drawn + 1 → live.stamp ≡ s.date → live.kept ≤ 10 ^ 24 → live.bytes ≤ 10 ^ 15 → IsPriority live.weight → Begins s (s.drawn + 1) key live s.keys
-new_begins s key live is within free serial stamp small bytes weighs = record {
+pub new_begins : (s : State) (key : ℕ) (live : Live) → IsKept s → key < length s.slots → slot_at s.slots key ≡ None → live.serial ≡ s.drawn + 1 → live.stamp ≡ s.date → live.kept ≤ 10 ^ 24 → live.bytes ≤ 10 ^ 15 → IsPriority live.weight → IsPlaceOf live.kind live.place → Begins s (s.drawn + 1) key live s.keys
+new_begins s key live is within free serial stamp small bytes weighs fits = record {
   key_in = within;
   from = omega (arith, serial);
   to = omega (arith, serial);
@@ -352,6 +353,7 @@ new_begins s key live is within free serial stamp small bytes weighs = record {
   stamp = stamp;
   small = small;
   bytes = bytes;
+  fits = fits;
   weighs = weighs;
   unfilled = λ old at. absurd (nothing_there (slot_at s.slots key) free old at);
   was = λ old at. absurd (nothing_there (slot_at s.slots key) free old at);
@@ -361,9 +363,9 @@ new_begins s key live is within free serial stamp small bytes weighs = record {
 }
 
 -- an activity begins whose id was drawn, and which isn't running
-pub idle_begins : (s : State) (key : ℕ) (live : Live) → IsKept s → key < length s.slots → slot_at s.slots key ≡ None → 0 < live.serial → live.serial ≤ s.drawn → told_at (task_of s) s.slots live.serial ≡ None → live.stamp ≡ s.date → live.kept ≤ 10 ^ 24 → live.bytes ≤ 10 ^ 15 → IsPriority live.weight →
+pub idle_begins : (s : State) (key : ℕ) (live : Live) → IsKept s → key < length s.slots → slot_at s.slots key ≡ None → 0 < live.serial → live.serial ≤ s.drawn → told_at (task_of s) s.slots live.serial ≡ None → live.stamp ≡ s.date → live.kept ≤ 10 ^ 24 → live.bytes ≤ 10 ^ 15 → IsPriority live.weight → IsPlaceOf live.kind live.place →
     Begins s s.drawn key live s.keys
-idle_begins s key live is within free from to idle stamp small bytes weighs = record {
+idle_begins s key live is within free from to idle stamp small bytes weighs fits = record {
   key_in = within;
   from = from;
   to = to;
@@ -371,6 +373,7 @@ idle_begins s key live is within free from to idle stamp small bytes weighs = re
   stamp = stamp;
   small = small;
   bytes = bytes;
+  fits = fits;
   weighs = weighs;
   unfilled = λ old at. absurd (nothing_there (slot_at s.slots key) free old at);
   was = λ old at. absurd (nothing_there (slot_at s.slots key) free old at);
@@ -380,9 +383,9 @@ idle_begins s key live is within free from to idle stamp small bytes weighs = re
 }
 
 -- a flow follows its latency
-pub flow_begins : (s : State) (key : ℕ) (old live : Live) → IsKept s → slot_at s.slots key ≡ Some old → old.kind ≡ phase.Latency → key < length s.slots → key < length s.keys → live.serial ≡ old.serial → live.stamp ≡ s.date → live.kept ≡ old.bytes * 1000000000 → live.bytes ≡ old.bytes → live.weight ≡ old.weight →
+pub flow_begins : (s : State) (key : ℕ) (old live : Live) → IsKept s → slot_at s.slots key ≡ Some old → old.kind ≡ phase.Latency → key < length s.slots → key < length s.keys → live.serial ≡ old.serial → live.stamp ≡ s.date → live.kept ≡ old.bytes * 1000000000 → live.bytes ≡ old.bytes → live.weight ≡ old.weight → IsPlaceOf live.kind live.place →
     Begins s s.drawn key live (set s.keys key None)
-flow_begins s key old live is at latency within keys_in serial stamp kept bytes weight =
+flow_begins s key old live is at latency within keys_in serial stamp kept bytes weight fits =
     let h = is.each key old at in
     record {
       key_in = within;
@@ -392,6 +395,7 @@ flow_begins s key old live is at latency within keys_in serial stamp kept bytes 
       stamp = stamp;
       small = omega (arith, kept, h.few_bytes);
       bytes = omega (arith, bytes, h.few_bytes);
+      fits = fits;
       weighs = subst IsPriority (sym weight) h.weighs;
       unfilled = λ other at'. ap (λ (l : Live). takes_share l.kind) (some_same (sym at' ∙ at)) ∙ ap takes_share latency;
       was = λ other at'. ap (λ (l : Live). l.serial) (some_same (sym at' ∙ at)) ∙ sym serial;
@@ -412,8 +416,8 @@ undated_kept s key live is at held = (is.each key live at).dated ∙ undue (is_i
     undue false kind e = ap key_by e
 
 -- a suspended execution is resumed
-pub resumed_begins : (s : State) (key : ℕ) (old live : Live) → IsKept s → slot_at s.slots key ≡ Some old → old.kind ≡ phase.Kept → key < length s.slots → live.serial ≡ old.serial → live.stamp ≡ s.date → live.kept ≡ old.kept → live.bytes ≡ old.bytes → live.weight ≡ old.weight → Begins s s.drawn key live s.keys
-resumed_begins s key old live is at held within serial stamp kept bytes weight =
+pub resumed_begins : (s : State) (key : ℕ) (old live : Live) → IsKept s → slot_at s.slots key ≡ Some old → old.kind ≡ phase.Kept → key < length s.slots → live.serial ≡ old.serial → live.stamp ≡ s.date → live.kept ≡ old.kept → live.bytes ≡ old.bytes → live.weight ≡ old.weight → IsPlaceOf live.kind live.place → Begins s s.drawn key live s.keys
+resumed_begins s key old live is at held within serial stamp kept bytes weight fits =
     let h = is.each key old at in
     record {
       key_in = within;
@@ -423,6 +427,7 @@ resumed_begins s key old live is at held within serial stamp kept bytes weight =
       stamp = stamp;
       small = omega (arith, kept, h.small);
       bytes = omega (arith, bytes, h.few_bytes);
+      fits = fits;
       weighs = subst IsPriority (sym weight) h.weighs;
       unfilled = λ other at'. ap (λ (l : Live). takes_share l.kind) (some_same (sym at' ∙ at)) ∙ ap takes_share held;
       was = λ other at'. ap (λ (l : Live). l.serial) (some_same (sym at' ∙ at)) ∙ sym serial;

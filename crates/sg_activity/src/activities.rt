@@ -18,7 +18,9 @@ use crate::power::{first_meter, load, note, set_powers};
 use crate::renewal::{renew, restamp};
 use crate::routes::write_things;
 use crate::switches::{is_way_cut, note_hit, set_host_on, set_link_on};
-use sg_activity_table::{HostCap, LinkCap, Live, Lives, Phase, PhaseKind, is_exec, is_held};
+use sg_activity_table::{
+    HostCap, LinkCap, Live, Lives, Phase, PhaseKind, Place, UNBEGUN, is_exec, is_held,
+};
 use sg_base::{LinkId, Marks, Memory, PointId, Serial, Steps};
 use sg_energy::Meter;
 use sg_heap::Agenda;
@@ -111,10 +113,10 @@ impl Activities {
     }
 
     // Does the same, if there isn't that much room yet.
-    fn grow(&mut self, n: usize) -> Result<(), Memory>
-        ensures { MakesRoom n self.old self.new result }
+    fn grow(&mut self, wanted: usize) -> Result<(), Memory>
+        ensures { MakesRoom wanted self.old self.new result }
     {
-        let n = n.max(self.kept.room);
+        let n = wanted.max(self.kept.room);
         let more = n - self.kept.room;
         // each latency that passes is followed by a flow, over the links of its own route
         let Some(flows) = self.kept.flows.checked_add(more) else {
@@ -150,22 +152,19 @@ impl Activities {
     {
         let serial = self.next_serial();
         let off = self.is_host_off(host);
+        let place = Place::OnHost(host);
         let host = host.0 as usize;
         let bound = self.kept.hosts[host].speed;
         let flow = self.kept.lazy.start(&[host], priority, Some(bound));
         let key = self.kept.lives.put(Live {
             serial: serial.0,
             kind: PhaseKind::Exec,
-            links: 0,
+            place,
             kept: u128::from(flops) * 1_000_000_000,
             stamp: self.kept.date,
-            rate: 0,
             weight: priority,
-            bound: None,
-            bytes: 0,
-            host,
-            peer: 0,
             flow,
+            ..UNBEGUN
         });
         self.kept.index.enter(key, &[host]);
         self.kept.by_flow[flow] = key;
@@ -191,16 +190,10 @@ impl Activities {
         let key = self.kept.lives.put(Live {
             serial: serial.0,
             kind: PhaseKind::Timer,
-            links: 0,
             kept: u128::from(ns),
             stamp: self.kept.date,
             rate: 1,
-            weight: 1,
-            bound: None,
-            bytes: 0,
-            host: 0,
-            peer: 0,
-            flow: 0,
+            ..UNBEGUN
         });
         self.kept.fresh.insert(key);
         self.kept.drawn += 1;
@@ -232,28 +225,27 @@ impl Activities {
     {
         let count = links.len();
         let cut = self.is_cut(links, sender, receiver);
-        let sender = sender.0 as usize;
-        let receiver = receiver.0 as usize;
         let key = self.kept.lives.put(Live {
             serial: serial.0,
             kind: PhaseKind::Latency,
-            links: count as u32,
+            place: Place::Over {
+                sender,
+                receiver,
+                links: count as u32,
+            },
             kept: latency,
             stamp: self.kept.date,
             rate: 1,
-            weight: 1,
             bound,
             bytes,
-            host: sender,
-            peer: receiver,
-            flow: 0,
+            ..UNBEGUN
         });
         write_things(
             self.kept.hosts.len(),
             self.kept.links.len(),
             links,
-            sender,
-            receiver,
+            sender.0 as usize,
+            receiver.0 as usize,
             &mut self.kept.things,
         );
         self.kept.index.enter(key, self.kept.things.as_slice());
@@ -325,10 +317,8 @@ impl Activities {
         ensures { MatchOption result (hits self.now.under ≡ [])
             (λ serial. IsHit self.now serial.0) }
     {
-        match self.hits.least() {
-            Some((_, _, serial)) => Some(serial),
-            None => None,
-        }
+        let (_, _, serial) = self.hits.least()?;
+        Some(serial)
     }
 
     /// Gives up the activity of an id.
@@ -385,7 +375,7 @@ impl Activities {
         let Some((key, live)) = self.kept.lives.find(serial) else {
             unreachable!()
         };
-        self.touched.insert(live.host);
+        note(&mut self.touched, &live);
         go_on(&mut self.kept, key, live);
     }
 
@@ -461,10 +451,8 @@ impl Activities {
         ensures { MatchOption result (next_in self.now.under ≡ None)
             (λ date. IsNext self.now date) }
     {
-        match self.kept.agenda.least() {
-            Some((_, date, _)) => Some(date),
-            None => None,
-        }
+        let (_, date, _) = self.kept.agenda.least()?;
+        Some(date)
     }
 
     /// Moves to a date, from now to that of `next_date`, or to any from now on if that is `None`: of each phase as much
@@ -485,13 +473,11 @@ impl Activities {
     pub fn due(&self) -> Option<Phase>
         ensures { MatchOption result (self.now.due ≡ []) (λ phase. IsDue self.now phase) }
     {
-        match first_due(&self.kept) {
-            Some((_, live)) => Some(Phase {
-                serial: Serial(live.serial),
-                kind: live.kind,
-            }),
-            None => None,
-        }
+        let (_, live) = first_due(&self.kept)?;
+        Some(Phase {
+            serial: Serial(live.serial),
+            kind: live.kind,
+        })
     }
 
     /// Ends the phase that `due` returns: after a latency its bytes begin to flow, and else its activity is done.

@@ -13,10 +13,7 @@ fn grow_keys(keys: &mut Vec<usize>, n: usize) -> Result<(), Memory>
     ensures long { OnOk result (n ≤ length keys.new.items) }
 {
     for _id in keys.len()..n {
-        match keys.push(0) {
-            Ok(()) => {}
-            Err(_) => return Err(Memory),
-        }
+        keys.push(0)?;
     }
     Ok(())
 }

@@ -29,10 +29,7 @@ fn add_bandwidths(capacities: &mut Vec<u64>, links: &[LinkCap]) -> Result<(), Me
         ++ map (λ (link : LinkCap). link.bandwidth) links.now) }
 {
     for link in links {
-        match capacities.push(link.bandwidth) {
-            Ok(()) => {}
-            Err(_) => return Err(Memory),
-        }
+        capacities.push(link.bandwidth)?;
     }
     Ok(())
 }
@@ -44,10 +41,7 @@ fn all_on(alloc: Global, n: usize) -> Result<Vec<bool>, Memory>
 {
     let mut on = Vec::new(alloc);
     for _number in 0..n {
-        match on.push(true) {
-            Ok(()) => {}
-            Err(_) => return Err(Memory),
-        }
+        on.push(true)?;
     }
     Ok(on)
 }
@@ -60,10 +54,7 @@ fn capacities(alloc: Global, hosts: &[HostCap], links: &[LinkCap]) -> Result<Vec
 {
     let mut capacities = Vec::new(alloc);
     for host in hosts {
-        match capacities.push(host.speed * u64::from(host.cores)) {
-            Ok(()) => {}
-            Err(_) => return Err(Memory),
-        }
+        capacities.push(host.speed * u64::from(host.cores))?;
     }
     add_bandwidths(&mut capacities, links)?;
     Ok(capacities)

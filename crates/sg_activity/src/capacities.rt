@@ -12,22 +12,20 @@ ghost use Rattle.sg_activity.specs.kept.Whole.{IsUsed};
 
 use crate::activity_state::Kept;
 use crate::routes::{bound_of, tighter, way_of};
-use sg_activity_table::{HostCap, LinkCap, Live, PhaseKind, takes_share};
+use sg_activity_table::{HostCap, LinkCap, Live, Place, takes_share};
 
 // Returns what bounds the activity under a key, as its host or the links of its route are now.
 fn bound_now(kept: &Kept, key: usize, live: &Live) -> Option<u64>
     requires { IsPlacedAt kept.now key live.now }
     ensures { result ≡ (asked_by (state_of kept.now) key live.now).bound }
 {
-    match live.kind {
-        PhaseKind::Exec | PhaseKind::Kept => {
-            tighter(Some(kept.hosts[live.host].speed), live.bound)
-        }
-        PhaseKind::Latency | PhaseKind::Flow => {
+    match live.place {
+        Place::OnHost(host) => tighter(Some(kept.hosts[host.0 as usize].speed), live.bound),
+        Place::Over { .. } => {
             let way = way_of(&kept.index, key, kept.hosts.len());
             tighter(bound_of(&kept.links, way.as_slice()), live.bound)
         }
-        PhaseKind::Timer => live.bound,
+        Place::Nowhere => live.bound,
     }
 }
 

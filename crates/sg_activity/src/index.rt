@@ -1,6 +1,7 @@
 //! Which activities use which hosts and links.
 
 ghost use Rattle.std.specs.Prelude.{◌≡◌, ◌≤◌, ◌<◌, ◌+◌, ℕ, [], All, IfOk, IsSome, None, OnOk, Some, length, max, slice_index_or};
+ghost use Rattle.sg_base.specs.Ledgers.{IsBlankOf};
 ghost use Rattle.sg_maxmin.specs.Chained.{times, users_on};
 ghost use Rattle.sg_maxmin.specs.Walk.{Leads, next_of_flow, next_on, resource_of, user_of};
 ghost use Rattle.sg_activity.specs.kept.Rows.{IsEntered, IsWider, row_at, uses_at};
@@ -61,10 +62,7 @@ fn grow_rows(rows: &mut Vec<Uses>, n: usize) -> Result<(), Memory>
     ensures long { OnOk result (n ≤ length rows.new.items) }
 {
     while rows.len() < n {
-        match rows.push(NO_USES) {
-            Ok(()) => {}
-            Err(_) => return Err(Memory),
-        }
+        rows.push(NO_USES)?;
     }
     Ok(())
 }
@@ -72,9 +70,7 @@ fn grow_rows(rows: &mut Vec<Uses>, n: usize) -> Result<(), Memory>
 // Returns the use under a number of these chains, counted for nobody.
 fn look_from<L: Ledger>(chains: &Chains, i: usize, blank: Blank) -> Use
     requires there { IsSome (slice_index_or chains.now.uses i None) }
-    requires name { blank.name ≡ L.name }
-    requires parts { blank.parts ≡ L.parts }
-    requires some { 0 < blank.parts }
+    requires blank { IsBlankOf L.name L.parts blank }
     ensures { slice_index_or chains.now.uses i None ≡ Some result }
 {
     let mut steps = Steps::<L>::new(blank);

@@ -14,7 +14,7 @@ ghost use Rattle.sg_activity.specs.kept.Asks.{AreKnown, CanEnd, IsHeldAt, IsPhas
 use crate::activity_state::Kept;
 use crate::renewal::left_at;
 use crate::routes::{bound_of, tighter, write_uses, write_way};
-use sg_activity_table::{Live, PhaseKind, flows_ahead, takes_share, uses_ahead};
+use sg_activity_table::{Live, PhaseKind, Place, flows_ahead, takes_share, uses_ahead};
 use sg_heap::Agenda;
 
 /// Returns the activity whose phase completes first, and its key.
@@ -135,8 +135,12 @@ pub(crate) fn go_on(kept: &mut Kept, key: usize, live: Live)
     ensures used { IsUsed kept.old kept.old.index → IsUsed kept.new kept.new.index }
     ensures hit { (hits : List (Option Key)) → AreHit kept.old hits → AreHit kept.new hits }
 {
-    let bound = tighter(Some(kept.hosts[live.host].speed), live.bound);
-    let flow = kept.lazy.start(&[live.host], live.weight, bound);
+    let Place::OnHost(host) = live.place else {
+        unreachable!()
+    };
+    let host = host.0 as usize;
+    let bound = tighter(Some(kept.hosts[host].speed), live.bound);
+    let flow = kept.lazy.start(&[host], live.weight, bound);
     kept.lives.set(
         key,
         Live {

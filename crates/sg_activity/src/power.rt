@@ -6,16 +6,15 @@ ghost use Rattle.sg_maxmin.specs.Chained.{users_on};
 ghost use Rattle.sg_energy.specs.Meter.{meter_of, with_power};
 ghost use Rattle.sg_activity.specs.Hosts.{IsPower, host_at, offer_of};
 ghost use Rattle.sg_activity.specs.Power.{power_by as power_by_spec};
-ghost use Rattle.sg_activity_table.specs.Kinds.{is_exec};
 ghost use Rattle.sg_activity.specs.Underway.{load as load_spec, power_at};
-ghost use Rattle.sg_activity.specs.kept.Metered.{AreFirst, AreTold, IsMetered, noted, rate_of, rates_of, sum_of, total, with_one};
+ghost use Rattle.sg_activity.specs.kept.Metered.{AreFirst, AreTold, IsMetered, IsWithin, noted, rate_of, rates_of, sum_of, total, with_one};
 ghost use Rattle.sg_activity_table.specs.Pool.{slot_at};
 ghost use Rattle.sg_activity.specs.kept.State.{state_of, under_of};
 ghost use Rattle.sg_activity.specs.kept.Whole.{CanTell};
 ghost use Rattle.sg_activity.specs.kept.Asks.{CanMeter, CanTellOf};
 
 use crate::activity_state::Kept;
-use sg_activity_table::{Live, PhaseKind, Power, takes_share};
+use sg_activity_table::{Live, Place, Power, takes_share};
 use sg_base::{Marks, Memory, PointId};
 use sg_energy::Meter;
 use std::alloc::Global;
@@ -131,14 +130,14 @@ pub(crate) fn set_powers(kept: &Kept, meter: &mut Meter, touched: &mut Marks)
     touched.clear();
 }
 
-/// Touches the host of an activity before it ends or is suspended, if it is a running execution.
+/// Touches the host of an execution before it ends, is suspended or resumed.
 pub(crate) fn note(touched: &mut Marks, live: &Live)
-    requires { IsTrue (is_exec live.now.kind) → live.now.host < touched.old.room }
-    ensures { touched.new ≡ record touched.old { members = noted live.now touched.old.members } }
+    requires { IsWithin touched.old.room live.now.place }
+    ensures { touched.new
+        ≡ record touched.old { members = noted live.now.place touched.old.members } }
 {
-    match live.kind {
-        PhaseKind::Exec => touched.insert(live.host),
-        PhaseKind::Latency | PhaseKind::Flow | PhaseKind::Timer | PhaseKind::Kept => {}
+    if let Place::OnHost(host) = live.place {
+        touched.insert(host.0 as usize);
     }
 }
 

@@ -42,10 +42,8 @@ fn spent_at(live: &Live) -> Option<u128>
     requires { IsSmall live.now }
     ensures { result ≡ due_of_spec live.now.stamp live.now.kept live.now.rate }
 {
-    match wait(live.rate, live.kept) {
-        Some(span) => Some(live.stamp + span),
-        None => None,
-    }
+    let span = wait(live.rate, live.kept)?;
+    Some(live.stamp + span)
 }
 
 // Returns when a phase completes.

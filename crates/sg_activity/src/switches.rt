@@ -15,7 +15,7 @@ ghost use Rattle.sg_activity.specs.kept.Asks.{CanLook, IsPlacedAt, IsSwitched};
 
 use crate::activity_state::Kept;
 use crate::routes::way_of;
-use sg_activity_table::{Live, PhaseKind};
+use sg_activity_table::{Live, Place};
 use sg_base::{LinkId, Serial};
 use sg_heap::Agenda;
 
@@ -50,13 +50,17 @@ fn uses_off(kept: &Kept, key: usize, live: &Live) -> bool
     ensures { result ≡ uses_off_spec (state_of kept.now).on
         (place_at (state_of kept.now) key live.now) }
 {
-    match live.kind {
-        PhaseKind::Exec | PhaseKind::Kept => !kept.hosts_on[live.host],
-        PhaseKind::Latency | PhaseKind::Flow => {
+    match live.place {
+        Place::OnHost(host) => !kept.hosts_on[host.0 as usize],
+        Place::Over {
+            sender,
+            receiver,
+            ..
+        } => {
             let way = way_of(&kept.index, key, kept.hosts.len());
-            is_way_cut(kept, way.as_slice(), live.host, live.peer)
+            is_way_cut(kept, way.as_slice(), sender.0 as usize, receiver.0 as usize)
         }
-        PhaseKind::Timer => false,
+        Place::Nowhere => false,
     }
 }
 

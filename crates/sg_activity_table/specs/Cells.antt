@@ -1,5 +1,5 @@
 -- How activities are kept: each in 96 bytes, under a key of a slab.
-use Rattle.std.specs.Prelude.{ℕ, ◌<◌, if◌then◌else◌, Option, None, Some, option_map, List}
+use Rattle.std.specs.Prelude.{ℕ, if◌then◌else◌, Option, None, Some, option_map, List}
 use Rattle.slab.specs.Slab.{Slab, get}
 use Rattle.sg_activity_table.specs.declared.cells.Cell.{Cell}
 use Rattle.sg_activity_table.specs.declared.lives.Live.{Live}
@@ -10,15 +10,13 @@ abbrev pub live_of : Cell → Live
 live_of cell = record {
   serial = cell.serial;
   kind = cell.kind;
-  links = cell.links;
+  place = cell.place;
   kept = cell.kept;
   stamp = cell.stamp;
   rate = cell.rate;
   weight = cell.weight;
   bound = if cell.has_bound then Some cell.bound else None;
   bytes = cell.bytes;
-  host = cell.host;
-  peer = cell.peer;
   flow = cell.flow;
 }
 
@@ -29,8 +27,3 @@ live_at slab key = option_map live_of (get slab key)
 -- and under each of so many keys
 abbrev pub lives_in : ℕ → Slab Cell → List (Option Live)
 lives_in keys slab = listed keys (live_at slab)
-
--- the numbers of its hosts have 32 bits
-pub record HasEnds (live : Live) : Type 0 where
-  pub host : live.host < 4294967296
-  pub peer : live.peer < 4294967296

@@ -1,9 +1,12 @@
 -- What contracts see of `Lives`.
-use Rattle.std.specs.Prelude.{◌≡◌, ◌≢◌, ℕ, ◌+◌, ◌<◌, ◌≤◌, Bool, not, Option, None, Some, is_some, List, count_by, slice_index_or, slice_set}
+use Rattle.std.specs.Prelude.{◌≡◌, ◌≢◌, ℕ, ◌+◌, ◌<◌, ◌≤◌, Bool, not, Option, None, Some, is_some, Result, OnOk, List, count_by, length, slice_index_or, slice_set}
 use Rattle.slab.specs.Slab.{Slab, get, slab_len}
+use Rattle.sg_base.specs.declared.memory.Memory.{Memory}
 use Rattle.sg_activity_table.specs.declared.cells.Cell.{Cell}
 use Rattle.sg_activity_table.specs.declared.kinds.PhaseKind.{PhaseKind}
 use Rattle.sg_activity_table.specs.declared.kinds.PhaseKind.TheVariants as phase
+use Rattle.sg_activity_table.specs.declared.kinds.Place.{Place}
+use Rattle.sg_activity_table.specs.declared.kinds.Place.TheVariants as place
 use Rattle.sg_activity_table.specs.declared.lives.Live.{Live}
 use Rattle.sg_activity_table.specs.Slots.{passes}
 use Rattle.sg_activity_table.specs.Kinds.{is_held}
@@ -26,14 +29,32 @@ SameSlots old new = (key : ℕ) → slot_at new key ≡ slot_at old key
 abbrev pub goes_on : Live → Bool
 goes_on live = not (is_held live.kind)
 
--- how many links a flow uses that begins once a phase of this kind completes, on a route of so many links
-abbrev pub uses_ahead : PhaseKind → ℕ → ℕ
-uses_ahead phase.Latency links = links
-uses_ahead other links = 0
+-- how many links the route of a communication has
+abbrev pub links_of : Place → ℕ
+links_of (place.Over sender receiver links) = links
+links_of other = 0
+
+-- how many links a flow uses that begins once a phase of this kind completes, at this place
+abbrev pub uses_ahead : PhaseKind → Place → ℕ
+uses_ahead phase.Latency place = links_of place
+uses_ahead other place = 0
 
 -- no activity has this id
 abbrev pub IsMissing : List (Option Live) → ℕ → Type 0
 IsMissing slots serial = (k : ℕ) (live : Live) → slot_at slots k ≡ Some live → live.serial ≢ serial
+
+-- there is room for an activity of this id, and none has it
+pub record CanPut (serial : ℕ) (pool : Pool) : Type 0 where
+  pub room : 0 < pool.room
+  pub apart : IsMissing pool.slots serial
+
+-- There is room for so many more, unless memory was lacking. The same activities are there, and the room doesn't shrink.
+pub record MakesRoom (n : ℕ) (old new : Pool) (result : Result Unit Memory) : Type 0 where
+  pub same : SameSlots old.slots new.slots
+  pub longer : length old.slots ≤ length new.slots
+  pub few : length new.slots ≤ length old.slots + n
+  pub grows : old.room ≤ new.room
+  pub room : OnOk result (n ≤ new.room)
 
 -- the activity under the key has this id
 pub record IsFound (slots : List (Option Live)) (serial key : ℕ) (live : Live) : Type 0 where

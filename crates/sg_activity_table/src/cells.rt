@@ -1,8 +1,8 @@
 //! What is kept of an activity, in 96 bytes.
 ghost use Rattle.std.specs.Prelude.{◌≡◌, None, Some, if◌then◌else◌};
-ghost use Rattle.sg_activity_table.specs.Cells.{HasEnds, live_of as live_of_spec};
+ghost use Rattle.sg_activity_table.specs.Cells.{live_of as live_of_spec};
 
-use crate::kinds::PhaseKind;
+use crate::kinds::{PhaseKind, Place};
 use crate::lives::Live;
 
 /// An activity as it is kept.
@@ -15,9 +15,7 @@ pub(crate) struct Cell {
     bound: u64,
     bytes: u64,
     flow: usize,
-    host: u32,
-    peer: u32,
-    links: u32,
+    place: Place,
     weight: u32,
     kind: PhaseKind,
     has_bound: bool,
@@ -32,28 +30,24 @@ fn bound_if(has: bool, bound: u64) -> Option<u64>
 
 /// Returns the activity that is kept so.
 pub(crate) fn live_of(cell: &Cell) -> Live
-    ensures is { result ≡ live_of_spec cell.now }
-    ensures ends { HasEnds result }
+    ensures { result ≡ live_of_spec cell.now }
 {
     Live {
         serial: cell.serial,
         kind: cell.kind,
-        links: cell.links,
+        place: cell.place,
         kept: cell.kept,
         stamp: cell.stamp,
         rate: cell.rate,
         weight: cell.weight,
         bound: bound_if(cell.has_bound, cell.bound),
         bytes: cell.bytes,
-        host: cell.host as usize,
-        peer: cell.peer as usize,
         flow: cell.flow,
     }
 }
 
 /// Returns this activity, as it is kept.
 pub(crate) fn cell_of(live: Live) -> Cell
-    requires { HasEnds live }
     ensures { live_of_spec result ≡ live }
 {
     Cell {
@@ -64,9 +58,7 @@ pub(crate) fn cell_of(live: Live) -> Cell
         bound: live.bound.unwrap_or(0),
         bytes: live.bytes,
         flow: live.flow,
-        host: live.host as u32,
-        peer: live.peer as u32,
-        links: live.links,
+        place: live.place,
         weight: live.weight,
         kind: live.kind,
         has_bound: live.bound.is_some(),

@@ -1,5 +1,5 @@
 //! What activities are made of.
-use sg_base::Serial;
+use sg_base::{PointId, Serial};
 
 /// What an activity does in one of its phases.
 #[derive(Clone, Copy)]
@@ -14,6 +14,21 @@ pub enum PhaseKind {
     Timer,
     /// Its execution is suspended: it keeps its remaining work, and gets nothing until it is resumed.
     Kept,
+}
+
+/// The place of a phase.
+#[derive(Clone, Copy)]
+pub enum Place {
+    /// A sleep uses no resource.
+    Nowhere,
+    /// An execution is on its host.
+    OnHost(PointId),
+    /// A communication is over a route of so many links, from the host of its sender to that of its receiver.
+    Over {
+        sender: PointId,
+        receiver: PointId,
+        links: u32,
+    },
 }
 
 /// A phase that completes.

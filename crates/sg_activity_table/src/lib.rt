@@ -8,5 +8,5 @@ mod cells;
 mod kinds;
 mod lives;
 
-pub use kinds::{HostCap, LinkCap, Phase, PhaseKind, Power};
-pub use lives::{Live, Lives, flows_ahead, is_exec, is_held, takes_share, uses_ahead};
+pub use kinds::{HostCap, LinkCap, Phase, PhaseKind, Place, Power};
+pub use lives::{Live, Lives, UNBEGUN, flows_ahead, is_exec, is_held, takes_share, uses_ahead};

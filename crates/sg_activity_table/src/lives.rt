@@ -1,15 +1,14 @@
 //! The running activities, by key.
 
-ghost use Rattle.std.specs.Prelude.{◌≡◌, ◌<◌, ◌≤◌, ◌+◌, ◌-◌, ◌==◌, None, Some, IfSome, IsSome, MatchOption, OnOk, [], if◌then◌else◌, not, count_by, length, slice_set};
+ghost use Rattle.std.specs.Prelude.{◌≡◌, ◌<◌, ◌+◌, ◌-◌, ◌==◌, None, Some, IfSome, IsSome, MatchOption, [], if◌then◌else◌, not, count_by, length, slice_set};
 ghost use Rattle.slab.specs.Slab.{get, slab_len, Updates};
 ghost use Rattle.sg_activity_table.specs.Slots.{passes};
 ghost use Rattle.sg_activity_table.specs.Kinds.{is_exec as is_exec_spec, is_held as is_held_spec, takes_share as takes_share_spec};
-ghost use Rattle.sg_activity_table.specs.Cells.{HasEnds};
-ghost use Rattle.sg_activity_table.specs.Pool.{HasFree, IsFound, IsMissing, IsSet, SameSlots, goes_on, slot_at, uses_ahead as uses_ahead_spec};
+ghost use Rattle.sg_activity_table.specs.Pool.{CanPut, HasFree, IsFound, IsMissing, IsSet, MakesRoom, goes_on, slot_at, uses_ahead as uses_ahead_spec};
 ghost use Rattle.sg_activity_table.specs.Kinds.{flows_ahead as flows_ahead_spec};
 
 use crate::cells::{Cell, cell_of, live_of};
-use crate::kinds::PhaseKind;
+use crate::kinds::{PhaseKind, Place};
 use sg_base::{Memory, Serial};
 use sg_queues::BySerial;
 use slab::Slab;
@@ -21,8 +20,7 @@ use std::marker::Model;
 pub struct Live {
     pub serial: u64,
     pub kind: PhaseKind,
-    /// How many links the route of a communication has.
-    pub links: u32,
+    pub place: Place,
     /// What was left of its phase at the stamp.
     pub kept: u128,
     /// A date.
@@ -35,13 +33,23 @@ pub struct Live {
     pub bound: Option<u64>,
     /// The bytes of a communication.
     pub bytes: u64,
-    /// The host of an execution, or that of the sender of a communication.
-    pub host: usize,
-    /// The host of the receiver of a communication.
-    pub peer: usize,
-    /// The number of a flow or an execution among the flows.
+    /// The number of its flow, if its phase takes a share.
     pub flow: usize,
 }
+
+/// What is to be filled in of an activity that begins: it weighs 1, and has no bound, no bytes and no flow.
+pub const UNBEGUN: Live = Live {
+    serial: 0,
+    kind: PhaseKind::Timer,
+    place: Place::Nowhere,
+    kept: 0,
+    stamp: 0,
+    rate: 0,
+    weight: 1,
+    bound: None,
+    bytes: 0,
+    flow: 0,
+};
 
 /// Returns whether phases of this kind take shares of resources.
 pub fn takes_share(kind: PhaseKind) -> bool
@@ -65,11 +73,11 @@ pub fn flows_ahead(kind: PhaseKind) -> usize
 
 /// Returns how many uses the flow takes that begins once the phase of this activity completes.
 pub fn uses_ahead(live: &Live) -> usize
-    ensures { result ≡ uses_ahead_spec live.now.kind live.now.links }
+    ensures { result ≡ uses_ahead_spec live.now.kind live.now.place }
 {
-    match live.kind {
-        PhaseKind::Latency => live.links as usize,
-        PhaseKind::Flow | PhaseKind::Exec | PhaseKind::Timer | PhaseKind::Kept => 0,
+    match (live.kind, live.place) {
+        (PhaseKind::Latency, Place::Over { links, .. }) => links as usize,
+        _ => 0,
     }
 }
 
@@ -190,10 +198,8 @@ impl Lives {
         requires { key < length self.now.slots }
         ensures { result ≡ slot_at self.now.slots key }
     {
-        match self.slab.get(key) {
-            Some(cell) => Some(live_of(cell)),
-            None => None,
-        }
+        let cell = self.slab.get(key)?;
+        Some(live_of(cell))
     }
 
     /// Returns the activity of an id, and its key.
@@ -201,9 +207,7 @@ impl Lives {
         ensures { MatchOption result (IsMissing self.now.slots serial.0)
             (λ found. IsFound self.now.slots serial.0 found.0 found.1) }
     {
-        let Some(key) = self.by_serial.get(serial.0) else {
-            return None;
-        };
+        let key = self.by_serial.get(serial.0)?;
         let Some(cell) = self.slab.get(key) else {
             unreachable!()
         };
@@ -212,9 +216,7 @@ impl Lives {
 
     /// Puts an activity under a free key, and returns the key. No other has its id.
     pub fn put(&mut self, live: Live) -> usize
-        requires room { 0 < self.old.room }
-        requires apart { IsMissing self.old.slots live.serial }
-        requires ends { HasEnds live }
+        requires { CanPut live.serial self.old }
         ensures free { slot_at self.old.slots result ≡ None }
         ensures in_range { result < length self.old.slots }
         ensures slots { self.new.slots ≡ slice_set self.old.slots result (Some live) }
@@ -227,12 +229,10 @@ impl Lives {
         key
     }
 
-    /// Puts an activity of the same id, on the same hosts, in place of the one under a key.
+    /// Puts an activity of the same id in place of the one under a key.
     pub fn set(&mut self, key: usize, live: Live)
         requires there { IsSome (slot_at self.old.slots key) }
         requires same { IfSome (slot_at self.old.slots key) (λ old. old.serial ≡ live.serial) }
-        requires host { IfSome (slot_at self.old.slots key) (λ old. old.host ≡ live.host) }
-        requires peer { IfSome (slot_at self.old.slots key) (λ old. old.peer ≡ live.peer) }
         ensures { IsSet self.old self.new key (Some live) }
     {
         let Some(cell) = self.slab.get_mut(key) else {
@@ -255,11 +255,7 @@ impl Lives {
 
     /// Makes room for so many more.
     pub fn reserve(&mut self, n: usize) -> Result<(), Memory>
-        ensures same { SameSlots self.old.slots self.new.slots }
-        ensures longer { length self.old.slots ≤ length self.new.slots }
-        ensures few { length self.new.slots ≤ length self.old.slots + n }
-        ensures grows { self.old.room ≤ self.new.room }
-        ensures room { OnOk result (n ≤ self.new.room) }
+        ensures { MakesRoom n self.old self.new result }
     {
         self.slab.reserve(n)?;
         self.by_serial.reserve(n)?;

@@ -15,7 +15,7 @@ use Rattle.sg_activity.specs.kept.Sound.{IsPlace, IsSound, place_at}
 abbrev pub hit_in : Switches → List LinkId → Option Live → Option Key
 hit_in on links None = None
 hit_in on links (Some live) =
-    if uses_off on (place_of live.kind live.host live.peer links)
+    if uses_off on (place_of live.place links)
     then Some (record { date = 0; serial = live.serial })
     else None
 

@@ -21,13 +21,13 @@ used_at hosts links (over way) =
 abbrev pub used_by : ℕ → ℕ → List LinkId → Option Live → List ℕ
 used_by hosts links path None = []
 used_by hosts links path (Some live) =
-    used_at hosts links (place_of live.kind live.host live.peer path)
+    used_at hosts links (place_of live.place path)
 
 -- what the activity under a key uses
 abbrev pub used_in : Kept → ℕ → Live → List ℕ
 used_in kept key live =
     used_at (length kept.hosts.items) (length kept.links.items)
-    (place_of live.kind live.host live.peer (links_at (ways_of kept) key))
+    (place_of live.place (links_at (ways_of kept) key))
 
 -- The row of each key is what its activity uses, from its start to its end; there is room for so many starts.
 pub record IsIndexed (capacities : Capacities) (slots : List (Option Live)) (ways : ℕ → List LinkId) (room : ℕ) (index : Indexed) : Type 0 where

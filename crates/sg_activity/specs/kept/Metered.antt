@@ -3,9 +3,11 @@ use Rattle.std.specs.Prelude.{◌≡◌, ℕ, ◌+◌, ◌<◌, ◌≤◌, ◌^�
 use Rattle.sg_base.specs.MarkSet.{MarkSet, is_in, with_mark}
 use Rattle.sg_energy.specs.Meter.{Metered, energy_at, first_meter, meter_of}
 use Rattle.sg_activity.specs.declared.activity_state.Kept.{Kept}
+use Rattle.sg_activity_table.specs.declared.kinds.Place.{Place as LivePlace}
+use Rattle.sg_activity_table.specs.declared.kinds.Place.TheVariants as place_is
 use Rattle.sg_activity_table.specs.declared.lives.Live.{Live}
 use Rattle.sg_activity.specs.Doing.{Doing}
-use Rattle.sg_activity_table.specs.Kinds.{is_exec, takes_share}
+use Rattle.sg_activity_table.specs.Kinds.{takes_share}
 use Rattle.sg_activity.specs.Underway.{Underway, power_at}
 use Rattle.sg_activity_table.specs.Pool.{slot_at}
 use Rattle.sg_activity.specs.kept.State.{state_of, under_of}
@@ -33,9 +35,15 @@ pub record AreFirst (hosts : ℕ) (meters : List Metered) (touched : MarkSet) : 
   pub room : touched.room ≡ hosts
   pub all : (host : ℕ) → host < hosts → IsTrue (is_in host touched.members)
 
+-- an execution is on one of so many hosts
+abbrev pub IsWithin : ℕ → LivePlace → Type 0
+IsWithin hosts (place_is.OnHost host) = host.0 < hosts
+IsWithin hosts other = Unit {0}
+
 -- the touched hosts, and the host of an execution too
-abbrev pub noted : Live → List ℕ → List ℕ
-noted live touched = if is_exec live.kind then with_mark live.host touched else touched
+abbrev pub noted : LivePlace → List ℕ → List ℕ
+noted (place_is.OnHost host) touched = with_mark host.0 touched
+noted other touched = touched
 
 -- These hosts have their power at this date, and nobody used more or less until then.
 pub record AreTold (under : Underway) (old new : List Metered) (hosts : List ℕ) : Type 0 where

@@ -8,12 +8,15 @@ use Rattle.sg_maxmin.specs.Fill.{share_of}
 use Rattle.sg_maxmin.specs.Sharing.{HasLimit}
 use Rattle.sg_lazy.specs.RunningFlow.{RunningFlow, running_at, flows_in}
 use Rattle.sg_activity.specs.declared.activity_state.Kept.{Kept}
+use Rattle.sg_activity_table.specs.declared.kinds.PhaseKind.{PhaseKind}
 use Rattle.sg_activity_table.specs.declared.kinds.PhaseKind.TheVariants as phase
+use Rattle.sg_activity_table.specs.declared.kinds.Place.{Place as LivePlace}
+use Rattle.sg_activity_table.specs.declared.kinds.Place.TheVariants as place_is
 use Rattle.sg_activity_table.specs.declared.lives.Live.{Live}
 use Rattle.sg_activity.specs.Links.{Capacities, capacities_of}
 use Rattle.sg_activity.specs.Task.{Place, Way, nowhere, on_host, over}
 use Rattle.sg_activity_table.specs.Kinds.{flows_ahead, takes_share, pace}
-use Rattle.sg_activity_table.specs.Pool.{slot_at, uses_ahead}
+use Rattle.sg_activity_table.specs.Pool.{links_of, slot_at, uses_ahead}
 use Rattle.sg_activity.specs.kept.State.{State, state_of, links_at, place_of, asked_by, dated, due_at}
 
 -- all different links that exist, one at least and 64 at most; links are counted in 32 bits
@@ -38,7 +41,25 @@ IsPlace capacities (over way) = IsPath capacities way
 
 -- the place of the activity under a key
 abbrev pub place_at : State → ℕ → Live → Place
-place_at s key live = place_of live.kind live.host live.peer (links_at s.ways key)
+place_at s key live = place_of live.place (links_at s.ways key)
+
+-- it is the place of an execution
+abbrev pub IsOnHost : LivePlace → Type 0
+IsOnHost (place_is.OnHost host) = Unit {0}
+IsOnHost other = ⊥
+
+-- it is the place of a communication
+abbrev pub IsOver : LivePlace → Type 0
+IsOver (place_is.Over sender receiver count) = Unit {0}
+IsOver other = ⊥
+
+-- executions are on hosts, and latencies and flows over routes
+abbrev pub IsPlaceOf : PhaseKind → LivePlace → Type 0
+IsPlaceOf phase.Latency place = IsOver place
+IsPlaceOf phase.Flow place = IsOver place
+IsPlaceOf phase.Exec place = IsOnHost place
+IsPlaceOf phase.Timer place = Unit {0}
+IsPlaceOf phase.Kept place = IsOnHost place
 
 -- the flow of an activity as it runs, which is marked if it began, or otherwise
 abbrev pub run_of : State → ℕ → Live → Bool → RunningFlow
@@ -68,7 +89,8 @@ pub record IsHeld (s : State) (key : ℕ) (live : Live) : Type 0 where
   pub weighs : IsPriority live.weight
   pub paced : takes_share live.kind ≡ false → live.rate ≡ pace live.kind
   pub placed : IsPlace s.capacities (place_at s key live)
-  pub counted : live.kind ≡ phase.Latency → length (links_at s.ways key) ≤ live.links
+  pub fits : IsPlaceOf live.kind live.place
+  pub counted : live.kind ≡ phase.Latency → length (links_at s.ways key) ≤ links_of live.place
   pub flow : IsTrue (takes_share live.kind) → HasFlow s key live
   pub dated : key_at s.keys key ≡ dated s.fresh key live
 
@@ -102,7 +124,7 @@ slot_ahead (Some live) = flows_ahead live.kind
 
 abbrev pub slot_uses : Option Live → ℕ
 slot_uses None = 0
-slot_uses (Some live) = uses_ahead live.kind live.links
+slot_uses (Some live) = uses_ahead live.kind live.place
 
 -- There is room for the starts that were asked for, whose routes may have 64 links, and for the flows that follow latencies, over their links.
 pub record HasRoom (kept : Kept) : Type 0 where

@@ -6,8 +6,8 @@ use Rattle.sg_heap.specs.Agenda.{Key, key_at}
 use Rattle.sg_maxmin.specs.Fill.{Flow}
 use Rattle.sg_lazy.specs.RunningFlow.{RunningFlow, running_at}
 use Rattle.sg_activity.specs.declared.activity_state.Kept.{Kept}
-use Rattle.sg_activity_table.specs.declared.kinds.PhaseKind.{PhaseKind}
-use Rattle.sg_activity_table.specs.declared.kinds.PhaseKind.TheVariants as phase
+use Rattle.sg_activity_table.specs.declared.kinds.Place.{Place as LivePlace}
+use Rattle.sg_activity_table.specs.declared.kinds.Place.TheVariants as place_is
 use Rattle.sg_activity_table.specs.declared.lives.Live.{Live}
 use Rattle.sg_activity.specs.Doing.{Doing}
 use Rattle.sg_activity.specs.Links.{Capacities, Switches, machines}
@@ -65,22 +65,19 @@ state_of kept = record {
 abbrev pub links_at : (ℕ → List LinkId) → ℕ → List LinkId
 links_at ways key = ways key
 
--- the place of a phase: an execution on its host, a latency and a flow on these links from the host to its peer
-abbrev pub place_of : PhaseKind → ℕ → ℕ → List LinkId → Place
-place_of phase.Latency host peer links =
-    over (record { links = links; sender = host; receiver = peer })
-place_of phase.Flow host peer links =
-    over (record { links = links; sender = host; receiver = peer })
-place_of phase.Exec host peer links = on_host host
-place_of phase.Timer host peer links = nowhere
-place_of phase.Kept host peer links = on_host host
+-- the place of a phase, as it is kept without the links of its route, over these links
+abbrev pub place_of : LivePlace → List LinkId → Place
+place_of place_is.Nowhere links = nowhere
+place_of (place_is.OnHost host) links = on_host host.0
+place_of (place_is.Over sender receiver count) links =
+    over (record { links = links; sender = sender.0; receiver = receiver.0 })
 
 -- the phase of an activity at a date, over these links
 abbrev pub task_from : ℕ → List LinkId → Live → Task
 task_from date links live = record {
   kind = live.kind;
   left = left_at live.kept live.rate live.stamp date;
-  place = place_of live.kind live.host live.peer links;
+  place = place_of live.place links;
   weight = live.weight;
   bound = live.bound;
   bytes = live.bytes;

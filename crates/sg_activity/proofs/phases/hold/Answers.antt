@@ -8,10 +8,9 @@ use Rattle.sg_activity_table.specs.declared.lives.Live.{Live}
 use Rattle.sg_activity.specs.Task.{flow_in}
 use Rattle.sg_activity_table.specs.Kinds.{flows_ahead, takes_share}
 use Rattle.sg_activity_table.specs.Pool.{uses_ahead}
-use Rattle.sg_activity.specs.kept.Hits.{hit_in}
-use Rattle.sg_activity.specs.kept.Sound.{IsHeld, IsKept, IsPlace, run_of, slot_ahead, slot_uses}
+use Rattle.sg_activity.specs.kept.Sound.{IsHeld, IsKept, IsPlaceOf, run_of, slot_ahead, slot_uses}
 use Rattle.sg_activity.specs.kept.Stamps.{left_at}
-use Rattle.sg_activity.specs.kept.State.{State, links_at, place_of, state_of, task_of, under_of}
+use Rattle.sg_activity.specs.kept.State.{State, links_at, state_of, task_of, under_of}
 use Rattle.sg_activity.specs.kept.Turns.{Turns}
 use Rattle.sg_activity.proofs.Pairing.{there_within}
 use Rattle.sg_activity.proofs.Roomy.{ahead_set, uses_set}
@@ -53,8 +52,8 @@ returns-clause-ends c =
     let keys_in : key < length s.keys = omega (arith, within, sound.room.agenda_long) in
     let more = s.ended ++ option_to_list (flow_in s.capacities (Some (task_of s key old))) in
     let new : State = held_state s key live (set s.runs old.flow None) more in
-    let placed : IsPlace s.capacities (place_of phase.Kept old.host old.peer (links_at s.ways key)) = subst (λ k. IsPlace s.capacities (place_of k old.host old.peer (links_at s.ways key))) c.requires.kind h.placed in
-    let held : IsHeld new key live = held_unfilled new key live refl h.from h.to refl refl (omega (arith, h.small)) h.few_bytes h.weighs placed (λ e. absurd (cc e)) (mark_self key s.fresh) (set_here s.keys key None keys_in) in
+    let fits : IsPlaceOf phase.Exec old.place = subst (λ k. IsPlaceOf k old.place) c.requires.kind h.fits in
+    let held : IsHeld new key live = held_unfilled new key live refl h.from h.to refl refl (omega (arith, h.small)) h.few_bytes h.weighs h.placed fits (λ e. absurd (cc e)) (mark_self key s.fresh) (set_here s.keys key None keys_in) in
     let turns : Turns s new key live.serial (Some live) = held_turns s key old live more sound.are c.requires.there.at full within keys_in refl refl refl held in
     let state_is = state_same s s.drawn false c.set.new.self.slots (set s.slots key (Some live)) s.ways s.ways c.clear.new.self (set s.keys key None) c.end.new.self.slots (set s.runs old.flow None) s.by_flow s.by_flow c.insert.new.self.members (with_mark key s.fresh) c.end.new.self.ended more c.end.new.self.resources s.resources
     lives refl c.clear.ensures runs refl (ap (λ (m : MarkSet). m.members) c.insert.ensures) ended (ap (λ (l : Lazily). l.resources) is) in
@@ -71,7 +70,7 @@ returns-clause-ends c =
           early = sound.room.early;
           flows = omega (arith, sound.room.flows, ap flows_ahead c.requires.kind, ahead_set s.slots key (Some live) within, ap slot_ahead c.requires.there.at, ap (sum_by slot_ahead) lives);
           flow_room = omega (arith, sound.room.flow_room, ap (λ (l : Lazily). l.flow_room) is);
-          uses = omega (arith, sound.room.uses, ap (λ k. uses_ahead k old.links) c.requires.kind, uses_set s.slots key (Some live) within, ap slot_uses c.requires.there.at, ap (sum_by slot_uses) lives);
+          uses = omega (arith, sound.room.uses, ap (λ k. uses_ahead k old.place) c.requires.kind, uses_set s.slots key (Some live) within, ap slot_uses c.requires.there.at, ap (sum_by slot_uses) lives);
           use_room = omega (arith, sound.room.use_room, ap (λ (l : Lazily). l.use_room) is);
           keys_free = omega (arith, sound.room.keys_free, c.set.ensures.room);
           rows_long = omega (arith, sound.room.rows_long, ap length lives, length-set s.slots key (Some live));
@@ -91,4 +90,4 @@ returns-clause-hit c hits is =
     let path = links_at s.ways c.args.key in
     let live : Live = record old { kind = phase.Kept; kept = c.left_at.result; stamp = kept.date; rate = 0 } in
     hits_swapped s.slots c.set.new.self.slots c.args.key old live c.requires.there.at c.set.ensures.slots s.on s.ways hits is
-    (sym (ap (λ k. hit_in s.on path (Some (record old { kind = k }))) c.requires.kind))
+    refl

@@ -100,9 +100,6 @@ returns-clause-known c =
       }
     ]
 
-pub clear-requires : goal.clear-requires
-clear-requires c = omega (arith, there_within c.args.kept.now.lives.slots c.args.key c.args.live c.requires.there.at, c.requires.hit.long)
-
 pub overflow_sub-kept : goal.overflow_sub-kept
 overflow_sub-kept c =
     let kept = c.args.kept.now in
@@ -115,7 +112,7 @@ overflow_sub-kept c =
 pub overflow_sub-kept-2 : goal.overflow_sub-kept-2
 overflow_sub-kept-2 c =
     let kept = c.args.kept.now in
-    let counted : uses_ahead c.args.live.kind c.args.live.links ≤ kept.uses = omega (arith, c.requires.there.sound.room.uses, uses_counted kept.lives.slots c.args.key c.args.live (there_within kept.lives.slots c.args.key c.args.live c.requires.there.at) c.requires.there.at) in
+    let counted : uses_ahead c.args.live.kind c.args.live.place ≤ kept.uses = omega (arith, c.requires.there.sound.room.uses, uses_counted kept.lives.slots c.args.key c.args.live (there_within kept.lives.slots c.args.key c.args.live c.requires.there.at) c.requires.there.at) in
     elim c.if-takes_share.branch [
       | then-takes_share w ↦ omega (arith, c.uses_ahead.ensures, counted, ap (λ (k : Kept). k.uses) w.kept-is)
       | else-takes_share w ↦ omega (arith, c.uses_ahead.ensures, counted, ap (λ (k : Kept). k.uses) w.kept-is)

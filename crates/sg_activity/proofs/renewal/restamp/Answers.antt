@@ -98,9 +98,3 @@ returns c =
       fresh = subst (λ l. (k : ℕ) → is_in k c.loop-id.fresh.members ≡ (is_in k c.args.fresh.now.members || is_renewed l (slot_at c.args.lives.now.slots k))) all inv.fresh;
       fresh_room = inv.fresh_room;
     }
-
-pub set-requires-clause-host : goal.set-requires-clause-host
-set-requires-clause-host c = subst (λ o. IfSome o (λ (l : Live). l.host ≡ c.at_rate.result.host)) (sym (sym c.get.ensures ∙ c.in-Some.is)) (sym (ap (λ (l : Live). l.host) c.at_rate.ensures))
-
-pub set-requires-clause-peer : goal.set-requires-clause-peer
-set-requires-clause-peer c = subst (λ o. IfSome o (λ (l : Live). l.peer ≡ c.at_rate.result.peer)) (sym (sym c.get.ensures ∙ c.in-Some.is)) (sym (ap (λ (l : Live). l.peer) c.at_rate.ensures))

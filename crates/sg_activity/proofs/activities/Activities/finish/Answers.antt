@@ -1,4 +1,4 @@
-use Rattle.std.proofs.Common.{◌≡◌, [], Some, refl, length, arith, sym, ap, subst, ◌∙◌}
+use Rattle.std.proofs.Common.{◌≡◌, [], Some, refl, length, sym, ap, subst, ◌∙◌}
 use Rattle.std.proofs.Common.{All}
 use Rattle.sg_activity.specs.Hosts.{IsHost}
 use Rattle.sg_activity.specs.Links.{Capacities}
@@ -6,9 +6,9 @@ use Rattle.sg_activity.specs.Doing.{Doing, ended_in}
 use Rattle.sg_activity.specs.kept.State.{State, state_of, doing_of}
 use Rattle.sg_activity.proofs.Switched.{switches_alike}
 use Rattle.sg_activity.proofs.Due.{none_due_told, ended_told}
-use Rattle.sg_activity.specs.kept.Metered.{IsMetered, energies, metered_in, noted}
+use Rattle.sg_activity.specs.kept.Metered.{IsMetered, energies, metered_in, noted, IsWithin}
 use Rattle.sg_activity_table.specs.Pool.{slot_at}
-use Rattle.sg_activity.proofs.Metering.{exec_host, metered_ended, metered_turned, next_not, not_noted}
+use Rattle.sg_activity.proofs.Metering.{metered_ended, metered_turned, next_not, not_noted, within_hosts}
 use Rattle.sg_activity.specs.Task.{next_phase}
 use Rattle.sg_activity.specs.kept.State.{task_of}
 use Rattle.sg_activity.proofs.activities.Activities.finish.Goals as goal
@@ -26,7 +26,7 @@ end_phase-requires c = record {
 }
 
 pub note-requires : goal.note-requires
-note-requires c = λ exec. omega (arith, exec_host (state_of c.self.inside.kept) c.in-Some.key c.in-Some.live c.self.invariant.sound.are c.in-Some.ensures.at exec, c.self.invariant.metered.room)
+note-requires c = subst (λ n. IsWithin n c.in-Some.live.place) (sym c.self.invariant.metered.room) (within_hosts (state_of c.self.inside.kept) c.in-Some.key c.in-Some.live c.self.invariant.sound.are c.in-Some.ensures.at)
 
 pub invariant_of-self : goal.invariant_of-self
 invariant_of-self c =
@@ -43,8 +43,8 @@ invariant_of-self c =
       switches = switches_alike (state_of c.self.inside.kept) (state_of c.end_phase.new.kept) ends.turns.on (ap (λ (d : Capacities). length d.hosts) ends.turns.capacities) (ap (λ (d : Capacities). length d.links) ends.turns.capacities) c.self.invariant.switches;
       hit = c.end_phase.ensures.known.hit;
       metered = subst (IsMetered c.end_phase.new.kept c.self.inside.meter) (sym c.note.ensures)
-          (metered_turned kept c.end_phase.new.kept c.self.inside.meter c.self.inside.touched (record c.self.inside.touched { members = noted live c.self.inside.touched.members }) key live ends.slot (next_phase live.kind (task_of s key live)) c.self.invariant.metered refl c.self.invariant.sound.are ends.sound.are at ends.turns ends.under
-          (λ host out. let r = not_noted live host c.self.inside.touched.members out in (r.0, (r.1, next_not s key live host))));
+          (metered_turned kept c.end_phase.new.kept c.self.inside.meter c.self.inside.touched (record c.self.inside.touched { members = noted live.place c.self.inside.touched.members }) key live ends.slot (next_phase live.kind (task_of s key live)) c.self.invariant.metered refl c.self.invariant.sound.are ends.sound.are at ends.turns ends.under
+          (λ host out. let r = not_noted live.place host c.self.inside.touched.members out in (r.0, (r.1, next_not s key live host r.1))));
     }
 
 pub returns : goal.returns

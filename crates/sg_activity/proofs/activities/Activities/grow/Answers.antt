@@ -21,7 +21,7 @@ invariant_of-self c =
       hosts = is.hosts;
       used = is.used;
       switches = is.switches;
-      hit = subst (AreHit c.self.inside.kept) (sym c.in_err-reserve.ensures.memory) is.hit;
+      hit = subst (AreHit c.self.inside.kept) (sym c.in_err-reserve.ensures.room) is.hit;
       metered = is.metered;
     }
 

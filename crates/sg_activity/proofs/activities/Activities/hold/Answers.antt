@@ -1,4 +1,4 @@
-use Rattle.std.proofs.Common.{◌≡◌, All, Some, refl, arith, length, true≢false, sym, ap, subst, ◌∙◌}
+use Rattle.std.proofs.Common.{◌≡◌, All, Some, refl, length, true≢false, sym, ap, subst, ◌∙◌}
 use Rattle.sg_activity_table.specs.declared.kinds.PhaseKind.TheVariants as phase
 use Rattle.sg_activity.specs.Hosts.{IsHost}
 use Rattle.sg_activity.specs.Links.{Capacities}
@@ -8,9 +8,9 @@ use Rattle.sg_activity.specs.Underway.{is_computing}
 use Rattle.sg_activity.specs.kept.State.{State, state_of, doing_of}
 use Rattle.sg_activity.proofs.Holding.{exec_is, kind_found, kind_missed, held_told}
 use Rattle.sg_activity.proofs.Switched.{switches_alike}
-use Rattle.sg_activity.specs.kept.Metered.{IsMetered, energies, metered_in, noted}
+use Rattle.sg_activity.specs.kept.Metered.{IsMetered, energies, metered_in, noted, IsWithin}
 use Rattle.sg_activity_table.specs.Pool.{slot_at}
-use Rattle.sg_activity.proofs.Metering.{exec_host, metered_turned, not_noted}
+use Rattle.sg_activity.proofs.Metering.{metered_turned, not_noted, within_hosts}
 use Rattle.sg_activity.specs.Task.{rekinded}
 use Rattle.sg_activity.specs.kept.State.{task_of}
 use Rattle.sg_activity.proofs.activities.Activities.hold.Goals as goal
@@ -29,7 +29,7 @@ hold-requires c =
     }
 
 pub note-requires : goal.note-requires
-note-requires c = λ exec. omega (arith, exec_host (state_of c.self.inside.kept) c.in-Some.key c.in-Some.live c.self.invariant.sound.are c.in-Some.ensures.at exec, c.self.invariant.metered.room)
+note-requires c = subst (λ n. IsWithin n c.in-Some.live.place) (sym c.self.invariant.metered.room) (within_hosts (state_of c.self.inside.kept) c.in-Some.key c.in-Some.live c.self.invariant.sound.are c.in-Some.ensures.at)
 
 pub invariant_of-self : goal.invariant_of-self
 invariant_of-self c =
@@ -46,8 +46,8 @@ invariant_of-self c =
       switches = switches_alike (state_of kept) (state_of c.hold.new.kept) ends.turns.on (ap (λ (d : Capacities). length d.hosts) ends.turns.capacities) (ap (λ (d : Capacities). length d.links) ends.turns.capacities) c.self.invariant.switches;
       hit = c.hold.ensures.hit c.self.inside.hits c.self.invariant.hit;
       metered = subst (IsMetered c.hold.new.kept c.self.inside.meter) (sym c.note.ensures)
-          (metered_turned kept c.hold.new.kept c.self.inside.meter c.self.inside.touched (record c.self.inside.touched { members = noted live c.self.inside.touched.members }) key live ends.slot (Some (rekinded phase.Kept (task_of s key live))) c.self.invariant.metered refl c.self.invariant.sound.are ends.sound.are at ends.turns ends.under
-          (λ host out. let r = not_noted live host c.self.inside.touched.members out in (r.0, (r.1, refl))));
+          (metered_turned kept c.hold.new.kept c.self.inside.meter c.self.inside.touched (record c.self.inside.touched { members = noted live.place c.self.inside.touched.members }) key live ends.slot (Some (rekinded phase.Kept (task_of s key live))) c.self.invariant.metered refl c.self.invariant.sound.are ends.sound.are at ends.turns ends.under
+          (λ host out. let r = not_noted live.place host c.self.inside.touched.members out in (r.0, (r.1, refl))));
     }
 
 pub returns : goal.returns

@@ -2,6 +2,7 @@ use Rattle.std.proofs.Common.{◌≡◌, ◌+◌, ◌-◌, ◌<◌, ◌≤◌, �
 use Rattle.sg_base.specs.MarkSet.{MarkSet, with_mark}
 use Rattle.sg_base.specs.declared.ids.LinkId.{LinkId}
 use Rattle.sg_activity_table.specs.declared.kinds.PhaseKind.TheVariants as phase
+use Rattle.sg_activity_table.specs.declared.kinds.Place.TheVariants as place_is
 use Rattle.sg_activity_table.specs.declared.lives.Live.{Live}
 use Rattle.sg_activity.specs.Task.{Way, comm_of, is_cut, over, task_at}
 use Rattle.sg_activity.specs.Doing.{Doing, IsTransfer, begun_in, way_of}
@@ -78,11 +79,14 @@ enter-requires-clause-room c =
 pub note_hit-requires : goal.note_hit-requires
 note_hit-requires c = omega (arith, c.put-key.ensures.in_range, c.self.invariant.hit.long)
 
-pub put-key-requires-clause-apart : goal.put-key-requires-clause-apart
-put-key-requires-clause-apart c =
+pub put-key-requires : goal.put-key-requires
+put-key-requires c =
     let s : State = state_of c.self.inside.kept in
     let drawn : length c.args.self.now.under.tasks ≡ s.drawn = sym (ap (λ (d : Doing). length d.under.tasks) c.self.view_is) ∙ length-listed s.drawn (λ i. told_at (task_of s) s.slots (i + 1)) in
-    idle_serial s c.args.serial.0 c.self.invariant.sound.are (sym (task_told s c.args.serial.0 c.requires.serial.from (omega (arith, c.requires.serial.to, drawn))) ∙ ap (λ (d : Doing). task_at d.under.tasks c.args.serial.0) c.self.view_is ∙ c.requires.serial.idle)
+    record {
+      room = omega (arith, c.self.invariant.sound.room.keys_free, ap (λ (d : Doing). d.room) c.self.view_is, c.requires.serial.room);
+      apart = idle_serial s c.args.serial.0 c.self.invariant.sound.are (sym (task_told s c.args.serial.0 c.requires.serial.from (omega (arith, c.requires.serial.to, drawn))) ∙ ap (λ (d : Doing). task_at d.under.tasks c.args.serial.0) c.self.view_is ∙ c.requires.serial.idle);
+    }
 
 pub invariant_of-self : goal.invariant_of-self
 invariant_of-self c =
@@ -90,7 +94,7 @@ invariant_of-self c =
     let s : State = state_of kept in
     let is = c.self.invariant.sound in
     let key = c.put-key.result in
-    let live : Live = record { serial = c.args.serial.0; kind = phase.Latency; links = length c.args.links.now; kept = c.args.latency; stamp = kept.date; rate = 1; weight = 1; bound = c.args.bound; bytes = c.args.bytes; host = c.args.sender.0; peer = c.args.receiver.0; flow = 0 } in
+    let live : Live = record { serial = c.args.serial.0; kind = phase.Latency; place = place_is.Over c.args.sender c.args.receiver (length c.args.links.now); kept = c.args.latency; stamp = kept.date; rate = 1; weight = 1; bound = c.args.bound; bytes = c.args.bytes; flow = 0 } in
     let drawn : length c.args.self.now.under.tasks ≡ s.drawn = sym (ap (λ (d : Doing). length d.under.tasks) c.self.view_is) ∙ length-listed s.drawn (λ i. told_at (task_of s) s.slots (i + 1)) in
     let free = c.put-key.ensures.free in
     let within = c.put-key.ensures.in_range in
@@ -105,7 +109,7 @@ invariant_of-self c =
     let way : IsPath s.capacities (record { links = links_at ways key; sender = c.args.sender.0; receiver = c.args.receiver.0 }) = subst (λ l. IsPath s.capacities (record { links = l; sender = c.args.sender.0; receiver = c.args.receiver.0 })) (sym here)
     (record { links = record { some = may.some; apart = may.apart; exist = may.exist; few = may.few; small = c.self.invariant.switches.1.1.1 }; sender = may.sender; receiver = may.receiver }) in
     let new : State = begun_state s s.drawn key live ways s.keys s.runs s.by_flow in
-    let turns : Turns s new key live.serial (Some live) = time_turns s s.drawn key live ways is.are (idle_begins s key live is.are within free c.requires.serial.from to idle refl small may.bytes (omega arith, omega arith)) free refl refl (λ k ne. ap (way_in (length kept.hosts.items)) (c.enter.ensures.row.others k ne)) way (λ _. omega (arith, ap length here)) in
+    let turns : Turns s new key live.serial (Some live) = time_turns s s.drawn key live ways is.are (idle_begins s key live is.are within free c.requires.serial.from to idle refl small may.bytes (omega arith, omega arith) tt) free refl refl (λ k ne. ap (way_in (length kept.hosts.items)) (c.enter.ensures.row.others k ne)) way (λ _. omega (arith, ap length here)) in
     let state_is = state_same s s.drawn false c.put-key.new.self.slots (set s.slots key (Some live)) ways ways s.keys s.keys s.runs s.runs s.by_flow s.by_flow c.insert.new.self.members (with_mark key s.fresh) s.ended s.ended s.resources s.resources
     c.put-key.ensures.slots refl refl refl refl (ap (λ (m : MarkSet). m.members) c.insert.ensures) refl refl in
     let room = ap (λ (d : Doing). d.room) c.self.view_is in
@@ -155,7 +159,7 @@ returns c =
     let s : State = state_of kept in
     let is = c.self.invariant.sound in
     let key = c.put-key.result in
-    let live : Live = record { serial = c.args.serial.0; kind = phase.Latency; links = length c.args.links.now; kept = c.args.latency; stamp = kept.date; rate = 1; weight = 1; bound = c.args.bound; bytes = c.args.bytes; host = c.args.sender.0; peer = c.args.receiver.0; flow = 0 } in
+    let live : Live = record { serial = c.args.serial.0; kind = phase.Latency; place = place_is.Over c.args.sender c.args.receiver (length c.args.links.now); kept = c.args.latency; stamp = kept.date; rate = 1; weight = 1; bound = c.args.bound; bytes = c.args.bytes; flow = 0 } in
     let drawn : length c.args.self.now.under.tasks ≡ s.drawn = sym (ap (λ (d : Doing). length d.under.tasks) c.self.view_is) ∙ length-listed s.drawn (λ i. told_at (task_of s) s.slots (i + 1)) in
     let free = c.put-key.ensures.free in
     let within = c.put-key.ensures.in_range in
@@ -170,7 +174,7 @@ returns c =
     let way : IsPath s.capacities (record { links = links_at ways key; sender = c.args.sender.0; receiver = c.args.receiver.0 }) = subst (λ l. IsPath s.capacities (record { links = l; sender = c.args.sender.0; receiver = c.args.receiver.0 })) (sym here)
     (record { links = record { some = may.some; apart = may.apart; exist = may.exist; few = may.few; small = c.self.invariant.switches.1.1.1 }; sender = may.sender; receiver = may.receiver }) in
     let new : State = begun_state s s.drawn key live ways s.keys s.runs s.by_flow in
-    let turns : Turns s new key live.serial (Some live) = time_turns s s.drawn key live ways is.are (idle_begins s key live is.are within free c.requires.serial.from to idle refl small may.bytes (omega arith, omega arith)) free refl refl (λ k ne. ap (way_in (length kept.hosts.items)) (c.enter.ensures.row.others k ne)) way (λ _. omega (arith, ap length here)) in
+    let turns : Turns s new key live.serial (Some live) = time_turns s s.drawn key live ways is.are (idle_begins s key live is.are within free c.requires.serial.from to idle refl small may.bytes (omega arith, omega arith) tt) free refl refl (λ k ne. ap (way_in (length kept.hosts.items)) (c.enter.ensures.row.others k ne)) way (λ _. omega (arith, ap length here)) in
     let state_is = state_same s s.drawn false c.put-key.new.self.slots (set s.slots key (Some live)) ways ways s.keys s.keys s.runs s.runs s.by_flow s.by_flow c.insert.new.self.members (with_mark key s.fresh) s.ended s.ended s.resources s.resources
     c.put-key.ensures.slots refl refl refl refl (ap (λ (m : MarkSet). m.members) c.insert.ensures) refl refl in
     let told =

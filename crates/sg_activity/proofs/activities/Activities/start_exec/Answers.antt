@@ -1,6 +1,7 @@
 use Rattle.std.proofs.Common.{◌≡◌, ◌+◌, ◌-◌, ◌*◌, ◌<◌, ◌≤◌, ◌^◌, true, false, None, Some, [], ◌∷◌, length, length-set, set, sum_by, sym, ap, subst, ◌∙◌, refl, arith}
 use Rattle.sg_base.specs.MarkSet.{MarkSet, with_mark}
 use Rattle.sg_activity_table.specs.declared.kinds.PhaseKind.TheVariants as phase
+use Rattle.sg_activity_table.specs.declared.kinds.Place.TheVariants as place_is
 use Rattle.sg_activity_table.specs.declared.lives.Live.{Live}
 use Rattle.sg_activity_table.specs.declared.kinds.HostCap.{HostCap}
 use Rattle.sg_activity.specs.Hosts.{host_at}
@@ -55,11 +56,14 @@ enter-requires-clause-room c = omega (arith, c.self.invariant.used.uses_free, ap
 pub note_hit-requires : goal.note_hit-requires
 note_hit-requires c = omega (arith, c.put-key.ensures.in_range, c.self.invariant.hit.long)
 
-pub put-key-requires-clause-apart : goal.put-key-requires-clause-apart
-put-key-requires-clause-apart c =
+pub put-key-requires : goal.put-key-requires
+put-key-requires c =
     let s : State = state_of c.self.inside.kept in
     let drawn : length c.args.self.now.under.tasks ≡ s.drawn = sym (ap (λ (d : Doing). length d.under.tasks) c.self.view_is) ∙ length-listed s.drawn (λ i. told_at (task_of s) s.slots (i + 1)) in
-    fresh_serial s c.next_serial-serial.result.0 c.self.invariant.sound.are (omega (arith, c.next_serial-serial.ensures, drawn))
+    record {
+      room = omega (arith, c.self.invariant.sound.room.keys_free, ap (λ (d : Doing). d.room) c.self.view_is, c.requires.start.room);
+      apart = fresh_serial s c.next_serial-serial.result.0 c.self.invariant.sound.are (omega (arith, c.next_serial-serial.ensures, drawn));
+    }
 
 pub invariant_of-self : goal.invariant_of-self
 invariant_of-self c =
@@ -67,7 +71,7 @@ invariant_of-self c =
     let s : State = state_of kept in
     let is = c.self.invariant.sound in
     let key = c.put-key.result in
-    let live : Live = record { serial = c.next_serial-serial.result.0; kind = phase.Exec; links = 0; kept = c.from.result * 1000000000; stamp = kept.date; rate = 0; weight = c.args.priority; bound = None; bytes = 0; host = c.args.host.0; peer = 0; flow = c.start-flow.result } in
+    let live : Live = record { serial = c.next_serial-serial.result.0; kind = phase.Exec; place = place_is.OnHost c.args.host; kept = c.from.result * 1000000000; stamp = kept.date; rate = 0; weight = c.args.priority; bound = None; bytes = 0; flow = c.start-flow.result } in
     let id = c.start-flow.result in
     let asked : Flow = flow (c.args.host.0 ∷ []) c.args.priority (Some (host_at kept.hosts.items c.args.host.0).speed) in
     let run : RunningFlow = record { flow = asked; rate = 0; began = true; marked = true } in
@@ -84,7 +88,7 @@ invariant_of-self c =
     let ways = ways_of (record kept { index = c.enter.new.self }) in
     let ways_are : ways ≡ s.ways = ways_same (length kept.hosts.items) key c.args.host.0 kept.index.rows c.enter.new.self.rows c.enter.ensures.row (row_idle s.capacities s.slots s.ways kept.room kept.index c.self.invariant.used key free) in
     let new : State = begun_state s (s.drawn + 1) key live s.ways s.keys (set s.runs id (Some run)) (set s.by_flow id key) in
-    let turns : Turns s new key live.serial (Some live) = flow_turns s (s.drawn + 1) key live s.keys is.are (new_begins s key live is.are within free serial refl small (omega arith) c.requires.priority) refl refl c.start-flow.ensures.free c.start-flow.ensures.in_range by_in (record { weighs = c.requires.priority.0; bounds = λ _. refl }) there in
+    let turns : Turns s new key live.serial (Some live) = flow_turns s (s.drawn + 1) key live s.keys is.are (new_begins s key live is.are within free serial refl small (omega arith) c.requires.priority tt) refl refl c.start-flow.ensures.free c.start-flow.ensures.in_range by_in (record { weighs = c.requires.priority.0; bounds = λ _. refl }) there in
     let state_is = state_same s (s.drawn + 1) false c.put-key.new.self.slots (set s.slots key (Some live)) ways s.ways s.keys s.keys c.start-flow.new.self.slots (set s.runs id (Some run)) (set s.by_flow id key) (set s.by_flow id key) c.insert.new.self.members (with_mark key s.fresh) c.start-flow.new.self.ended s.ended c.start-flow.new.self.resources s.resources
     c.put-key.ensures.slots ways_are refl runs refl (ap (λ (m : MarkSet). m.members) c.insert.ensures) (ap (λ (l : Lazily). l.ended) c.start-flow.ensures.starts) (ap (λ (l : Lazily). l.resources) c.start-flow.ensures.starts) in
     let are = subst IsKept (sym state_is) (turned s new key live.serial (Some live) is.are turns) in
@@ -129,7 +133,7 @@ returns-clause-starts c =
     let s : State = state_of kept in
     let is = c.self.invariant.sound in
     let key = c.put-key.result in
-    let live : Live = record { serial = c.next_serial-serial.result.0; kind = phase.Exec; links = 0; kept = c.from.result * 1000000000; stamp = kept.date; rate = 0; weight = c.args.priority; bound = None; bytes = 0; host = c.args.host.0; peer = 0; flow = c.start-flow.result } in
+    let live : Live = record { serial = c.next_serial-serial.result.0; kind = phase.Exec; place = place_is.OnHost c.args.host; kept = c.from.result * 1000000000; stamp = kept.date; rate = 0; weight = c.args.priority; bound = None; bytes = 0; flow = c.start-flow.result } in
     let id = c.start-flow.result in
     let asked : Flow = flow (c.args.host.0 ∷ []) c.args.priority (Some (host_at kept.hosts.items c.args.host.0).speed) in
     let run : RunningFlow = record { flow = asked; rate = 0; began = true; marked = true } in
@@ -145,7 +149,7 @@ returns-clause-starts c =
     let ways = ways_of (record kept { index = c.enter.new.self }) in
     let ways_are : ways ≡ s.ways = ways_same (length kept.hosts.items) key c.args.host.0 kept.index.rows c.enter.new.self.rows c.enter.ensures.row (row_idle s.capacities s.slots s.ways kept.room kept.index c.self.invariant.used key free) in
     let new : State = begun_state s (s.drawn + 1) key live s.ways s.keys (set s.runs id (Some run)) (set s.by_flow id key) in
-    let turns : Turns s new key live.serial (Some live) = flow_turns s (s.drawn + 1) key live s.keys is.are (new_begins s key live is.are within free serial refl small (omega arith) c.requires.priority) refl refl c.start-flow.ensures.free c.start-flow.ensures.in_range by_in (record { weighs = c.requires.priority.0; bounds = λ _. refl }) there in
+    let turns : Turns s new key live.serial (Some live) = flow_turns s (s.drawn + 1) key live s.keys is.are (new_begins s key live is.are within free serial refl small (omega arith) c.requires.priority tt) refl refl c.start-flow.ensures.free c.start-flow.ensures.in_range by_in (record { weighs = c.requires.priority.0; bounds = λ _. refl }) there in
     let state_is = state_same s (s.drawn + 1) false c.put-key.new.self.slots (set s.slots key (Some live)) ways s.ways s.keys s.keys c.start-flow.new.self.slots (set s.runs id (Some run)) (set s.by_flow id key) (set s.by_flow id key) c.insert.new.self.members (with_mark key s.fresh) c.start-flow.new.self.ended s.ended c.start-flow.new.self.resources s.resources
     c.put-key.ensures.slots ways_are refl runs refl (ap (λ (m : MarkSet). m.members) c.insert.ensures) (ap (λ (l : Lazily). l.ended) c.start-flow.ensures.starts) (ap (λ (l : Lazily). l.resources) c.start-flow.ensures.starts) in
     let told =

@@ -1,6 +1,7 @@
 use Rattle.std.proofs.Common.{◌≡◌, ◌+◌, ◌-◌, ◌≤◌, ◌^◌, false, None, Some, length, length-set, set, sum_by, sym, ap, subst, ◌∙◌, refl, arith}
 use Rattle.sg_base.specs.MarkSet.{MarkSet, with_mark}
 use Rattle.sg_activity_table.specs.declared.kinds.PhaseKind.TheVariants as phase
+use Rattle.sg_activity_table.specs.declared.kinds.Place.TheVariants as place_is
 use Rattle.sg_activity_table.specs.declared.lives.Live.{Live}
 use Rattle.sg_activity.specs.Task.{timer_of, nowhere}
 use Rattle.sg_activity.specs.Doing.{Doing, started_in}
@@ -26,11 +27,14 @@ use Rattle.sg_activity.proofs.Elsewhere.{same_started}
 use Rattle.sg_activity.proofs.Metering.{metered_kept}
 use Rattle.sg_activity.proofs.activities.Activities.start_timer.Goals as goal
 
-pub put-key-requires-clause-apart : goal.put-key-requires-clause-apart
-put-key-requires-clause-apart c =
+pub put-key-requires : goal.put-key-requires
+put-key-requires c =
     let s : State = state_of c.self.inside.kept in
     let drawn : length c.args.self.now.under.tasks ≡ s.drawn = sym (ap (λ (d : Doing). length d.under.tasks) c.self.view_is) ∙ length-listed s.drawn (λ i. told_at (task_of s) s.slots (i + 1)) in
-    fresh_serial s c.next_serial-serial.result.0 c.self.invariant.sound.are (omega (arith, c.next_serial-serial.ensures, drawn))
+    record {
+      room = omega (arith, c.self.invariant.sound.room.keys_free, ap (λ (d : Doing). d.room) c.self.view_is, c.requires.start.room);
+      apart = fresh_serial s c.next_serial-serial.result.0 c.self.invariant.sound.are (omega (arith, c.next_serial-serial.ensures, drawn));
+    }
 
 pub invariant_of-self : goal.invariant_of-self
 invariant_of-self c =
@@ -38,7 +42,7 @@ invariant_of-self c =
     let s : State = state_of kept in
     let is = c.self.invariant.sound in
     let key = c.put-key.result in
-    let live : Live = record { serial = c.next_serial-serial.result.0; kind = phase.Timer; links = 0; kept = c.from.result; stamp = kept.date; rate = 1; weight = 1; bound = None; bytes = 0; host = 0; peer = 0; flow = 0 } in
+    let live : Live = record { serial = c.next_serial-serial.result.0; kind = phase.Timer; place = place_is.Nowhere; kept = c.from.result; stamp = kept.date; rate = 1; weight = 1; bound = None; bytes = 0; flow = 0 } in
     let room = ap (λ (d : Doing). d.room) c.self.view_is in
     let drawn : length c.args.self.now.under.tasks ≡ s.drawn = sym (ap (λ (d : Doing). length d.under.tasks) c.self.view_is) ∙ length-listed s.drawn (λ i. told_at (task_of s) s.slots (i + 1)) in
     let free = c.put-key.ensures.free in
@@ -46,7 +50,7 @@ invariant_of-self c =
     let serial : live.serial ≡ s.drawn + 1 = omega (arith, c.next_serial-serial.ensures, drawn) in
     let small : live.kept ≤ 10 ^ 24 = omega (arith, c.from.ensures, c.requires.ns) in
     let new : State = begun_state s (s.drawn + 1) key live s.ways s.keys s.runs s.by_flow in
-    let turns : Turns s new key live.serial (Some live) = time_turns s (s.drawn + 1) key live s.ways is.are (new_begins s key live is.are within free serial refl small (omega arith) (omega arith, omega arith)) free refl refl (λ k ne. refl) tt (λ e. absurd (cc e)) in
+    let turns : Turns s new key live.serial (Some live) = time_turns s (s.drawn + 1) key live s.ways is.are (new_begins s key live is.are within free serial refl small (omega arith) (omega arith, omega arith) tt) free refl refl (λ k ne. refl) tt (λ e. absurd (cc e)) in
     let state_is = state_same s (s.drawn + 1) false c.put-key.new.self.slots (set s.slots key (Some live)) s.ways s.ways s.keys s.keys s.runs s.runs s.by_flow s.by_flow c.insert.new.self.members (with_mark key s.fresh) s.ended s.ended s.resources s.resources
     c.put-key.ensures.slots refl refl refl refl (ap (λ (m : MarkSet). m.members) c.insert.ensures) refl refl in
     let are = subst IsKept (sym state_is) (turned s new key live.serial (Some live) is.are turns) in
@@ -92,14 +96,14 @@ returns-clause-starts c =
     let s : State = state_of kept in
     let is = c.self.invariant.sound in
     let key = c.put-key.result in
-    let live : Live = record { serial = c.next_serial-serial.result.0; kind = phase.Timer; links = 0; kept = c.from.result; stamp = kept.date; rate = 1; weight = 1; bound = None; bytes = 0; host = 0; peer = 0; flow = 0 } in
+    let live : Live = record { serial = c.next_serial-serial.result.0; kind = phase.Timer; place = place_is.Nowhere; kept = c.from.result; stamp = kept.date; rate = 1; weight = 1; bound = None; bytes = 0; flow = 0 } in
     let drawn : length c.args.self.now.under.tasks ≡ s.drawn = sym (ap (λ (d : Doing). length d.under.tasks) c.self.view_is) ∙ length-listed s.drawn (λ i. told_at (task_of s) s.slots (i + 1)) in
     let free = c.put-key.ensures.free in
     let within = c.put-key.ensures.in_range in
     let serial : live.serial ≡ s.drawn + 1 = omega (arith, c.next_serial-serial.ensures, drawn) in
     let small : live.kept ≤ 10 ^ 24 = omega (arith, c.from.ensures, c.requires.ns) in
     let new : State = begun_state s (s.drawn + 1) key live s.ways s.keys s.runs s.by_flow in
-    let turns : Turns s new key live.serial (Some live) = time_turns s (s.drawn + 1) key live s.ways is.are (new_begins s key live is.are within free serial refl small (omega arith) (omega arith, omega arith)) free refl refl (λ k ne. refl) tt (λ e. absurd (cc e)) in
+    let turns : Turns s new key live.serial (Some live) = time_turns s (s.drawn + 1) key live s.ways is.are (new_begins s key live is.are within free serial refl small (omega arith) (omega arith, omega arith) tt) free refl refl (λ k ne. refl) tt (λ e. absurd (cc e)) in
     let state_is = state_same s (s.drawn + 1) false c.put-key.new.self.slots (set s.slots key (Some live)) s.ways s.ways s.keys s.keys s.runs s.runs s.by_flow s.by_flow c.insert.new.self.members (with_mark key s.fresh) s.ended s.ended s.resources s.resources
     c.put-key.ensures.slots refl refl refl refl (ap (λ (m : MarkSet). m.members) c.insert.ensures) refl refl in
     let told =

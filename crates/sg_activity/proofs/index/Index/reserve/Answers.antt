@@ -16,4 +16,4 @@ returns-clause-wider c =
     let new = c.reserve.new.self in
     let rows = c.grow_rows.new.rows.items in
     subst (λ (i : Indexed). IsWider i (record { rows = map (things_of new.uses) rows; uses = new.uses; users = new.users; room = new.room })) c.self.view_is
-    (rows_wider c.self.inside.rows.items rows old new c.grow_rows.ensures.same c.grow_rows.ensures.longer c.reserve.ensures.kept c.reserve.ensures.grows)
+    (rows_wider c.self.inside.rows.items rows old new c.grow_rows.ensures.same c.grow_rows.ensures.longer c.reserve.ensures.gains.kept c.reserve.ensures.gains.grows)

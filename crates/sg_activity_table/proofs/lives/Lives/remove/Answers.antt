@@ -20,7 +20,7 @@ overflow_sub-self c =
     let old = c.live_of-old.result in
     let low : key < s.keys = (there_in s.keys key s.slab (subst (λ (p : Pool). IsSome (slot_at p.slots key)) (sym c.self.view_is) c.requires)).0 in
     let within : key < length slots = omega (arith, low, length-listed s.keys (live_at s.slab)) in
-    let at : slot_at slots key ≡ Some old = live_read s.keys key s.slab low ∙ ap (option_map live_of) c.remove.ensures.value ∙ ap Some (sym c.live_of-old.ensures.is) in
+    let at : slot_at slots key ≡ Some old = live_read s.keys key s.slab low ∙ ap (option_map live_of) c.remove.ensures.value ∙ ap Some (sym c.live_of-old.ensures) in
     omega (arith, c.self.invariant.goes, c.going_by.ensures, counts_set slots key None within, ap {B = ℕ} (λ o. cond (passes goes_on o) 1 0) at)
 
 pub invariant_of-self : goal.invariant_of-self
@@ -31,7 +31,7 @@ invariant_of-self c =
     let old = c.live_of-old.result in
     let low : key < s.keys = (there_in s.keys key s.slab (subst (λ (p : Pool). IsSome (slot_at p.slots key)) (sym c.self.view_is) c.requires)).0 in
     let within : key < length slots = omega (arith, low, length-listed s.keys (live_at s.slab)) in
-    let at : slot_at slots key ≡ Some old = live_read s.keys key s.slab low ∙ ap (option_map live_of) c.remove.ensures.value ∙ ap Some (sym c.live_of-old.ensures.is) in
+    let at : slot_at slots key ≡ Some old = live_read s.keys key s.slab low ∙ ap (option_map live_of) c.remove.ensures.value ∙ ap Some (sym c.live_of-old.ensures) in
     let slots_are : lives_in s.keys c.remove.new.self ≡ set slots key None = lives_set s.keys key s.slab c.remove.new.self None low c.remove.ensures.updates in
     let f : ℕ → Option ℕ = serials.at s.by_serial in
     let g : ℕ → Option ℕ = serials.at c.remove-2.new.self in

@@ -1,4 +1,4 @@
-use Rattle.std.proofs.Common.{◌≡◌, is_some, count_by, length, refl, ap, ◌∙◌, arith}
+use Rattle.std.proofs.Common.{◌≡◌, is_some, count_by, length, refl, ap, ◌∙◌, arith, rules}
 use Rattle.slab.specs.Slab.{Slab, slab_len}
 use Rattle.sg_queues.specs.Serials as serials
 use Rattle.sg_activity_table.specs.declared.cells.Cell.{Cell}
@@ -35,22 +35,45 @@ invariant_of-self-2 c =
     (omega (arith, c.max-self-inside-2.ensures, is.spare_room, c.in_ok-reserve-2.ensures.grows, c.in_ok-reserve-2.ensures.room))
     c.reserve-2.ensures.same
 
-pub returns-clause-same : goal.returns-clause-same
-returns-clause-same c =
+-- with as many keys, nothing changes
+pub returns-in_err-reserve : goal.returns-in_err-reserve
+returns-in_err-reserve c =
+    let s = c.self.inside in
+    let whole = ap (λ (x : Slab Cell). lives_in s.keys x) c.reserve.ensures.rest_kept ∙ ap (λ (p : Pool). p.slots) c.self.view_is in
+    record {
+      same = λ key. ap (λ l. slot_at l key) whole;
+      longer = omega (arith, ap length whole);
+      few = omega (arith, ap length whole);
+      grows = omega (arith, ap (λ (p : Pool). p.room) c.self.view_is);
+      room = search rules;
+    }
+
+pub returns-in_err-reserve-2 : goal.returns-in_err-reserve-2
+returns-in_err-reserve-2 c =
+    let s = c.self.inside in
+    let whole = ap (λ (x : Slab Cell). lives_in s.keys x) c.reserve.ensures.rest_kept ∙ ap (λ (p : Pool). p.slots) c.self.view_is in
+    record {
+      same = λ key. ap (λ l. slot_at l key) whole;
+      longer = omega (arith, ap length whole);
+      few = omega (arith, ap length whole);
+      grows = omega (arith, ap (λ (p : Pool). p.room) c.self.view_is);
+      room = search rules;
+    }
+
+pub returns : goal.returns
+returns c =
     let s = c.self.inside in
     let is = c.self.invariant in
     let many = c.max-self-inside.result in
-    let whole = ap (λ (x : Slab Cell). lives_in many x) c.reserve.ensures.rest_kept in (
-    λ key. ap (λ l. slot_at l key) whole ∙ wider s.keys many s.slab (omega (arith, c.max-self-inside.ensures)) is.pool.above key ∙ ap (λ (p : Pool). slot_at p.slots key) c.self.view_is
-    )
-
-pub returns-clause-longer : goal.returns-clause-longer
-returns-clause-longer c =
-    let s = c.self.inside in
-    omega (arith, c.max-self-inside.ensures, length-listed c.max-self-inside.result (live_at c.reserve.new.self), length-listed s.keys (live_at s.slab), ap (λ (p : Pool). length p.slots) c.self.view_is)
-
-pub returns-clause-few : goal.returns-clause-few
-returns-clause-few c =
-    let s = c.self.inside in
+    let whole = ap (λ (x : Slab Cell). lives_in many x) c.reserve.ensures.rest_kept in
     let len : slab_len c.reserve.new.self ≡ slab_len s.slab = ap (count_by is_some) (ap (λ (x : Slab Cell). x.slots) c.reserve.ensures.rest_kept) in
-    omega (arith, c.max-self-inside.ensures, c.len.ensures, len, c.self.invariant.pool.free, length-listed c.max-self-inside.result (live_at c.reserve.new.self), length-listed s.keys (live_at s.slab), ap (λ (p : Pool). length p.slots) c.self.view_is)
+    let now = length-listed many (live_at c.reserve.new.self) in
+    let was = length-listed s.keys (live_at s.slab) in
+    let were = ap (λ (p : Pool). length p.slots) c.self.view_is in
+    record {
+      same = λ key. ap (λ l. slot_at l key) whole ∙ wider s.keys many s.slab (omega (arith, c.max-self-inside.ensures)) is.pool.above key ∙ ap (λ (p : Pool). slot_at p.slots key) c.self.view_is;
+      longer = omega (arith, c.max-self-inside.ensures, now, was, were);
+      few = omega (arith, c.max-self-inside.ensures, c.len.ensures, len, is.pool.free, now, was, were);
+      grows = omega (arith, c.max-self-inside-2.ensures, ap (λ (p : Pool). p.room) c.self.view_is);
+      room = omega (arith, c.max-self-inside-2.ensures);
+    }

@@ -21,18 +21,6 @@ unreachable-requires c =
     let there = (there_in s.keys c.args.key s.slab (subst (λ (p : Pool). IsSome (slot_at p.slots c.args.key)) (sym c.self.view_is) c.requires.there)).1 in
     cc (sym there ∙ ap is_some (sym c.get_mut.ensures.value ∙ ap option_copied_mut c.in_default.is))
 
-pub cell_of-requires : goal.cell_of-requires
-cell_of-requires c =
-    let s = c.self.inside in
-    let key = c.args.key in
-    let live = c.args.live in
-    let old = c.live_of-old.result in
-    let low : key < s.keys = (there_in s.keys key s.slab (subst (λ (p : Pool). IsSome (slot_at p.slots key)) (sym c.self.view_is) c.requires.there)).0 in
-    let at : slot_at c.args.self.now.slots key ≡ Some old = ap (λ (p : Pool). slot_at p.slots key) (sym c.self.view_is) ∙ live_read s.keys key s.slab low ∙ ap (option_map live_of) (sym c.get_mut.ensures.value ∙ ap option_copied_mut c.in-Some.is) ∙ ap Some (sym c.live_of-old.ensures.is) in
-    let host : old.host ≡ live.host = subst (λ o. IfSome o (λ (l : Live). l.host ≡ live.host)) at c.requires.host in
-    let peer : old.peer ≡ live.peer = subst (λ o. IfSome o (λ (l : Live). l.peer ≡ live.peer)) at c.requires.peer in
-    record { host = omega (arith, host, c.live_of-old.ensures.ends.host); peer = omega (arith, peer, c.live_of-old.ensures.ends.peer) }
-
 pub overflow_sub-self : goal.overflow_sub-self
 overflow_sub-self c =
     let s = c.self.inside in
@@ -41,7 +29,7 @@ overflow_sub-self c =
     let old = c.live_of-old.result in
     let low : key < s.keys = (there_in s.keys key s.slab (subst (λ (p : Pool). IsSome (slot_at p.slots key)) (sym c.self.view_is) c.requires.there)).0 in
     let within : key < length slots = omega (arith, low, length-listed s.keys (live_at s.slab)) in
-    let at : slot_at slots key ≡ Some old = live_read s.keys key s.slab low ∙ ap (option_map live_of) (sym c.get_mut.ensures.value ∙ ap option_copied_mut c.in-Some.is) ∙ ap Some (sym c.live_of-old.ensures.is) in
+    let at : slot_at slots key ≡ Some old = live_read s.keys key s.slab low ∙ ap (option_map live_of) (sym c.get_mut.ensures.value ∙ ap option_copied_mut c.in-Some.is) ∙ ap Some (sym c.live_of-old.ensures) in
     omega (arith, c.self.invariant.goes, c.going_by.ensures, counts_set slots key None within, ap {B = ℕ} (λ o. cond (passes goes_on o) 1 0) at)
 
 pub overflow_add-self : goal.overflow_add-self
@@ -53,7 +41,7 @@ overflow_add-self c =
     let old = c.live_of-old.result in
     let low : key < s.keys = (there_in s.keys key s.slab (subst (λ (p : Pool). IsSome (slot_at p.slots key)) (sym c.self.view_is) c.requires.there)).0 in
     let within : key < length slots = omega (arith, low, length-listed s.keys (live_at s.slab)) in
-    let at : slot_at slots key ≡ Some old = live_read s.keys key s.slab low ∙ ap (option_map live_of) (sym c.get_mut.ensures.value ∙ ap option_copied_mut c.in-Some.is) ∙ ap Some (sym c.live_of-old.ensures.is) in
+    let at : slot_at slots key ≡ Some old = live_read s.keys key s.slab low ∙ ap (option_map live_of) (sym c.get_mut.ensures.value ∙ ap option_copied_mut c.in-Some.is) ∙ ap Some (sym c.live_of-old.ensures) in
     omega (arith, c.self.invariant.goes, c.going_by.ensures, c.going_by-2.ensures, counts_set slots key (Some live) within, ap {B = ℕ} (λ o. cond (passes goes_on o) 1 0) at, count_by-le-length (passes goes_on) (set slots key (Some live)), length-set slots key (Some live), length-listed s.keys (live_at s.slab))
 
 pub invariant_of-self : goal.invariant_of-self
@@ -66,7 +54,7 @@ invariant_of-self c =
     let there = there_in s.keys key s.slab (subst (λ (p : Pool). IsSome (slot_at p.slots key)) (sym c.self.view_is) c.requires.there) in
     let low : key < s.keys = there.0 in
     let within : key < length slots = omega (arith, low, length-listed s.keys (live_at s.slab)) in
-    let at : slot_at slots key ≡ Some old = live_read s.keys key s.slab low ∙ ap (option_map live_of) (sym c.get_mut.ensures.value ∙ ap option_copied_mut c.in-Some.is) ∙ ap Some (sym c.live_of-old.ensures.is) in
+    let at : slot_at slots key ≡ Some old = live_read s.keys key s.slab low ∙ ap (option_map live_of) (sym c.get_mut.ensures.value ∙ ap option_copied_mut c.in-Some.is) ∙ ap Some (sym c.live_of-old.ensures) in
     let at_pool : slot_at c.args.self.now.slots key ≡ Some old = ap (λ (p : Pool). slot_at p.slots key) (sym c.self.view_is) ∙ at in
     let same : old.serial ≡ live.serial = subst (λ o. IfSome o (λ (l : Live). l.serial ≡ live.serial)) at_pool c.requires.same in
     let next : Slab Cell = with_value s.slab key c.cell_of.result in
