@@ -26,6 +26,11 @@ pub record CanCall (states : ActorStates) (actor : ℕ) : Type 0 where
   pub room : 0 < states.room
   pub round : states.passing ≡ false
 
+-- an actor's call can be answered by this
+pub record CanGoOn (states : ActorStates) (actor : ℕ) (given : Answer) : Type 0 where
+  pub able : CanCall states actor
+  pub answer : IsAnswer states.extent given
+
 -- a scheduling round may begin with room for so many calls: there is no more room, and no time advance is
 -- running
 pub record CanReserve (n : ℕ) (states : ActorStates) : Type 0 where

@@ -3,7 +3,7 @@ ghost use Rattle.std.specs.Prelude.{◌≡◌, ◌-◌, ◌<◌, ◌≤◌, ◌+
 ghost use Rattle.std.specs.List.{list_all, list_any};
 ghost use Rattle.sg_actor_states.specs.declared.state.State.TheVariants.{Blocked, Ready};
 ghost use Rattle.sg_actor_states.specs.Actors.{actor_at, first_actor, is_answered, is_blocked, is_over, is_ready, joined_in, joiners, put_state, put_suspended, state_at, IsActor, IsJoiner};
-ghost use Rattle.sg_actor_states.specs.Queue.{is_ready_in, AreReady, IsQueue};
+ghost use Rattle.sg_actor_states.specs.Queue.{is_ready_in, AreReady, IsIdOf, IsQueue};
 ghost use Rattle.sg_actor_states.specs.kept.Standing.{CanAnswer, CanPut};
 ghost use Rattle.sg_actor_states.specs.kept.Waiting.{is_joining};
 
@@ -93,10 +93,7 @@ fn unstarted(alloc: Global, n: usize) -> Result<Vec<Actor>, Memory>
             state: State::Unstarted,
             suspended: false,
         };
-        match actors.push(actor) {
-            Ok(()) => {}
-            Err(_) => return Err(Memory),
-        }
+        actors.push(actor)?;
     }
     Ok(actors)
 }
@@ -151,7 +148,7 @@ impl Crowd {
 
     /// Returns an actor.
     pub(crate) fn actor(&self, actor: ActorId) -> Actor
-        requires { IsActor self.now.actors actor.0 }
+        requires { IsIdOf self.now.actors actor }
         ensures { result ≡ actor_at self.now.actors actor.0 }
     {
         self.actors[actor.index()]

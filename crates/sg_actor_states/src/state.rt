@@ -1,6 +1,6 @@
 //! What an actor does.
 ghost use Rattle.std.specs.Prelude.{◌≡◌};
-ghost use Rattle.sg_actor_states.specs.Actors.{blocking_in, inbox_of, is_alive, is_over, is_ready as is_ready_spec, joined_in};
+ghost use Rattle.sg_actor_states.specs.Actors.{blocked_of, blocking_in, inbox_of, is_alive, is_over, is_ready as is_ready_spec, joined_in};
 
 use sg_base::{ActorId, Answer, Await, Call};
 
@@ -45,6 +45,16 @@ impl State {
     {
         match self {
             State::Blocked(what, since, on) => Some(Blocking { what, since, on }),
+            _ => None,
+        }
+    }
+
+    /// Returns the call by which it is blocked.
+    pub fn blocked(self) -> Option<Call>
+        ensures { result ≡ blocked_of self }
+    {
+        match self {
+            State::Blocked(what, _, _) => Some(what),
             _ => None,
         }
     }

@@ -4,10 +4,10 @@ ghost use Rattle.std.specs.List.{list_all, list_any};
 ghost use Rattle.sg_base.specs.declared.call.Answer.TheVariants as answer;
 ghost use Rattle.sg_base.specs.Limits.{IsAmount, IsAnswer};
 ghost use Rattle.sg_actor_states.specs.declared.state.State.TheVariants.{Unstarted, Ready, Blocked, Ended};
-ghost use Rattle.sg_actor_states.specs.Actors.{actor_at, blocked_of, first_actor, inbox_of, is_blocked, is_over, is_ready, is_unstarted, joiners, state_at, IsActor, IsJoiner};
+ghost use Rattle.sg_actor_states.specs.Actors.{actor_at, first_actor, inbox_of, is_blocked, is_over, is_ready, is_unstarted, joiners, state_at, IsActor, IsJoiner};
 ghost use Rattle.sg_actor_states.specs.Queue.{AreReady, IsQueue};
 ghost use Rattle.sg_actor_states.specs.Records.{AreRecords, IsTellable};
-ghost use Rattle.sg_actor_states.specs.States.{by_call, with_reply, with_state, with_suspended, CanCall, CanReserve, IsAlive, KeepsLimits};
+ghost use Rattle.sg_actor_states.specs.States.{by_call, with_reply, with_state, with_suspended, CanCall, CanGoOn, CanReserve, IsAlive, KeepsLimits};
 
 use crate::crowd::Crowd;
 use crate::records::record_of;
@@ -131,8 +131,7 @@ impl States {
 
     /// Makes the actor continue with this answer, without a record.
     pub fn go_on(&mut self, actor: ActorId, answer: Answer)
-        requires able { CanCall self.old actor.0 }
-        requires answer { IsAnswer self.old.extent answer }
+        requires { CanGoOn self.old actor.0 answer }
         ensures { self.new ≡ by_call actor.0 (Ready answer) self.old }
     {
         self.crowd.put_answer(actor, answer);
@@ -299,18 +298,6 @@ impl States {
         ensures limited { IfSome result (IsAnswer self.now.extent) }
     {
         self.crowd.actor(actor).inbox()
-    }
-
-    /// Returns the call on which an actor is blocked.
-    pub fn blocked(&self, actor: ActorId) -> Option<Call>
-        requires { IsActor self.now.actors actor.0 }
-        ensures is { result ≡ blocked_of (state_at self.now.actors actor.0) }
-        ensures limited { IfSome result (IsTellable self.now.extent) }
-    {
-        match self.crowd.actor(actor).state {
-            State::Blocked(what, _, _) => Some(what),
-            _ => None,
-        }
     }
 
     /// Returns whether an actor is ready.
