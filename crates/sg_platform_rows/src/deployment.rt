@@ -202,20 +202,16 @@ impl Deployment {
     pub fn actor(&self, name: &[u8]) -> Option<ActorId>
         ensures { result ≡ actor_named self.now name.now }
     {
-        match self.named_actors.get(name) {
-            Some(row) => Some(ActorId(*row + 1)),
-            None => None,
-        }
+        let row = self.named_actors.get(name)?;
+        Some(ActorId(*row + 1))
     }
 
     /// Returns the actor of this name, if it replays.
     pub fn replay_actor(&self, name: &[u8]) -> Option<ActorId>
         ensures { result ≡ replay_actor_named self.now name.now }
     {
-        match self.replay.get(name) {
-            Some(row) => Some(ActorId(row + 1)),
-            None => None,
-        }
+        let row = self.replay.get(name)?;
+        Some(ActorId(row + 1))
     }
 
     /// Returns who takes part in collectives: all actors that replay, by rising identifier.

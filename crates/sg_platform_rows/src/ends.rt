@@ -53,10 +53,7 @@ pub fn link_ends(alloc: Global, rows: &[LinkRow]) -> Result<Vec<LinkEnd>, Memory
 fn back_of(ends: &[LinkEnd], link: LinkId) -> LinkId
     ensures { result ≡ back_of ends.now link }
 {
-    match ends.get(link.0 as usize) {
-        Some(end) => end.back,
-        None => LinkId(0),
-    }
+    ends.get(link.0 as usize).map_or(LinkId(0), |end| end.back)
 }
 
 /// Returns the reverse of links: in reverse order, each replaced by that of its other direction.

@@ -182,22 +182,16 @@ impl NameTable {
         let key = short_key(name);
         let len = name.len() as u32;
         let place = place_of(key, len, self.slots.len());
-        match self.short_at(place, key, len) {
-            Some(number) => Some(number),
-            None => self.short_at(place.wrapping_add(1), key, len),
-        }
+        self.short_at(place, key, len)
+            .or_else(|| self.short_at(place.wrapping_add(1), key, len))
     }
 
     // Returns the number of a longer name, if its slot is at this place.
     fn long_at(&self, place: usize, name: &[u8]) -> Option<u32>
         ensures { IfSome result (λ number. finds self.now.map name.now ≡ Some number) }
     {
-        let Some(slot) = self.slots.get(place) else {
-            return None;
-        };
-        let Some(entry) = self.map.get_index(slot.number as usize) else {
-            return None;
-        };
+        let slot = self.slots.get(place)?;
+        let entry = self.map.get_index(slot.number as usize)?;
         let same = entry.0.as_slice() == name;
         if same { Some(*entry.1) } else { None }
     }
@@ -208,21 +202,8 @@ impl NameTable {
         ensures { IfSome result (λ number. finds self.now.map name.now ≡ Some number) }
     {
         let place = place_of(hash_of(name), LONG, self.slots.len());
-        match self.long_at(place, name) {
-            Some(number) => Some(number),
-            None => self.long_at(place.wrapping_add(1), name),
-        }
-    }
-
-    // Returns the number of a name, if it has a slot.
-    fn number_in_slots(&self, name: &[u8]) -> Option<u32>
-        ensures { IfSome result (λ number. finds self.now.map name.now ≡ Some number) }
-    {
-        if name.len() <= SHORT {
-            self.short_number(name)
-        } else {
-            self.long_number(name)
-        }
+        self.long_at(place, name)
+            .or_else(|| self.long_at(place.wrapping_add(1), name))
     }
 
     // Returns the number of a name by the map. It stays out of line, so that its hash takes no registers from `get`.
@@ -238,9 +219,11 @@ impl NameTable {
     pub fn get(&self, name: &[u8]) -> Option<u32>
         ensures { result ≡ finds self.now.map name.now }
     {
-        match self.number_in_slots(name) {
-            Some(number) => Some(number),
-            None => self.number_in_map(name),
-        }
+        let in_slots = if name.len() <= SHORT {
+            self.short_number(name)
+        } else {
+            self.long_number(name)
+        };
+        in_slots.or_else(|| self.number_in_map(name))
     }
 }

@@ -40,6 +40,14 @@ impl PlatformText {
         PlatformText { rows }
     }
 
+    /// The rows of a platform keep its limits, and each number in one is that of something declared. `zones` and `hosts`
+    /// say so as well.
+    pub fn rows_are_valid(&self)
+        ensures { IsPlatform self.now }
+    {
+        let _rows = &self.rows;
+    }
+
     /// Returns the zones, in declared order.
     pub fn zones(&self) -> &[ZoneRow]
         ensures rows { result.now ≡ self.now.zones }
@@ -59,7 +67,6 @@ impl PlatformText {
     /// Returns the routers, in declared order. They are points after the hosts.
     pub fn routers(&self) -> &[RouterRow]
         ensures rows { result.now ≡ self.now.routers }
-        ensures kept { IsPlatform self.now }
     {
         self.rows.routers.as_slice()
     }
@@ -67,7 +74,6 @@ impl PlatformText {
     /// Returns the links, in declared order.
     pub fn links(&self) -> &[LinkRow]
         ensures rows { result.now ≡ self.now.links }
-        ensures kept { IsPlatform self.now }
     {
         self.rows.links.as_slice()
     }
@@ -75,7 +81,6 @@ impl PlatformText {
     /// Returns the routes between points.
     pub fn routes(&self) -> &[RouteRow]
         ensures rows { result.now ≡ self.now.routes }
-        ensures kept { IsPlatform self.now }
     {
         self.rows.routes.as_slice()
     }
@@ -83,7 +88,6 @@ impl PlatformText {
     /// Returns the routes between children of a zone, of which at least one is a zone.
     pub fn zone_routes(&self) -> &[ZoneRouteRow]
         ensures rows { result.now ≡ self.now.zone_routes }
-        ensures kept { IsPlatform self.now }
     {
         self.rows.zone_routes.as_slice()
     }
@@ -91,7 +95,6 @@ impl PlatformText {
     /// Returns the spokes of Star zones.
     pub fn spokes(&self) -> &[SpokeRow]
         ensures rows { result.now ≡ self.now.spokes }
-        ensures kept { IsPlatform self.now }
     {
         self.rows.spokes.as_slice()
     }
@@ -99,7 +102,6 @@ impl PlatformText {
     /// Returns what it makes of latencies and bandwidths.
     pub fn network(&self) -> Network
         ensures value { result ≡ self.now.network }
-        ensures kept { IsPlatform self.now }
     {
         self.rows.network
     }
@@ -107,7 +109,6 @@ impl PlatformText {
     /// Returns the profiles of speeds and bandwidths, in declared order.
     pub fn profiles(&self) -> &[ProfileRow]
         ensures rows { result.now ≡ self.now.profiles }
-        ensures kept { IsPlatform self.now }
     {
         self.rows.profiles.as_slice()
     }
@@ -115,7 +116,6 @@ impl PlatformText {
     /// Returns the profiles of states, in declared order.
     pub fn state_profiles(&self) -> &[StateProfileRow]
         ensures rows { result.now ≡ self.now.state_profiles }
-        ensures kept { IsPlatform self.now }
     {
         self.rows.state_profiles.as_slice()
     }

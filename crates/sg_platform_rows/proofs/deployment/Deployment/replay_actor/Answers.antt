@@ -5,5 +5,5 @@ use Rattle.sg_platform_rows.proofs.deployment.Deployment.replay_actor.Goals as g
 
 pub overflow_add-result : goal.overflow_add-result
 overflow_add-result c =
-    let below = row_below replay_names c.self.inside.actors.items c.args.name.now c.in-Some.row (sym (c.in-Some.ensures ∙ c.self.invariant.replay c.args.name.now)) in
+    let below = row_below replay_names c.self.inside.actors.items c.args.name.now c.in_ok-row.row (sym (c.in_ok-row.ensures ∙ c.self.invariant.replay c.args.name.now)) in
     omega (arith, below, c.self.invariant.kept.few_actors)
