@@ -58,6 +58,7 @@ impl Profiles {
         ensures kept { IfOk result (λ profiles. AreProfiles (counts_of platform.now).hosts
             (counts_of platform.now).links profiles.profiles) }
     {
+        platform.rows_are_valid();
         let profiles = profiles_of(alloc, platform.profiles(), platform.state_profiles())?;
         Profiles::with_profiles(alloc, profiles)
     }
@@ -85,10 +86,8 @@ impl Profiles {
         ensures exists { IfSome result (λ next. (hosts links : ℕ)
             → AreProfiles hosts links self.now.profiles → IsEntry hosts links next.1) }
     {
-        match self.agenda.least() {
-            Some((row, date, _)) => Some((date, entry_at(&self.profiles[row], self.turns[row]))),
-            None => None,
-        }
+        let (row, date, _) = self.agenda.least()?;
+        Some((date, entry_at(&self.profiles[row], self.turns[row])))
     }
 
     /// Goes past the next entry. There is one, of a date below 10^33.

@@ -49,16 +49,11 @@ pub(crate) fn turn_after(profile: &Profile, turn: Turn) -> Turn
     requires small { turn.number * turn_time profile.now < 10 ^ 33 }
     ensures { result ≡ turn_after profile.now turn }
 {
-    if turn.entry + 1 == profile.dates.as_slice().len() {
-        match profile.gap {
-            Some(_) => Turn {
-                number: turn.number + 1,
-                entry: 0,
-            },
-            None => Turn {
-                entry: turn.entry + 1,
-                ..turn
-            },
+    let was_last = turn.entry + 1 == profile.dates.as_slice().len();
+    if was_last && profile.gap.is_some() {
+        Turn {
+            number: turn.number + 1,
+            entry: 0,
         }
     } else {
         Turn {

@@ -15,19 +15,19 @@ with_profiles-requires-clause-few c =
     let states = length-map platform.state_profiles state_profile_of in
     let both = length-append (map profile_of platform.profiles) (map state_profile_of platform.state_profiles) in
     let n : length c.in_ok-profiles.profiles.items ≡ length (profiles_in platform) = ap length is in
-    omega (arith, n, both, rows, states, c.profiles.ensures.kept.few_profiles, c.profiles.ensures.kept.few_state_profiles)
+    omega (arith, n, both, rows, states, c.rows_are_valid.ensures.few_profiles, c.rows_are_valid.ensures.few_state_profiles)
 
 pub with_profiles-requires-clause-schedules : goal.with_profiles-requires-clause-schedules
 with_profiles-requires-clause-schedules c =
     let is : c.in_ok-profiles.profiles.items ≡ profiles_in c.args.platform.now = c.in_ok-profiles.ensures ∙ ap₂ profiles_of c.profiles.ensures.rows c.state_profiles.ensures.rows in
     subst (All IsSchedule) (sym is)
-    (λ row d within. (platforms_promise c.args.platform.now c.profiles.ensures.kept row d within).schedule)
+    (λ row d within. (platforms_promise c.args.platform.now c.rows_are_valid.ensures row d within).schedule)
 
 pub returns-clause-kept : goal.returns-clause-kept
 returns-clause-kept c =
     let is : c.in_ok-profiles.profiles.items ≡ profiles_in c.args.platform.now = c.in_ok-profiles.ensures ∙ ap₂ profiles_of c.profiles.ensures.rows c.state_profiles.ensures.rows in
     let counts = counts_of c.args.platform.now in
     let profiles = c.in_ok-profiles.profiles.items in
-    let kept = subst (AreProfiles counts.hosts counts.links) (sym is) (platforms_promise c.args.platform.now c.profiles.ensures.kept) in
+    let kept = subst (AreProfiles counts.hosts counts.links) (sym is) (platforms_promise c.args.platform.now c.rows_are_valid.ensures) in
     IfOk-weaker c.with_profiles.result (λ table. table ≡ first_table profiles) (λ table. AreProfiles counts.hosts counts.links table.profiles)
     (λ table e. subst (λ (t : Timetable). AreProfiles counts.hosts counts.links t.profiles) (sym e) kept) c.with_profiles.ensures
