@@ -1,5 +1,5 @@
 -- What makes a search ready.
-use Rattle.std.proofs.Common.{◌≡◌, ◌+◌, ◌<◌, ℕ, List, length, sym, subst}
+use Rattle.std.proofs.Common.{◌≡◌, ◌≢◌, ◌+◌, ◌<◌, ℕ, List, length, sym, subst, arith}
 use Rattle.std.specs.Prelude.{All}
 use Rattle.std.proofs.lemmas.Option.{slice_get_within, get_or_from_slice_get}
 use Rattle.sg_paths.specs.declared.arrivals.Arrivals.{Arrivals}
@@ -10,7 +10,7 @@ use Rattle.sg_paths.specs.Ahead.{steps_in}
 use Rattle.sg_paths.specs.Arrivals.{AreArrivals}
 use Rattle.sg_paths.specs.Asked.{AreRight}
 use Rattle.sg_paths.specs.Crossing.{AreWithin}
-use Rattle.sg_paths.specs.Reach.{IsReady, IsRoomy}
+use Rattle.sg_paths.specs.Reach.{CanFind, CanSearch, IsReady, IsRoomy}
 use Rattle.sg_paths.specs.Trees.{AreOnward}
 use Rattle.sg_paths.specs.Whole.{IsWhole}
 
@@ -36,3 +36,31 @@ whole_on points read routes arrivals old new found same ready roomy right onward
   right = subst (λ (rs : List PathRoute). AreRight rs found.asked.items) same right;
   onward = subst (λ (rs : List PathRoute). AreOnward rs found.trees.hops.items) same onward;
 }
+
+-- room that stayed, and stayed again
+pub room_on : (routes : List PathRoute) (first old new : Reach) → IsRoomy routes (length first.places.items) old → IsRoomy routes (length old.places.items) new → IsRoomy routes (length first.places.items) new
+room_on routes first old new was still = subst (λ (n : ℕ). IsRoomy routes n new) was.places still
+
+-- what can be searched can still be, if the room stays
+pub find_on : (routes : List PathRoute) (arrivals : Arrivals) (from to : ℕ) (old new : Reach) → CanFind routes arrivals from to old → IsRoomy routes (length old.places.items) new → CanFind routes arrivals from to new
+find_on routes arrivals from to old new can still = record {
+  search = subst (λ (n : ℕ). CanSearch n routes arrivals) (sym still.places) can.search;
+  roomy = subst (λ (n : ℕ). IsRoomy routes n new) (sym still.places) still;
+  begins = omega (arith, can.begins, still.places);
+  ends = omega (arith, can.ends, still.places);
+  apart = can.apart;
+}
+
+-- a network that is ready can be searched between two of its points
+pub can_find : (points : ℕ) (read routes : List PathRoute) (arrivals : Arrivals) (reach : Reach) (from to : ℕ) → read ≡ routes → IsReady points routes arrivals reach → from < points → to < points → from ≢ to
+    → CanFind read arrivals from to reach
+can_find points read routes arrivals reach from to same ready inside_from inside_to apart =
+    let places = ready.roomy.places in
+    let P : List PathRoute → Type 0 = λ rs. CanFind rs arrivals from to reach in
+    subst P (sym same) (record {
+      search = subst (λ (n : ℕ). CanSearch n routes arrivals) (sym places) ready.search;
+      roomy = subst (λ (n : ℕ). IsRoomy routes n reach) (sym places) ready.roomy;
+      begins = omega (arith, inside_from, places);
+      ends = omega (arith, inside_to, places);
+      apart = apart;
+    })

@@ -36,10 +36,9 @@ pub fn room_for(alloc: Global, places: usize) -> Result<Vec<Option<Asked>>, Memo
 /// Returns the first place that is tried for two points.
 fn first_place(from: u32, to: u32, places: usize) -> usize {
     let mixed = (u64::from(from) << 32 | u64::from(to)).wrapping_mul(0x9e37_79b9_7f4a_7c15);
-    match (mixed >> 32).checked_rem(places as u64) {
-        Some(place) => place as usize,
-        None => 0,
-    }
+    (mixed >> 32)
+        .checked_rem(places as u64)
+        .map_or(0, |place| place as usize)
 }
 
 /// Returns the links that are stored at a place, if they are those of these points.

@@ -1,8 +1,7 @@
 //! The search for a shortest path.
-ghost use Rattle.std.specs.Prelude.{◌≡◌, ◌≢◌, ◌<◌, ◌≤◌, length};
+ghost use Rattle.std.specs.Prelude.{◌≡◌, ◌<◌, ◌≤◌, length};
 ghost use Rattle.std.specs.Bool.{OnFalse, OnTrue};
-ghost use Rattle.sg_paths.specs.Path.{HasNoPath, IsLeastPath};
-ghost use Rattle.sg_paths.specs.Reach.{CanSearch, IsRoomy};
+ghost use Rattle.sg_paths.specs.Reach.{CanFind, FindsLeast, IsRoomy};
 ghost use Rattle.sg_paths.specs.Trail.{HasPlaces, IsNew, IsSettled, IsSettledAt, IsWritten, LeadsBack};
 ghost use Rattle.sg_paths.specs.Trees.{IsTree};
 
@@ -77,14 +76,8 @@ pub fn find(
     to: u32,
     points: usize,
 ) -> bool
-    requires search { CanSearch (length reach.old.places.items) routes.now arrivals.now }
-    requires roomy { IsRoomy routes.now (length reach.old.places.items) reach.old }
-    requires from { from < length reach.old.places.items }
-    requires to { to < length reach.old.places.items }
-    requires apart { from ≢ to }
-    ensures yes { OnTrue result (IsLeastPath routes.now from to reach.new.best.items) }
-    ensures no { OnFalse result (HasNoPath routes.now from to) }
-    ensures roomy { IsRoomy routes.now (length reach.old.places.items) reach.new }
+    requires { CanFind routes.now arrivals.now from to reach.old }
+    ensures path { FindsLeast routes.now from to result reach.old reach.new }
     ensures tree { IsTree routes.now to reach.new.settled.items }
 {
     begin(&mut reach.settled, &mut reach.places, to);

@@ -1,9 +1,9 @@
 //! A search for a shortest path that may have been asked for before.
-ghost use Rattle.std.specs.Prelude.{◌≡◌, ◌≢◌, ◌<◌, ◌≤◌, length};
-ghost use Rattle.std.specs.Bool.{OnFalse, OnTrue};
+ghost use Rattle.std.specs.Prelude.{length};
+ghost use Rattle.std.specs.Bool.{OnTrue};
 ghost use Rattle.sg_paths.specs.Asked.{AreRight};
-ghost use Rattle.sg_paths.specs.Path.{HasNoPath, IsLeastPath};
-ghost use Rattle.sg_paths.specs.Reach.{CanSearch, IsRoomy};
+ghost use Rattle.sg_paths.specs.Path.{IsLeastPath};
+ghost use Rattle.sg_paths.specs.Reach.{CanFind, FindsLeast, IsRoomy};
 ghost use Rattle.sg_paths.specs.Trees.{AreOnward};
 
 use crate::arrivals::Arrivals;
@@ -53,15 +53,9 @@ fn find_or_follow(
     from: u32,
     to: u32,
 ) -> bool
-    requires search { CanSearch (length reach.old.places.items) routes.now arrivals.now }
-    requires roomy { IsRoomy routes.now (length reach.old.places.items) reach.old }
-    requires from { from < length reach.old.places.items }
-    requires to { to < length reach.old.places.items }
-    requires apart { from ≢ to }
+    requires ready { CanFind routes.now arrivals.now from to reach.old }
     requires onward { AreOnward routes.now trees.old.hops.items }
-    ensures yes { OnTrue result (IsLeastPath routes.now from to reach.new.best.items) }
-    ensures no { OnFalse result (HasNoPath routes.now from to) }
-    ensures roomy { IsRoomy routes.now (length reach.old.places.items) reach.new }
+    ensures path { FindsLeast routes.now from to result reach.old reach.new }
     ensures onward { AreOnward routes.now trees.new.hops.items }
 {
     if follow(routes, trees, reach, from, to) {
@@ -84,16 +78,10 @@ pub fn find_or_recall(
     from: u32,
     to: u32,
 ) -> bool
-    requires search { CanSearch (length reach.old.places.items) routes.now arrivals.now }
-    requires roomy { IsRoomy routes.now (length reach.old.places.items) reach.old }
-    requires from { from < length reach.old.places.items }
-    requires to { to < length reach.old.places.items }
-    requires apart { from ≢ to }
+    requires ready { CanFind routes.now arrivals.now from to reach.old }
     requires right { AreRight routes.now found.old.asked.items }
     requires onward { AreOnward routes.now found.old.trees.hops.items }
-    ensures yes { OnTrue result (IsLeastPath routes.now from to reach.new.best.items) }
-    ensures no { OnFalse result (HasNoPath routes.now from to) }
-    ensures roomy { IsRoomy routes.now (length reach.old.places.items) reach.new }
+    ensures path { FindsLeast routes.now from to result reach.old reach.new }
     ensures right { AreRight routes.now found.new.asked.items }
     ensures onward { AreOnward routes.now found.new.trees.hops.items }
 {

@@ -31,11 +31,11 @@ pub fn copy(alloc: Global, routes: &[PathRoute]) -> Result<Vec<PathRoute>, Memor
     let mut copied = Vec::with_capacity(alloc, routes.len())?;
     for route in routes {
         let links = Vec::from_slice(alloc, route.links.as_slice())?;
-        copied.push(PathRoute {
+        copied.push_reserved(PathRoute {
             from: route.from,
             to: route.to,
             links: Links::from_vec(links),
-        })?;
+        });
     }
     Ok(copied)
 }
@@ -47,10 +47,7 @@ fn steps(routes: &[PathRoute]) -> Option<u64>
     let mut steps: u64 = 0;
     for i in 0..routes.len() {
         let more = links_at(routes, i).len() as u64 + 1;
-        match steps.checked_add(more) {
-            Some(sum) => steps = sum,
-            None => return None,
-        }
+        steps = steps.checked_add(more)?;
     }
     Some(steps)
 }
@@ -59,10 +56,7 @@ fn steps(routes: &[PathRoute]) -> Option<u64>
 pub fn countable(routes: &[PathRoute]) -> bool
     ensures { OnTrue result (steps_in routes.now + 1 < 2 ^ 64) }
 {
-    match steps(routes) {
-        Some(steps) => steps < u64::MAX,
-        None => false,
-    }
+    steps(routes).is_some_and(|steps| steps < u64::MAX)
 }
 
 /// Makes a place for each of so many routes.
@@ -86,9 +80,7 @@ pub fn room(alloc: Global, points: usize, routes: usize, most: usize) -> Result<
     ensures held { IfOk result (λ reach. 128 ≤ vec_capacity reach.best) }
     ensures most { IfOk result (λ reach. reach.most ≡ most) }
 {
-    let Some(links) = points.checked_mul(most) else {
-        return Err(Memory);
-    };
+    let links = points.checked_mul(most).ok_or(Memory)?;
     let best = Vec::with_capacity(alloc, links.max(MOST))?;
     let places = vec![in alloc; 0; points]?;
     let settled = Vec::with_capacity(alloc, points)?;

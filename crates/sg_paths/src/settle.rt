@@ -15,9 +15,7 @@ pub struct Known<'a> {
 pub fn settled_at(known: Known<'_>, point: u32) -> Option<usize>
     ensures { IfSome result (λ place. IsSettledAt known.entry.settled.now.items place point) }
 {
-    let Some(place) = known.places.get(point as usize) else {
-        return None;
-    };
+    let place = known.places.get(point as usize)?;
     match known.settled.get(*place) {
         Some(other) if other.point == point => Some(*place),
         _ => None,

@@ -85,10 +85,7 @@ pub fn trees_for(alloc: Global, points: usize, routes: &[PathRoute]) -> Result<T
     }
     let columns = columns_of(alloc, points, routes)?;
     let count = columns.count;
-    let rows = match MOST.checked_div(count) {
-        Some(rows) => rows.min(count),
-        None => 0,
-    };
+    let rows = MOST.checked_div(count).map_or(0, |rows| rows.min(count));
     Ok(Trees {
         hops: Vec::with_capacity(alloc, rows.saturating_mul(count))?,
         rows: Vec::with_capacity(alloc, rows)?,
@@ -163,10 +160,7 @@ fn new_row(trees: &mut Trees) -> usize
         return row;
     }
     let oldest = trees.oldest;
-    trees.oldest = match oldest.wrapping_add(1).checked_rem(row) {
-        Some(next) => next,
-        None => 0,
-    };
+    trees.oldest = oldest.wrapping_add(1).checked_rem(row).unwrap_or(0);
     oldest
 }
 

@@ -14,6 +14,7 @@ use Rattle.sg_paths.proofs.AheadLemmas.{back_places, got}
 use Rattle.sg_paths.proofs.AtHand.{at_hand, left_read, next_read}
 use Rattle.sg_paths.proofs.StateLemmas.{IsFirst, IsUnderWay, Leaves, begins, few_left, first_mark, first_of, goes_back, inside_left, is_left, key_small, ranks_left, same_route, settles}
 use Rattle.sg_paths.proofs.PathLemmas.{no_path}
+use Rattle.sg_paths.proofs.ReachLemmas.{room_on}
 use Rattle.sg_paths.proofs.SearchLemmas.{none_crosses}
 use Rattle.sg_paths.proofs.WorkLemmas.{work}
 use Rattle.sg_paths.proofs.TrailLemmas.{leads_back, leads_first, root_still}
@@ -302,22 +303,22 @@ settling-preserved c =
     }
 
 pub write_path-requires-clause-from : goal.write_path-requires-clause-from
-write_path-requires-clause-from c = let n = c.settling.invariant.roomy.places in omega (arith, c.requires.from, n)
+write_path-requires-clause-from c = let n = c.settling.invariant.roomy.places in omega (arith, c.requires.begins, n)
 
 pub write_path-requires-clause-apart : goal.write_path-requires-clause-apart
 write_path-requires-clause-apart c = apart_first c.settling.reach.settled.items c.args.from c.args.to c.requires.apart c.settling.invariant.root
 
-pub returns-then-is_enough-clause-yes : goal.returns-then-is_enough-clause-yes
-returns-then-is_enough-clause-yes c =
+pub returns-then-is_enough-clause-path : goal.returns-then-is_enough-clause-path
+returns-then-is_enough-clause-path c =
     let state = c.settling.invariant.state in
-    OnTrue_from c.write_path.result (IsLeastPath c.args.routes.now c.args.from c.args.to c.write_path.new.reach.best.items)
-    (λ e. written_least c.args.routes.now c.args.from c.args.to c.settling.reach.settled.items state.label c.write_path.new.reach.best.items state.known (OnTrue_at e c.write_path.ensures.yes))
-
-pub returns-then-is_enough-clause-no : goal.returns-then-is_enough-clause-no
-returns-then-is_enough-clause-no c =
     let there = c.if-is_enough.ensures in
-    OnFalse_from c.write_path.result (HasNoPath c.args.routes.now c.args.from c.args.to)
-    (λ e. absurd (OnFalse_at e c.write_path.ensures.no there.0 (there.1).0 (there.1).1 (there.1).2))
+    record {
+      yes = OnTrue_from c.write_path.result (IsLeastPath c.args.routes.now c.args.from c.args.to c.write_path.new.reach.best.items)
+          (λ e. written_least c.args.routes.now c.args.from c.args.to c.settling.reach.settled.items state.label c.write_path.new.reach.best.items state.known (OnTrue_at e c.write_path.ensures.yes));
+      no = OnFalse_from c.write_path.result (HasNoPath c.args.routes.now c.args.from c.args.to)
+          (λ e. absurd (OnFalse_at e c.write_path.ensures.no there.0 (there.1).0 (there.1).1 (there.1).2));
+      roomy = room_on c.args.routes.now c.args.reach.now c.settling.reach c.write_path.new.reach c.settling.invariant.roomy c.write_path.ensures.roomy;
+    }
 
 pub returns-then-is_enough-clause-tree : goal.returns-then-is_enough-clause-tree
 returns-then-is_enough-clause-tree c =
@@ -325,18 +326,18 @@ returns-then-is_enough-clause-tree c =
     let same : c.settling.reach.settled.items ≡ c.write_path.new.reach.settled.items = sym c.write_path.ensures.settled in
     subst (λ (l : List Settled). IsTree c.args.routes.now c.args.to l) same (tree_known c.args.routes.now c.args.to c.settling.reach.settled.items state.label state.known)
 
-pub returns-clause-yes : goal.returns-clause-yes
-returns-clause-yes c =
-    let state = c.settling.invariant.state in
-    OnTrue_from c.write_path-2.result (IsLeastPath c.args.routes.now c.args.from c.args.to c.write_path-2.new.reach.best.items)
-    (λ e. written_least c.args.routes.now c.args.from c.args.to c.settling.reach.settled.items state.label c.write_path-2.new.reach.best.items state.known (OnTrue_at e c.write_path-2.ensures.yes))
-
-pub returns-clause-no : goal.returns-clause-no
-returns-clause-no c =
+pub returns-clause-path : goal.returns-clause-path
+returns-clause-path c =
     let inv = c.settling.invariant in
-    OnFalse_from c.write_path-2.result (HasNoPath c.args.routes.now c.args.from c.args.to)
-    (λ e. no_path c.args.routes.now c.settling.reach.settled.items c.args.to (inv.state).label (inv.state).known inv.root c.args.from (OnFalse_at e c.write_path-2.ensures.no)
-    (λ hop crossing. none_crosses c.args.routes.now c.settling.reach.settled.items c.settling.reach.ahead (inv.state).begun c.in_default.ensures.none hop crossing))
+    let state = inv.state in
+    record {
+      yes = OnTrue_from c.write_path-2.result (IsLeastPath c.args.routes.now c.args.from c.args.to c.write_path-2.new.reach.best.items)
+          (λ e. written_least c.args.routes.now c.args.from c.args.to c.settling.reach.settled.items state.label c.write_path-2.new.reach.best.items state.known (OnTrue_at e c.write_path-2.ensures.yes));
+      no = OnFalse_from c.write_path-2.result (HasNoPath c.args.routes.now c.args.from c.args.to)
+          (λ e. no_path c.args.routes.now c.settling.reach.settled.items c.args.to (inv.state).label (inv.state).known inv.root c.args.from (OnFalse_at e c.write_path-2.ensures.no)
+          (λ hop crossing. none_crosses c.args.routes.now c.settling.reach.settled.items c.settling.reach.ahead (inv.state).begun c.in_default.ensures.none hop crossing));
+      roomy = room_on c.args.routes.now c.args.reach.now c.settling.reach c.write_path-2.new.reach inv.roomy c.write_path-2.ensures.roomy;
+    }
 
 pub returns-clause-tree : goal.returns-clause-tree
 returns-clause-tree c =

@@ -1,18 +1,23 @@
-use Rattle.std.proofs.Common.{◌≡◌, ◌≤◌, ◌⊎◌, List, inl, inr, refl, subst, ap, sym, ◌∙◌}
+use Rattle.std.proofs.Common.{◌≡◌, ◌≤◌, ◌⊎◌, List, inl, inr, refl, subst, ap, sym, ◌∙◌, arith}
 use Rattle.sg_base.specs.declared.ids.LinkId.{LinkId}
 use Rattle.sg_paths.specs.declared.route.PathRoute.{PathRoute}
 use Rattle.sg_paths.specs.Path.{Net, HasPath, IsLeastPath}
 use Rattle.sg_paths.proofs.PathLemmas.{no_path_outside}
-use Rattle.sg_paths.proofs.ReachLemmas.{whole_on}
+use Rattle.sg_paths.proofs.ReachLemmas.{can_find, whole_on}
 use Rattle.sg_paths.proofs.paths.Paths.search.Goals as goal
 use Rattle.sg_paths.proofs.paths.Paths.search.Goals.{then-from-self-via-then-from-self, then-from-self-via-else-from-self+then-to-self}
+
+pub find_or_recall-requires-clause-ready : goal.find_or_recall-requires-clause-ready
+find_or_recall-requires-clause-ready c =
+    can_find c.self.inside.points c.as_slice.result.now c.self.inside.routes.items c.self.inside.arrivals c.self.inside.reach c.args.from c.args.to
+    c.as_slice.ensures.value c.self.invariant.ready (omega arith) (omega arith) c.requires
 
 pub returns-then-find_or_recall : goal.returns-then-find_or_recall
 returns-then-find_or_recall c =
     let same : c.as_slice.result.now ≡ c.args.self.now.routes = cc (c.as_slice.ensures.value, ap (λ (n : Net). n.routes) c.self.view_is) in
     let path : IsLeastPath c.args.self.now.routes c.args.from c.args.to c.as_slice-then-find_or_recall.result.now =
     subst (λ (routes : List PathRoute). IsLeastPath routes c.args.from c.args.to c.as_slice-then-find_or_recall.result.now) same
-    (subst (λ (links : List LinkId). IsLeastPath c.as_slice.result.now c.args.from c.args.to links) (sym c.as_slice-then-find_or_recall.ensures.value) c.if-find_or_recall.ensures.yes) in (
+    (subst (λ (links : List LinkId). IsLeastPath c.as_slice.result.now c.args.from c.args.to links) (sym c.as_slice-then-find_or_recall.ensures.value) c.if-find_or_recall.ensures.path.yes) in (
       (refl, λ _. tt, c.self.view_is),
       record {
         reached = path.reached;
@@ -30,7 +35,7 @@ returns-else-find_or_recall c =
         reached = tt;
         least = tt;
         kept = tt;
-        none = λ e links has. c.if-find_or_recall.ensures.no links (subst (λ (routes : List PathRoute). HasPath routes c.args.from c.args.to links) (sym same) has);
+        none = λ e links has. c.if-find_or_recall.ensures.path.no links (subst (λ (routes : List PathRoute). HasPath routes c.args.from c.args.to links) (sym same) has);
       },
     )
 
@@ -55,10 +60,10 @@ pub invariant_of-self-then-find_or_recall : goal.invariant_of-self-then-find_or_
 invariant_of-self-then-find_or_recall c =
     let inv = c.self.invariant in
     whole_on c.self.inside.points c.as_slice.result.now c.self.inside.routes.items c.self.inside.arrivals c.self.inside.reach c.find_or_recall.new.reach c.find_or_recall.new.found
-    c.as_slice.ensures.value inv.ready c.find_or_recall.ensures.roomy c.find_or_recall.ensures.right c.find_or_recall.ensures.onward
+    c.as_slice.ensures.value inv.ready c.find_or_recall.ensures.path.roomy c.find_or_recall.ensures.right c.find_or_recall.ensures.onward
 
 pub invariant_of-self-else-find_or_recall : goal.invariant_of-self-else-find_or_recall
 invariant_of-self-else-find_or_recall c =
     let inv = c.self.invariant in
     whole_on c.self.inside.points c.as_slice.result.now c.self.inside.routes.items c.self.inside.arrivals c.self.inside.reach c.find_or_recall.new.reach c.find_or_recall.new.found
-    c.as_slice.ensures.value inv.ready c.find_or_recall.ensures.roomy c.find_or_recall.ensures.right c.find_or_recall.ensures.onward
+    c.as_slice.ensures.value inv.ready c.find_or_recall.ensures.path.roomy c.find_or_recall.ensures.right c.find_or_recall.ensures.onward
