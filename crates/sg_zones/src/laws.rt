@@ -1,9 +1,8 @@
 //! What the faults of the zone tree mean, and what the tree says.
-ghost use Rattle.std.specs.Prelude.{◌≡◌, None};
 ghost use Rattle.sg_zones.specs.AllFaults.{TellsLeast};
-ghost use Rattle.sg_zones.specs.Faults.{zone_fault};
 ghost use Rattle.sg_zones.specs.Laws.{CyclesNeverEnd, DepthByStepsUp, HoldsByStepsUp};
 
+use crate::sound::SoundPlatform;
 use sg_platform_rows::PlatformText;
 
 /// A zone from which 1,024 steps up don't lead past the root never reaches it, however far one goes up: such a zone is
@@ -11,22 +10,21 @@ use sg_platform_rows::PlatformText;
 pub fn cycles_never_end(platform: &PlatformText)
     ensures { CyclesNeverEnd platform.now }
 {
-    let _zones = platform.zones();
+    platform.rows_are_valid();
 }
 
 /// The fault that is reported of the rows has the least kind of all, and within it the least place.
 pub fn least_fault_is_told(platform: &PlatformText)
     ensures { TellsLeast platform.now }
 {
-    let _zones = platform.zones();
+    platform.rows_are_valid();
 }
 
 /// A zone holds a point if some steps up from the point's zone lead to it, and is one deeper than the steps from it up
 /// to the root. No count of levels is in this.
-pub fn tree_goes_up(platform: &PlatformText)
-    requires { zone_fault platform.now ≡ None }
-    ensures holds { HoldsByStepsUp platform.now }
-    ensures depth { DepthByStepsUp platform.now }
+pub fn tree_goes_up(sound: SoundPlatform<'_>)
+    ensures holds { HoldsByStepsUp sound.entry.platform.now }
+    ensures depth { DepthByStepsUp sound.entry.platform.now }
 {
-    let _zones = platform.zones();
+    sound.platform.rows_are_valid();
 }

@@ -9,9 +9,11 @@ mod gateways;
 mod laws;
 mod paths;
 mod routing;
+mod sound;
 mod tree;
 mod zones;
 
 pub use fault::ZoneFault;
 pub use laws::{cycles_never_end, least_fault_is_told, tree_goes_up};
+pub use sound::SoundPlatform;
 pub use zones::Zones;

@@ -11,7 +11,7 @@ use std::marker::Model;
 /// The zones from the root down to one zone, which contracts see as a list.
 #[derive(Drop)]
 pub(crate) struct Path {
-    zones: Vec<ZoneId>,
+    pub(crate) zones: Vec<ZoneId>,
 }
 
 impl Model for Path {
@@ -28,13 +28,6 @@ impl Model for Path {
 }
 
 impl Path {
-    pub(crate) fn as_slice(&self) -> &[ZoneId]
-        ensures path { result.now ≡ self.now }
-        ensures few { length result.now ≤ 16 }
-    {
-        self.zones.as_slice()
-    }
-
     pub(crate) fn copy(&self, alloc: Global) -> Result<Path, Memory>
         ensures { IfOk result (λ path. path ≡ self.now) }
     {
@@ -47,10 +40,7 @@ impl Path {
 fn parent(zones: &[ZoneRow], zone: ZoneId) -> Option<ZoneId>
     ensures { result ≡ parent_zone zones.now zone }
 {
-    match zones.get(zone.0 as usize) {
-        Some(row) => row.parent,
-        None => None,
-    }
+    zones.get(zone.0 as usize)?.parent
 }
 
 /// Returns the parent of each zone.
@@ -68,10 +58,7 @@ pub(crate) fn parents_of(alloc: Global, zones: &[ZoneRow]) -> Result<Vec<Option<
 fn look_up(ancestors: &[Option<ZoneId>], zone: ZoneId) -> Option<ZoneId>
     ensures { result ≡ slice_index_or ancestors.now zone.0 None }
 {
-    match ancestors.get(zone.0 as usize) {
-        Some(ancestor) => *ancestor,
-        None => None,
-    }
+    *ancestors.get(zone.0 as usize)?
 }
 
 /// Returns for each zone the ancestor of its ancestor.
@@ -81,10 +68,7 @@ fn twice(alloc: Global, ancestors: &[Option<ZoneId>]) -> Result<Vec<Option<ZoneI
 {
     let mut made = Vec::new(alloc);
     for ancestor in ancestors {
-        match *ancestor {
-            Some(zone) => made.push(look_up(ancestors, zone))?,
-            None => made.push(None)?,
-        }
+        made.push(ancestor.and_then(|zone| look_up(ancestors, zone)))?;
     }
     Ok(made)
 }

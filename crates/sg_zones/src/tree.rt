@@ -1,5 +1,5 @@
 //! The faults of the zone tree itself.
-ghost use Rattle.std.specs.Prelude.{◌≡◌, ◌≤◌, ◌<◌, length, IfOk};
+ghost use Rattle.std.specs.Prelude.{◌≡◌, ◌≤◌, length, IfOk};
 ghost use Rattle.sg_zones.specs.Faults.{ancestor_fault, first_along, roots, root_fault, tree_fault};
 ghost use Rattle.sg_zones.specs.declared.fault.ZoneFault.TheVariants.{ParentCycle, TooDeep};
 
@@ -34,36 +34,14 @@ fn root_fault(zones: &[ZoneRow]) -> Option<ZoneFault>
     }))
 }
 
-/// Reports that going up from a zone never reaches the root.
-fn cycle_at(i: usize, ancestor: &Option<ZoneId>) -> Option<ZoneFault>
-    requires { i < 1024 }
-    ensures { result ≡ ancestor_fault ParentCycle i ancestor.now }
-{
-    match ancestor {
-        Some(_) => Some(ZoneFault::ParentCycle(place(1, i, 2))),
-        None => None,
-    }
-}
-
-/// Reports that a zone is too deep.
-fn deep_at(i: usize, ancestor: &Option<ZoneId>) -> Option<ZoneFault>
-    requires { i < 1024 }
-    ensures { result ≡ ancestor_fault TooDeep i ancestor.now }
-{
-    match ancestor {
-        Some(_) => Some(ZoneFault::TooDeep(place(1, i, 2))),
-        None => None,
-    }
-}
-
 /// Returns the first zone that never reaches the root.
 fn first_cycle(ancestors: &[Option<ZoneId>]) -> Option<ZoneFault>
     requires { length ancestors.now ≤ 1024 }
     ensures { result ≡ first_along (ancestor_fault ParentCycle) 0 ancestors.now }
 {
     for (i, ancestor) in ancestors.iter().enumerate() {
-        if let Some(fault) = cycle_at(i, ancestor) {
-            return Some(fault);
+        if ancestor.is_some() {
+            return Some(ZoneFault::ParentCycle(place(1, i, 2)));
         }
     }
     None
@@ -75,8 +53,8 @@ fn first_deep(ancestors: &[Option<ZoneId>]) -> Option<ZoneFault>
     ensures { result ≡ first_along (ancestor_fault TooDeep) 0 ancestors.now }
 {
     for (i, ancestor) in ancestors.iter().enumerate() {
-        if let Some(fault) = deep_at(i, ancestor) {
-            return Some(fault);
+        if ancestor.is_some() {
+            return Some(ZoneFault::TooDeep(place(1, i, 2)));
         }
     }
     None

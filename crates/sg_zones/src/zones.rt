@@ -84,22 +84,22 @@ fn paths_again(alloc: Global, paths: &[Path]) -> Result<Vec<Path>, NoMemory>
 fn row_fault(zones: &Zones, platform: &PlatformText) -> Option<ZoneFault>
     ensures { result ≡ row_fault zones.now platform.now }
 {
-    if let Some(fault) = first_gateways(zones, platform.zone_routes()) {
+    if let Some(fault) = first_gateways(zones, platform) {
         return Some(fault);
     }
-    if let Some(fault) = first_gateway(zones, platform.spokes()) {
+    if let Some(fault) = first_gateway(zones, platform) {
         return Some(fault);
     }
-    if let Some(fault) = first_child_zone(zones, platform.zones()) {
+    if let Some(fault) = first_child_zone(zones, platform) {
         return Some(fault);
     }
-    if let Some(fault) = first_route(zones, platform.routes()) {
+    if let Some(fault) = first_route(zones, platform) {
         return Some(fault);
     }
-    if let Some(fault) = first_zone_route(zones, platform.zone_routes()) {
+    if let Some(fault) = first_zone_route(zones, platform) {
         return Some(fault);
     }
-    first_spoke(zones, platform.spokes())
+    first_spoke(zones, platform)
 }
 
 impl Zones {
@@ -124,15 +124,13 @@ impl Zones {
     pub fn build(alloc: Global, platform: &PlatformText) -> Result<Zones, ZoneFault>
         ensures { result ≢ Err Memory → result ≡ zones_of platform.now }
     {
-        match tree_fault(alloc, platform.zones())? {
+        if let Some(fault) = tree_fault(alloc, platform.zones())? {
+            return Err(fault);
+        }
+        let zones = Zones::of(alloc, platform)?;
+        match row_fault(&zones, platform) {
             Some(fault) => Err(fault),
-            None => {
-                let zones = Zones::of(alloc, platform)?;
-                match row_fault(&zones, platform) {
-                    Some(fault) => Err(fault),
-                    None => Ok(zones),
-                }
-            }
+            None => Ok(zones),
         }
     }
 
@@ -156,20 +154,16 @@ impl Zones {
     pub fn parent(&self, zone: ZoneId) -> Option<ZoneId>
         ensures { result ≡ slice_index_or self.now.parents zone.0 None }
     {
-        match self.parents.get(zone.0 as usize) {
-            Some(parent) => *parent,
-            None => None,
-        }
+        *self.parents.get(zone.0 as usize)?
     }
 
     /// Returns how the zone finds the routes between its children.
     pub fn routing(&self, zone: ZoneId) -> Routing
         ensures { result ≡ routing_in self.now zone }
     {
-        match self.routings.get(zone.0 as usize) {
-            Some(routing) => *routing,
-            None => Routing::Full,
-        }
+        self.routings
+            .get(zone.0 as usize)
+            .map_or(Routing::Full, |routing| *routing)
     }
 
     /// Returns the zones from the root down to this one, both among them.
@@ -178,7 +172,7 @@ impl Zones {
         ensures depth { length result.now ≤ 16 }
     {
         match self.paths.get(zone.0 as usize) {
-            Some(path) => path.as_slice(),
+            Some(path) => path.zones.as_slice(),
             None => &[],
         }
     }
@@ -194,10 +188,9 @@ impl Zones {
     pub fn home(&self, point: PointId) -> ZoneId
         ensures { result ≡ home self.now point }
     {
-        match self.homes.get(point.0 as usize) {
-            Some(zone) => *zone,
-            None => ZoneId(0),
-        }
+        self.homes
+            .get(point.0 as usize)
+            .map_or(ZoneId(0), |zone| *zone)
     }
 
     /// Returns whether the point stands in the zone or in one below it.
@@ -223,20 +216,14 @@ impl Zones {
     pub(crate) fn is_full(&self, zone: ZoneId) -> bool
         ensures { result ≡ is_routing Full (routing_in self.now zone) }
     {
-        match self.routing(zone) {
-            Routing::Full => true,
-            Routing::Star | Routing::Dijkstra => false,
-        }
+        matches!(self.routing(zone), Routing::Full)
     }
 
     /// Returns whether the zone is Star.
     pub(crate) fn is_star(&self, zone: ZoneId) -> bool
         ensures { result ≡ is_routing Star (routing_in self.now zone) }
     {
-        match self.routing(zone) {
-            Routing::Star => true,
-            Routing::Full | Routing::Dijkstra => false,
-        }
+        matches!(self.routing(zone), Routing::Star)
     }
 
     /// Returns whether there is such a zone, and it is Dijkstra.
@@ -244,30 +231,21 @@ impl Zones {
         ensures { result
             ≡ option_map_or (λ above. is_routing Dijkstra (routing_in self.now above)) zone false }
     {
-        match zone {
-            Some(zone) => self.is_dijkstra(zone),
-            None => false,
-        }
+        zone.is_some_and(|zone| self.is_dijkstra(zone))
     }
 
     /// Returns whether the zone is Dijkstra.
     fn is_dijkstra(&self, zone: ZoneId) -> bool
         ensures { result ≡ is_routing Dijkstra (routing_in self.now zone) }
     {
-        match self.routing(zone) {
-            Routing::Dijkstra => true,
-            Routing::Full | Routing::Star => false,
-        }
+        matches!(self.routing(zone), Routing::Dijkstra)
     }
 
     /// Returns whether the zone has routes between points.
     fn has_routes(&self, zone: ZoneId) -> bool
         ensures { result ≡ not (is_routing Star (routing_in self.now zone)) }
     {
-        match self.routing(zone) {
-            Routing::Full | Routing::Dijkstra => true,
-            Routing::Star => false,
-        }
+        matches!(self.routing(zone), Routing::Full | Routing::Dijkstra)
     }
 
     /// Returns whether both are the same zone, and it has routes between points.
@@ -302,9 +280,7 @@ impl Zones {
         ensures { result
             ≡ option_map_or (λ above. above.0 == zone.0) (zone_above self.now child) false }
     {
-        match self.zone_above(child) {
-            Some(above) => above.0 == zone.0,
-            None => false,
-        }
+        self.zone_above(child)
+            .is_some_and(|above| above.0 == zone.0)
     }
 }

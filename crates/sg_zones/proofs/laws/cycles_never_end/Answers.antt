@@ -3,4 +3,4 @@ use Rattle.sg_zones.proofs.Cycles.{cycles_never_end}
 use Rattle.sg_zones.proofs.laws.cycles_never_end.Goals as goal
 
 pub returns : goal.returns
-returns c = cycles_never_end c.args.platform.now c.zones-zones.ensures.kept
+returns c = cycles_never_end c.args.platform.now c.rows_are_valid.ensures

@@ -3,7 +3,7 @@ use Rattle.sg_zones.proofs.Ups.{depth_by_steps_up, holds_by_steps_up}
 use Rattle.sg_zones.proofs.laws.tree_goes_up.Goals as goal
 
 pub returns-clause-holds : goal.returns-clause-holds
-returns-clause-holds c = holds_by_steps_up c.args.platform.now c.zones-zones.ensures.kept c.requires
+returns-clause-holds c = holds_by_steps_up c.args.sound.platform.now c.rows_are_valid.ensures c.args.sound.sound
 
 pub returns-clause-depth : goal.returns-clause-depth
-returns-clause-depth c = depth_by_steps_up c.args.platform.now c.requires
+returns-clause-depth c = depth_by_steps_up c.args.sound.platform.now c.args.sound.sound
