@@ -11,16 +11,17 @@ use std::alloc::Global;
 fn actor_row(
     alloc: Global,
     seed: u64,
-    actors: u32,
+    actors: u16,
     steps: u32,
-    row: u32,
+    row: u16,
 ) -> Result<ActorRow, Memory>
-    requires row { row < actors }
-    requires few { actors ≤ 4096 }
+    requires { row < actors }
     ensures { IfOk result (λ actor. actor ≡ ring_actor seed actors steps row) }
 {
+    let name = row_name(alloc, "a", row)?;
+    let (row, actors) = (u32::from(row), u32::from(actors));
     Ok(ActorRow {
-        name: row_name(alloc, "a", row)?,
+        name,
         host: PointId(row),
         function: Function::Churn {
             seed: seed.wrapping_add(u64::from(row + 1)),
@@ -32,8 +33,7 @@ fn actor_row(
     })
 }
 
-fn actor_rows(alloc: Global, seed: u64, actors: u32, steps: u32) -> Result<Vec<ActorRow>, Memory>
-    requires { actors ≤ 4096 }
+fn actor_rows(alloc: Global, seed: u64, actors: u16, steps: u32) -> Result<Vec<ActorRow>, Memory>
     ensures { IfOk result (λ made. made.items ≡ rows (ring_actor seed actors steps) actors) }
 {
     let mut made = Vec::new(alloc);
@@ -65,6 +65,6 @@ pub fn churn_deployment(
         (λ deployment. deployment ≡ deployed_of_seed seed actors steps) }
     ensures deployed { IfOk result (IsDeployedOn platform.now) }
 {
-    let rows = actor_rows(alloc, seed, actors, steps)?;
+    let rows = actor_rows(alloc, seed, actors as u16, steps)?;
     Deployment::of_rows(alloc, rows, platform)
 }

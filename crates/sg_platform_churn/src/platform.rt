@@ -36,8 +36,7 @@ fn backbone(alloc: Global) -> Result<LinkRow, Memory>
     })
 }
 
-fn host_row(alloc: Global, row: u32, speed: u64) -> Result<HostRow, Memory>
-    requires { row < 4096 }
+fn host_row(alloc: Global, row: u16, speed: u64) -> Result<HostRow, Memory>
     ensures { IfOk result (λ host. host ≡ record {
       id = churn_name (codes "h") row;
       zone = record { 0 = 0 };
@@ -55,8 +54,7 @@ fn host_row(alloc: Global, row: u32, speed: u64) -> Result<HostRow, Memory>
     })
 }
 
-fn link_row(alloc: Global, row: u32, bandwidth: u64, latency: u64) -> Result<LinkRow, Memory>
-    requires { row < 4096 }
+fn link_row(alloc: Global, row: u16, bandwidth: u64, latency: u64) -> Result<LinkRow, Memory>
     ensures { IfOk result (λ made.
         made ≡ link_with (churn_name (codes "l") row) bandwidth latency) }
 {
@@ -75,12 +73,11 @@ fn two_links(alloc: Global, first: LinkId, second: LinkId) -> Result<Links, Memo
     Ok(Links::from_vec(vec![in alloc; first, second]?))
 }
 
-fn spoke_row(alloc: Global, row: u32) -> Result<SpokeRow, Memory>
-    requires { row < 4096 }
+fn spoke_row(alloc: Global, row: u16) -> Result<SpokeRow, Memory>
     ensures { IfOk result (λ spoke. spoke ≡ spoke_of row) }
 {
-    let point = PointId(row);
-    let own = LinkId(row + 1);
+    let point = PointId(u32::from(row));
+    let own = LinkId(u32::from(row) + 1);
     Ok(SpokeRow {
         zone: ZONE,
         child: Child::Point(point),
@@ -98,8 +95,7 @@ struct Rows {
     spokes: Vec<SpokeRow>,
 }
 
-fn rows_of(alloc: Global, seed: u64, actors: u32) -> Result<Rows, Memory>
-    requires { actors ≤ 4096 }
+fn rows_of(alloc: Global, seed: u64, actors: u16) -> Result<Rows, Memory>
     ensures hosts { IfOk result (λ made. made.hosts.items ≡ rows (churn_host seed) actors) }
     ensures links { IfOk result (λ made. made.links.items
         ≡ link_with (codes "bb") 1000000000 1000 ∷ rows (link_of seed) actors) }
@@ -138,6 +134,6 @@ pub fn churn_platform(alloc: Global, seed: u64, actors: u32) -> Result<PlatformT
     ensures { IfOk result (λ platform. platform ≡ platform_of_seed seed actors) }
 {
     let zones = vec![in alloc; star(alloc)?]?;
-    let rows = rows_of(alloc, seed, actors)?;
+    let rows = rows_of(alloc, seed, actors as u16)?;
     PlatformText::of_rows(alloc, zones, rows.hosts, rows.links, rows.spokes)
 }
