@@ -158,20 +158,18 @@ fn add_steps(
     ensures { OnOk result (steps.new.items ≡ steps.old.items
         ++ path_routes_between zones.now local.now.pair.from local.now.pair.to local.now.links) }
 {
-    match (local.pair.from, local.pair.to) {
-        (Child::Point(from), Child::Point(to)) => match zones.routing(zones.home(from)) {
-            Routing::Dijkstra => {
-                steps.push(PathRoute {
-                    from: from.0,
-                    to: to.0,
-                    links: copy_of(alloc, &local.links)?,
-                })?;
-                Ok(())
-            }
-            Routing::Full | Routing::Star => Ok(()),
-        },
-        _ => Ok(()),
+    let (Child::Point(from), Child::Point(to)) = (local.pair.from, local.pair.to) else {
+        return Ok(());
+    };
+    if let Routing::Dijkstra = zones.routing(zones.home(from)) {
+        steps.push(PathRoute {
+            from: from.0,
+            to: to.0,
+            links: copy_of(alloc, &local.links)?,
+        })?;
+        return Ok(());
     }
+    Ok(())
 }
 
 /// Returns the routes over which paths go.
@@ -214,6 +212,7 @@ fn ways_of(
     requires rows { rows.items ≡ (roads_of platform.now).locals }
     ensures { IfOk result (λ ways. ways ≡ roads_of platform.now) }
 {
+    platform.rows_are_valid();
     let copies = copies_of(alloc, platform.spokes())?;
     let loopback = LinkId(ends.len() as u32 - 1);
     let locals = Locals::from_rows(alloc, rows)?;
@@ -238,6 +237,7 @@ impl Router {
         requires { zones.now ≡ zone_tree platform.now }
         ensures { IfOk result (λ router. router ≡ roads_of platform.now) }
     {
+        platform.rows_are_valid();
         let ends = link_ends(alloc, platform.links())?;
         let rows = locals_of(
             alloc,

@@ -7,5 +7,5 @@ use sg_platform_rows::PlatformText;
 pub fn routes_are_good(platform: &PlatformText)
     ensures { RoutesAreGood platform.now }
 {
-    let _zones = platform.zones();
+    platform.rows_are_valid();
 }

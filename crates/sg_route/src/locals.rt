@@ -1,4 +1,4 @@
-//! Declared local routes, found by their pair of children.
+//! Declared local routes, found by their pair of children. `of` is a match, as the prover learns more of it than of `?`.
 ghost use Rattle.std.specs.Prelude.{◌≡◌, IfOk};
 ghost use Rattle.std.specs.Option.{option_copied};
 ghost use Rattle.sg_route.specs.kept.Index.{IsIndexOfPairs, child_key, pair_key};

@@ -1,6 +1,5 @@
 //! The shortest path within a Dijkstra zone.
-ghost use Rattle.std.specs.Prelude.{◌≡◌};
-ghost use Rattle.sg_route.specs.kept.Kept.{path_way, KeepsWay};
+ghost use Rattle.sg_route.specs.kept.Kept.{path_way, Walks};
 ghost use Rattle.sg_route.specs.Route.{by_path};
 
 use crate::distinct_links::keep_all;
@@ -16,10 +15,10 @@ pub(crate) fn keep_path(
     links: &mut ArrayVec<LinkId, 64>,
     over: &mut bool,
 ) -> Result<(), Leg>
-    ensures keeps { KeepsWay (path_way leg (by_path paths.old.routes leg.from leg.to)) result
+    ensures { Walks (path_way leg (by_path paths.old.routes leg.from leg.to)) result
         (record { links = links.old.items; over = over.old })
-        (record { links = links.new.items; over = over.new }) }
-    ensures paths { paths.new ≡ paths.old }
+        (record { links = links.new.items; over = over.new })
+        paths.old paths.new }
 {
     match (leg.from, leg.to) {
         (Child::Point(from), Child::Point(to)) => {

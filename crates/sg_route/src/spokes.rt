@@ -1,4 +1,4 @@
-//! Spokes, found by their child.
+//! Spokes, found by their child. `of` is a match, as the prover learns more of it than of `?`.
 ghost use Rattle.std.specs.Prelude.{◌≡◌, ◌==◌, ◌≤◌, ℕ, None, Some, IfOk, OnOk, if◌then◌else◌, length, slice_index_or};
 ghost use Rattle.std.specs.Option.{option_copied};
 ghost use Rattle.sg_base.specs.declared.ids.Child.{Child as ChildSpec};
@@ -44,10 +44,7 @@ fn grow(rows: &mut Vec<Option<usize>>, n: usize) -> Result<(), Memory>
     ensures long { OnOk result (n ≤ length rows.new.items) }
 {
     for _number in rows.len()..n {
-        match rows.push(None) {
-            Ok(()) => {}
-            Err(_) => return Err(Memory),
-        }
+        rows.push(None)?;
     }
     Ok(())
 }
@@ -56,10 +53,7 @@ fn grow(rows: &mut Vec<Option<usize>>, n: usize) -> Result<(), Memory>
 fn row_under(rows: &[Option<usize>], number: u32) -> Option<usize>
     ensures { result ≡ slice_index_or rows.now number None }
 {
-    match rows.get(number as usize) {
-        Some(row) => *row,
-        None => None,
-    }
+    *rows.get(number as usize)?
 }
 
 // Puts a row under a number.

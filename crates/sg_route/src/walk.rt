@@ -1,6 +1,6 @@
 //! The walk along a route.
 ghost use Rattle.std.specs.Prelude.{◌≡◌};
-ghost use Rattle.sg_route.specs.kept.Kept.{KeepsWay};
+ghost use Rattle.sg_route.specs.kept.Kept.{Walks};
 ghost use Rattle.sg_route.specs.Route.{unless_there, way, whole_way};
 ghost use Rattle.sg_route.specs.PathRoutes.{net_of};
 
@@ -30,10 +30,10 @@ fn walk(
     over: &mut bool,
 ) -> Result<(), Leg>
     requires { paths.old ≡ net_of ways.now }
-    ensures keeps { KeepsWay (unless_there (way levels ways.now) trip.from trip.to) result
+    ensures { Walks (unless_there (way levels ways.now) trip.from trip.to) result
         (record { links = links.old.items; over = over.old })
-        (record { links = links.new.items; over = over.new }) }
-    ensures paths { paths.new ≡ paths.old }
+        (record { links = links.new.items; over = over.new })
+        paths.old paths.new }
 {
     if trip.from.0 == trip.to.0 {
         return Ok(());
@@ -73,10 +73,10 @@ pub(crate) fn keep_whole(
     over: &mut bool,
 ) -> Result<(), Leg>
     requires { paths.old ≡ net_of ways.now }
-    ensures keeps { KeepsWay (whole_way ways.now trip.from trip.to) result
+    ensures { Walks (whole_way ways.now trip.from trip.to) result
         (record { links = links.old.items; over = over.old })
-        (record { links = links.new.items; over = over.new }) }
-    ensures paths { paths.new ≡ paths.old }
+        (record { links = links.new.items; over = over.new })
+        paths.old paths.new }
 {
     if trip.from.0 == trip.to.0 {
         ways.keep_to_itself(trip.from, links, over);

@@ -83,28 +83,24 @@ impl Ways {
                     from: leg.from,
                     to: leg.to,
                 };
-                match self.locals.of(pair) {
-                    Some(local) => Some(Found {
-                        start: local.start,
-                        end: local.end,
-                        up: local.links.as_slice(),
-                        down: &[],
-                    }),
-                    None => None,
-                }
+                let local = self.locals.of(pair)?;
+                Some(Found {
+                    start: local.start,
+                    end: local.end,
+                    up: local.links.as_slice(),
+                    down: &[],
+                })
             }
-            Routing::Star => match self.spokes.of(leg.from) {
-                Some(spoke) => match self.spokes.of(leg.to) {
-                    Some(other) => Some(Found {
-                        start: spoke.gateway,
-                        end: other.gateway,
-                        up: spoke.up.as_slice(),
-                        down: other.down.as_slice(),
-                    }),
-                    None => None,
-                },
-                None => None,
-            },
+            Routing::Star => {
+                let spoke = self.spokes.of(leg.from)?;
+                let other = self.spokes.of(leg.to)?;
+                Some(Found {
+                    start: spoke.gateway,
+                    end: other.gateway,
+                    up: spoke.up.as_slice(),
+                    down: other.down.as_slice(),
+                })
+            }
             Routing::Dijkstra => None,
         }
     }
@@ -144,10 +140,7 @@ impl Ways {
     fn latency_of(&self, link: LinkId) -> u64
         ensures { result ≡ latency_of self.now link }
     {
-        match self.ends.get(link.0 as usize) {
-            Some(end) => end.latency,
-            None => 0,
-        }
+        self.ends.get(link.0 as usize).map_or(0, |end| end.latency)
     }
 
     /// Returns the sum of the latencies of these links.
