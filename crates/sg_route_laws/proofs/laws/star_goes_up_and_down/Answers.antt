@@ -4,4 +4,4 @@ use Rattle.sg_route_laws.proofs.StarWays.{star_goes_up_and_down}
 use Rattle.sg_route_laws.proofs.laws.star_goes_up_and_down.Goals as goal
 
 pub returns : goal.returns
-returns c = star_goes_up_and_down c.args.platform.now (good_from c.args.platform.now c.zones-zones.ensures.kept c.requires)
+returns c = star_goes_up_and_down c.args.sound.platform.now (good_from c.args.sound.platform.now c.rows_are_valid.ensures c.args.sound.sound)
