@@ -5,8 +5,7 @@
 //! It stands on `sg_platform` and `sg_route`.
 #![tactic(auto)]
 
-ghost use Rattle.std.specs.Prelude.{◌≡◌, ◌<◌};
-ghost use Rattle.sg_zones.specs.Tree.{zone_tree};
+ghost use Rattle.std.specs.Prelude.{◌<◌};
 
 use anyhow::{Context, bail};
 use arrayvec::ArrayVec;
@@ -66,21 +65,13 @@ fn ask(router: &mut Router, hosts: u64, load: Load) -> (u64, u64)
     (routes, all)
 }
 
-/// Does the same for the router of a platform, if there is memory for it.
-fn ask_all(
-    alloc: Global,
-    platform: &PlatformText,
-    zones: &Zones,
-    hosts: u64,
-    load: Load,
-) -> Option<(u64, u64)>
-    requires some { 0 < hosts }
-    requires zones { zones.now ≡ zone_tree platform.now }
-{
-    match Router::build(alloc, platform, zones) {
-        Ok(mut router) => Some(ask(&mut router, hosts, load)),
-        Err(_) => None,
-    }
+/// Makes the router of a platform.
+fn router_of(alloc: Global, platform: &PlatformText) -> anyhow::Result<Router> {
+    let zones = Zones::build(alloc, platform)?;
+    let Ok(router) = Router::build(alloc, platform, &zones) else {
+        bail!("out of memory");
+    };
+    Ok(router)
 }
 
 fn main(rt: HostRuntime) -> anyhow::Result<()> {
@@ -95,14 +86,12 @@ fn main(rt: HostRuntime) -> anyhow::Result<()> {
     };
     let text = fs::read_to_string(&rt, path.as_str())?;
     let platform = read_platform(alloc, text.as_bytes())?;
-    let zones = Zones::build(alloc, &platform)?;
+    let mut router = router_of(alloc, &platform)?;
     let hosts = platform.hosts().len() as u64;
     if hosts == 0 {
         bail!("no host");
     }
-    let Some((routes, all)) = ask_all(alloc, &platform, &zones, hosts, Load { count, pairs }) else {
-        bail!("out of memory");
-    };
+    let (routes, all) = ask(&mut router, hosts, Load { count, pairs });
     println!(rt; "{routes} routes, {all} links")?;
     Ok(())
 }
