@@ -31,18 +31,17 @@ use Rattle.sg_kernel_calls.specs.Kills.{awaited, gives_up, gives_up_by, kill_don
 use Rattle.sg_kernel_calls.specs.Calls.{answered, answered_call, computes}
 use Rattle.sg_kernel_calls.specs.kept.Acts.{CanCome, CanMake, CanName, CountsOne, Replies}
 use Rattle.sg_kernel_calls.specs.kept.Asks.{CanAnswer}
-use Rattle.sg_kernel_calls.specs.kept.Sound.{comes_in, core_of, known_of, setup_in}
+use Rattle.sg_kernel_calls.specs.kept.Sound.{comes_in, core_of, known_of}
 use Rattle.sg_kernel_calls.specs.kept.Whole.{CanStep, IsWhole}
 use Rattle.sg_kernel_calls.proofs.Each.{both_on, each_on}
 use Rattle.sg_kernel_calls.proofs.Finishes.{finishes_goes}
-use Rattle.sg_kernel_calls.proofs.Limits.{homes_counted}
 use Rattle.sg_kernel_calls.proofs.Moves.{can_step}
 use Rattle.sg_kernel_calls.proofs.Replied.{counted_replies}
 use Rattle.sg_kernel_calls.proofs.Woken.{all_on, caller_goes}
 
 -- an actor that is named by a call exists
-pub can_name : (fields : Fields) (actor : ℕ) (target : ActorId) → CanStep fields actor → IsActorIn (extent (setup_in fields)) target → CanName fields actor target.0
-can_name fields actor target able is = record { able = able; target = record { from = is.0; to = omega (arith, is.1, homes_counted fields able.whole.sound) } }
+pub can_name : (fields : Fields) (actor : ℕ) (target : ActorId) → CanStep fields actor → IsActorIn (extent fields.setup) target → CanName fields actor target.0
+can_name fields actor target able is = record { able = able; target = record { from = is.0; to = omega (arith, is.1, able.whole.sound.homes_known) } }
 
 -- ---- an endpoint arrives by a call of its actor
 side_comes : (fields : Fields) (one : Comer) → CanAnswer fields one.side.actor.0 one.what → HasLine one.what → IsAmount one.side.bytes → IsMsg one.side.msg → IsRate one.side.rate → CanCome fields one
@@ -50,7 +49,7 @@ side_comes fields one can told bytes message rate = record {
   call = record { caller = can.caller; room = can.room; round = can.whole.round };
   comer = record {
     what = record { told = told; call = can.call };
-    side = record { actor = (can.caller.from, omega (arith, can.caller.to, homes_counted fields can.whole.sound)); bytes = bytes; message = message; rate = rate };
+    side = record { actor = (can.caller.from, omega (arith, can.caller.to, can.whole.sound.homes_known)); bytes = bytes; message = message; rate = rate };
   };
   whole = can.whole;
 }
@@ -103,16 +102,16 @@ comes_by_call roads setup core actor (call.Resume n) comer e = absurd (cc e)
 comes_by_call roads setup core actor call.Yield comer e = absurd (cc e)
 comes_by_call roads setup core actor call.Exit comer e = absurd (cc e)
 
-pub comer_replies : (roads : Roads) (old new : Fields) (actor : ℕ) (what : Call) (comer : Comer) (reply : Result Unit Stop) → comer_of actor what ≡ Some comer → Replies (comes_in roads comer old) old new reply → Replies (answered roads (setup_in old) (core_of old) actor what) old new reply
+pub comer_replies : (roads : Roads) (old new : Fields) (actor : ℕ) (what : Call) (comer : Comer) (reply : Result Unit Stop) → comer_of actor what ≡ Some comer → Replies (comes_in roads comer old) old new reply → Replies (answered roads old.setup (core_of old) actor what) old new reply
 comer_replies roads old new actor what comer reply is does =
-    subst (λ (step : Step). Replies (unless_used old.budget (core_of old) step) old new reply) (sym (comes_by_call roads (setup_in old) (core_of old) actor what comer is)) does
+    subst (λ (step : Step). Replies (unless_used old.setup.budget (core_of old) step) old new reply) (sym (comes_by_call roads old.setup (core_of old) actor what comer is)) does
 
 -- ---- any other call continues
 first_goes : (done : Done) (actor : ℕ) (what : Call) (core : Core) → (caller_first done actor what core).stop ≡ None
-first_goes done actor what core = both_on (caller_gets done.outcome actor what (with_objects done core)) (all_wake done.after.others) (caller_goes done.outcome actor what (with_objects done core)) (all_on done.after.others)
+first_goes done actor what core = both_on (caller_gets done.outcome actor what (with_objects done core)) (all_wake done.woken) (caller_goes done.outcome actor what (with_objects done core)) (all_on done.woken)
 
 last_goes : (done : Done) (actor : ℕ) (what : Call) (core : Core) → (caller_last done actor what core).stop ≡ None
-last_goes done actor what core = both_on (all_wake done.after.others (with_objects done core)) (caller_gets done.outcome actor what) (all_on done.after.others (with_objects done core)) (caller_goes done.outcome actor what)
+last_goes done actor what core = both_on (all_wake done.woken (with_objects done core)) (caller_gets done.outcome actor what) (all_on done.woken (with_objects done core)) (caller_goes done.outcome actor what)
 
 waits_on : (over : Option Answer) (actor : ℕ) (on : Await) (core : Core) → (waits_until over actor on core).stop ≡ None
 waits_on None actor on core = refl
@@ -200,9 +199,9 @@ can_make old mid actor one what is counts can =
     subst (CanMake mid actor) is (subst (λ (fields : Fields). CanMake fields actor one) (sym counts.counted) (record { able = can_step old actor can.whole can.caller can.room counts.left; call = can.call }))
 
 -- a call that brings no endpoint, by its row
-pub row_replies : (roads : Roads) (old mid new : Fields) (actor : ℕ) (one what : Call) (does : Setup → Core → Step) → one ≡ what → CountsOne old mid → comer_of actor what ≡ None → answered_call roads (setup_in old) (core_of old) actor what ≡ does (setup_in old) (counted (core_of old)) →
-    known_of new ≡ after_call true (does (setup_in mid) (core_of mid)) (known_of mid) → IsWhole new → Replies (answered roads (setup_in old) (core_of old) actor one) old new (Ok tt)
+pub row_replies : (roads : Roads) (old mid new : Fields) (actor : ℕ) (one what : Call) (does : Setup → Core → Step) → one ≡ what → CountsOne old mid → comer_of actor what ≡ None → answered_call roads old.setup (core_of old) actor what ≡ does old.setup (counted (core_of old)) →
+    known_of new ≡ after_call true (does mid.setup (core_of mid)) (known_of mid) → IsWhole new → Replies (answered roads old.setup (core_of old) actor one) old new (Ok tt)
 row_replies roads old mid new actor one what does is counts alone row known whole =
-    let step = answered_call roads (setup_in old) (core_of old) actor what in
-    subst (λ (w : Call). Replies (answered roads (setup_in old) (core_of old) actor w) old new (Ok tt)) (sym is)
-    (counted_replies old mid new step does counts row (sym (ap (λ (s : Step). s.stop) row) ∙ alone_goes roads (setup_in old) (core_of old) actor what alone) (record { known = known; whole = whole }))
+    let step = answered_call roads old.setup (core_of old) actor what in
+    subst (λ (w : Call). Replies (answered roads old.setup (core_of old) actor w) old new (Ok tt)) (sym is)
+    (counted_replies old mid new step does counts row (sym (ap (λ (s : Step). s.stop) row) ∙ alone_goes roads old.setup (core_of old) actor what alone) (record { known = known; whole = whole }))

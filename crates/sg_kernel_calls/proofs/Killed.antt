@@ -27,6 +27,7 @@ use Rattle.sg_actor_states.specs.Records.{record_of, IsTellable}
 use Rattle.sg_actor_states.specs.States.{ActorStates, CanCall, by_call, with_reply, with_state}
 use Rattle.sg_sync.specs.Objects as sync
 use Rattle.sg_sync.specs.Objects.{Objects}
+use Rattle.sg_sync.specs.Sync.{SyncState}
 use Rattle.sg_sync.specs.Queues.{without}
 use Rattle.sg_sync.proofs.Counts.{id_same}
 use Rattle.sg_sync.proofs.Leaving.{times_stays, waits_nowhere, waits_stays}
@@ -42,12 +43,11 @@ use Rattle.sg_kernel_calls.specs.Steps.{Step, goes_on, follows, and_then, each, 
 use Rattle.sg_kernel_calls.specs.World.{Core, IsActor, extent, state_of, whose_at}
 use Rattle.sg_kernel_calls.specs.kept.Killing.{killed_by, AreSerials}
 use Rattle.sg_mailbox.specs.Owners.{Owned}
-use Rattle.sg_kernel_calls.specs.kept.Sound.{core_of, is_idle, is_posted, is_queued, known_of, setup_in, AwaitsMade, IsMade, IsOwner, IsSound}
+use Rattle.sg_kernel_calls.specs.kept.Sound.{core_of, is_idle, is_posted, is_queued, known_of, AwaitsMade, IsMade, IsOwner, IsSound}
 use Rattle.sg_kernel_calls.specs.kept.Whole.{CanStep, IsWhole, IsWholeFor}
 use Rattle.sg_kernel_calls.proofs.Alone.{gives_up_goes, kill_done_goes}
 use Rattle.sg_kernel_calls.proofs.Begins.{held_with, sound_with}
 use Rattle.sg_kernel_calls.proofs.Each.{all_of-two, each_on, eq_no, eq_yes, still_none, still_one, then_after}
-use Rattle.sg_kernel_calls.proofs.Limits.{homes_counted}
 use Rattle.sg_kernel_calls.proofs.Meets.{AreBusy, AreIdle, busy_over, idle_over, made_at, made_more, AreMade}
 use Rattle.sg_kernel_calls.proofs.Moves.{moves_long, sound_moved, whole_moved, Moves}
 use Rattle.sg_kernel_calls.proofs.PostsKept.{meeting_gone}
@@ -145,7 +145,7 @@ pub whole_posted : (fields : Fields) (room : ℕ) (serial : Serial) (whose : Own
     → ((mailbox : BoxId) → waiters boxes mailbox ≡ mail.posts_without serial (waiters fields.boxes mailbox)) → boxes.room ≡ fields.boxes.room → IsWholeFor room fields → IsWholeFor room (record fields { whose = whose; boxes = boxes })
 whole_posted fields room serial whose boxes from none owned gone same was =
     let place = serial.0 - 1 in
-    let e = extent (setup_in fields) in
+    let e = extent fields.setup in
     let owners = ap (λ (o : Owned). o.whose) owned in
     let many = ap length owners ∙ length-set fields.whose.whose place (Over how.Failed) in
     let more : length fields.whose.whose ≤ length whose.whose = omega (arith, many) in
@@ -197,7 +197,7 @@ whole_failed fields room serial whose doing busy owned gone was =
     let tasks = ap (λ (d : Doing). d.under.tasks) gone in
     let long = ap length tasks ∙ length-set fields.doing.under.tasks (serial - 1) None in
     let many = ap length owners ∙ length-set fields.whose.whose (serial - 1) (Over how.Failed) in
-    let e = extent (setup_in fields) in
+    let e = extent fields.setup in
     let task = some_task (task_at fields.doing.under.tasks serial) (was.meeting.busy (serial - 1) busy) in
     record {
       sound = sound_with fields doing whose fields.boxes (many ∙ was.sound.numbered ∙ sym long) (omega (arith, was.sound.few, long)) (ap (λ (d : Doing). d.under.capacities) gone) was.sound;
@@ -282,14 +282,14 @@ waits_no_more o target other some same =
     omega (arith, some, none)
 
 -- it waits nowhere any more, and has no requests
-pub whole_withdrawn : (fields : Fields) (states : ActorStates) (target : ActorId) (requests : Requested) (objects : Objects) → 0 < target.0 → Moves fields.states states target.0 Ended → states.room ≤ fields.states.room
-    → requests ≡ record fields.requests { queues = without_requests fields.requests.queues target.0; awaited = requests.awaited } → objects ≡ sync.after_withdrawal target fields.objects → IsWhole fields → IsWhole (record fields { states = states; requests = requests; objects = objects })
+pub whole_withdrawn : (fields : Fields) (states : ActorStates) (target : ActorId) (requests : Requested) (objects : SyncState) → 0 < target.0 → Moves fields.states states target.0 Ended → states.room ≤ fields.states.room
+    → requests ≡ record fields.requests { queues = without_requests fields.requests.queues target.0; awaited = requests.awaited } → objects.objects ≡ sync.after_withdrawal target fields.objects.objects → IsWhole fields → IsWhole (record fields { states = states; requests = requests; objects = objects })
 whole_withdrawn fields states target requests objects from moves le asked left was =
     let sound = sound_moved fields states target.0 Ended moves was.sound in
     let queues = ap (λ (r : Requested). r.queues) asked in
     let n = length fields.whose.whose in
     let held = was.held in
-    let waits : (other : ActorId) → sync.waiting objects other ≡ sync.waiting (sync.after_withdrawal target fields.objects) other = λ other. ap (λ o. sync.waiting o other) left in
+    let waits : (other : ActorId) → sync.waiting objects.objects other ≡ sync.waiting (sync.after_withdrawal target fields.objects.objects) other = λ other. ap (λ o. sync.waiting o other) left in
     record {
       sound = record {
         numbered = sound.numbered;
@@ -299,11 +299,9 @@ whole_withdrawn fields states target requests objects from moves le asked left w
         hosts_counted = sound.hosts_counted;
         links_counted = sound.links_counted;
         homes_known = sound.homes_known;
-        hosts_known = sound.hosts_known;
         requests_known = ap length queues ∙ length-set fields.requests.queues (target.0 - 1) [] ∙ sound.requests_known;
         requests_few = omega (arith, sound.requests_few, ap (λ (r : Requested). r.asked) asked);
         extent_is = sound.extent_is;
-        network_kept = sound.network_kept;
       };
       roomy = record {
         starts = omega (arith, le, was.roomy.starts);
@@ -327,22 +325,22 @@ whole_withdrawn fields states target requests objects from moves le asked left w
         actors = ap (λ (o : Objects). o.actors) left ∙ held.actors ∙ sym (moves_long fields.states states target.0 Ended moves);
         few = subst (All (λ count. count ≤ 10 ^ 9 + fields.events)) (sym (ap (λ (o : Objects). o.counts) left)) held.few;
         once = λ other. elim (cases_eq other.0 target.0) [
-          | inl same ↦ omega (arith, waits other, ap (sync.waiting (sync.after_withdrawal target fields.objects)) (id_same other target same), waits_nowhere fields.objects target)
-          | inr apart ↦ omega (arith, waits other, others_wait fields.objects target other apart, held.once other)
+          | inl same ↦ omega (arith, waits other, ap (sync.waiting (sync.after_withdrawal target fields.objects.objects)) (id_same other target same), waits_nowhere fields.objects.objects target)
+          | inr apart ↦ omega (arith, waits other, others_wait fields.objects.objects target other apart, held.once other)
         ];
         held = λ other some.
-            let apart = waits_no_more fields.objects target other (omega (arith, some, waits other)) in
-            let old = held.held other (omega (arith, some, waits other, others_wait fields.objects target other apart)) in
+            let apart = waits_no_more fields.objects.objects target other (omega (arith, some, waits other)) in
+            let old = held.held other (omega (arith, some, waits other, others_wait fields.objects.objects target other apart)) in
             (old.0, subst (λ (xs : List Actor). IsTrue (is_queued (state_at xs other.0))) (sym moves.actors) (still_held fields.states.actors target other Ended from old.0.0 apart old.1));
-        locking = ap (λ (o : Objects). length o.locking) left ∙ length-map fields.objects.locking (without target) ∙ held.locking;
-        acquiring = ap (λ (o : Objects). length o.acquiring) left ∙ length-map fields.objects.acquiring (without target) ∙ held.acquiring;
+        locking = ap (λ (o : Objects). length o.locking) left ∙ length-map fields.objects.objects.locking (without target) ∙ held.locking;
+        acquiring = ap (λ (o : Objects). length o.acquiring) left ∙ length-map fields.objects.objects.acquiring (without target) ∙ held.acquiring;
       };
       round = moves.passing ∙ was.round;
     }
 
 -- a record may name the kill
-pub kill_told : (fields : Fields) (target : ActorId) → IsSound fields → IsActor (core_of fields) target.0 → IsTellable (extent (setup_in fields)) (call.Kill target)
-kill_told fields target sound is = record { told = tt; call = (is.from, omega (arith, is.to, homes_counted fields sound)) }
+pub kill_told : (fields : Fields) (target : ActorId) → IsSound fields → IsActor (core_of fields) target.0 → IsTellable (extent fields.setup) (call.Kill target)
+kill_told fields target sound is = record { told = tt; call = (is.from, omega (arith, is.to, sound.homes_known)) }
 
 -- what is known once the caller is answered, or is the one that ends
 pub killed_known : (known : Known) (core : Core) (actor : ℕ) (target : ActorId) (old new : ActorStates) (date : ℕ) → new ≡ killed_by actor target date old → core.actors ≡ old.actors → core.under.date ≡ date → known.records ≡ old.records
@@ -372,8 +370,8 @@ killed_room old new actor target date is = ap (λ (s : ActorStates). s.room) is 
     by false = refl
 
 -- all that holds before holds after
-pub whole_killed : (fields : Fields) (states : ActorStates) (actor : ℕ) (target : ActorId) (date : ℕ) (requests : Requested) (objects : Objects) → CanStep fields actor → IsActor (core_of fields) target.0 → states ≡ killed_by actor target date fields.states
-    → requests ≡ record fields.requests { queues = without_requests fields.requests.queues target.0; awaited = requests.awaited } → objects ≡ sync.after_withdrawal target fields.objects → IsWhole (record fields { states = states; requests = requests; objects = objects })
+pub whole_killed : (fields : Fields) (states : ActorStates) (actor : ℕ) (target : ActorId) (date : ℕ) (requests : Requested) (objects : SyncState) → CanStep fields actor → IsActor (core_of fields) target.0 → states ≡ killed_by actor target date fields.states
+    → requests ≡ record fields.requests { queues = without_requests fields.requests.queues target.0; awaited = requests.awaited } → objects.objects ≡ sync.after_withdrawal target fields.objects.objects → IsWhole (record fields { states = states; requests = requests; objects = objects })
 whole_killed fields states actor target date requests objects able there is asked left = by (actor == target.0) refl is
   where
     old : ActorStates

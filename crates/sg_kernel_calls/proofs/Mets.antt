@@ -20,7 +20,7 @@ use Rattle.sg_mailbox.specs.declared.owners.Whose.TheVariants.{Over, Posted}
 use Rattle.sg_kernel_calls.specs.Meetings.{comes, comes_by, joins_over, posted, posts_from, receiver_of, route_between, sender_of, takes_part}
 use Rattle.sg_kernel_calls.specs.Steps.{counted}
 use Rattle.sg_kernel_calls.specs.World.{Core, extent}
-use Rattle.sg_kernel_calls.specs.kept.Sound.{core_of, setup_in, is_idle, IsSide, IsOwner, IsSound, AreLimited, AreMeeting}
+use Rattle.sg_kernel_calls.specs.kept.Sound.{core_of, is_idle, IsSide, IsOwner, IsSound, AreLimited, AreMeeting}
 use Rattle.sg_kernel_calls.proofs.Postings.{FoundAt, found_post, posts_below}
 
 -- all that wait have lower ids than the next one
@@ -40,7 +40,7 @@ pub record IsMet (fields : Fields) (comer : Comer) (serial : Serial) (other : Si
   pub from : 0 < serial.0
   pub to : serial.0 ≤ length fields.whose.whose
   pub idle : get_or fields.doing.under.tasks (serial.0 - 1) None ≡ None
-  pub limited : IsSide (extent (setup_in fields)) other
+  pub limited : IsSide (extent fields.setup) other
 
 some_same : {X : Type 0} {x y : X} → Some x ≡ Some y → x ≡ y
 some_same e = cc e
@@ -68,7 +68,7 @@ is_met fields comer serial other is limited meeting = go (partner comer.sends (w
           from = omega (arith, at.from, number);
           to = omega (arith, at.to, number);
           idle = meeting.idle (serial.0 - 1) (ap is_idle posted);
-          limited = subst (IsSide (extent (setup_in fields))) sides (subst (IsOwner (extent (setup_in fields))) at.is (limited (p.serial.0 - 1) (Over how.Done) place));
+          limited = subst (IsSide (extent fields.setup)) sides (subst (IsOwner (extent fields.setup)) at.is (limited (p.serial.0 - 1) (Over how.Done) place));
         }
 
 -- both endpoints keep to their limits, whichever arrived
@@ -94,10 +94,10 @@ takes_part_on true comer serial core = refl
 takes_part_on false comer serial core = refl
 
 -- with an endpoint's match and the route between both, what follows is known
-pub comes_met : (fields : Fields) (roads : Roads) (comer : Comer) (serial : Serial) (other : Side) (r : Result Route RouteFault) (m : IsMet fields comer serial other) → AreMeeting fields → route_between roads (setup_in fields) (sender_of comer other) (receiver_of comer other) ≡ r →
-    comes roads (setup_in fields) comer (core_of fields) ≡ joins_over r (setup_in fields) comer (record { serial = serial; sends = m.post.sends; side = other }) (core_of fields)
+pub comes_met : (fields : Fields) (roads : Roads) (comer : Comer) (serial : Serial) (other : Side) (r : Result Route RouteFault) (m : IsMet fields comer serial other) → AreMeeting fields → route_between roads fields.setup (sender_of comer other) (receiver_of comer other) ≡ r →
+    comes roads fields.setup comer (core_of fields) ≡ joins_over r fields.setup comer (record { serial = serial; sends = m.post.sends; side = other }) (core_of fields)
 comes_met fields roads comer serial other r m meeting way =
-    let setup = setup_in fields in
+    let setup = fields.setup in
     let core = core_of fields in
     let found : partner comer.sends (posts_from comer.mailbox 1 fields.whose.whose) ≡ Some m.post = ap (partner comer.sends) (sym (meeting.posts comer.mailbox)) ∙ m.found in
     let post : m.post ≡ record { serial = serial; sends = m.post.sends; side = other } = ap₂ (λ (s : Serial) (d : Side). record { serial = s; sends = m.post.sends; side = d }) m.serial_is m.side_is in
@@ -105,5 +105,5 @@ comes_met fields roads comer serial other r m meeting way =
     ∙ ap (λ w. joins_over w setup comer (record { serial = serial; sends = m.post.sends; side = other }) core) way
 
 -- without one, it is posted
-pub comes_alone : (fields : Fields) (roads : Roads) (comer : Comer) → partner comer.sends (waiters fields.boxes comer.mailbox) ≡ None → AreMeeting fields → comes roads (setup_in fields) comer (core_of fields) ≡ takes_part comer.waits comer (length fields.doing.under.tasks + 1) (posted comer (counted (core_of fields)))
-comes_alone fields roads comer alone meeting = ap (λ o. comes_by o roads (setup_in fields) comer (core_of fields)) (ap (partner comer.sends) (sym (meeting.posts comer.mailbox)) ∙ alone)
+pub comes_alone : (fields : Fields) (roads : Roads) (comer : Comer) → partner comer.sends (waiters fields.boxes comer.mailbox) ≡ None → AreMeeting fields → comes roads fields.setup comer (core_of fields) ≡ takes_part comer.waits comer (length fields.doing.under.tasks + 1) (posted comer (counted (core_of fields)))
+comes_alone fields roads comer alone meeting = ap (λ o. comes_by o roads fields.setup comer (core_of fields)) (ap (partner comer.sends) (sym (meeting.posts comer.mailbox)) ∙ alone)

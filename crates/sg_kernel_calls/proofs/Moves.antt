@@ -11,15 +11,15 @@ use Rattle.sg_actor_states.specs.declared.state.State.TheVariants.{Unstarted, Re
 use Rattle.sg_actor_states.specs.declared.state.Actor.{Actor}
 use Rattle.sg_actor_states.specs.Actors.{actor_at, blocking_in, is_answered, put_state, state_at, IsActor, MayCall}
 use Rattle.sg_actor_states.specs.States.{ActorStates, CanCall, by_call, with_reply}
-use Rattle.sg_sync.specs.Objects.{Objects, waiting}
+use Rattle.sg_sync.specs.Objects.{waiting}
+use Rattle.sg_sync.specs.Sync.{SyncState}
 use Rattle.sg_sync.specs.Queues.{times}
 use Rattle.sg_sync.proofs.Counts.{one_other, one_same, times_cons}
 use Rattle.sg_kernel_calls.specs.declared.simulation_state.Fields.{Fields}
 use Rattle.sg_kernel_calls.specs.World.{extent}
-use Rattle.sg_kernel_calls.specs.kept.Sound.{is_queued, setup_in, AreHeld, AreMeeting, AwaitsMade, HasRoom, IsSound}
+use Rattle.sg_kernel_calls.specs.kept.Sound.{is_queued, AreHeld, AreMeeting, AwaitsMade, HasRoom, IsSound}
 use Rattle.sg_kernel_calls.specs.kept.Waking.{AreWaking, LeavesCallers}
 use Rattle.sg_kernel_calls.specs.kept.Whole.{CanConclude, CanStep, IsPassing, IsSteady, IsWhole, IsWholeFor, KeepsWhole}
-use Rattle.sg_kernel_calls.proofs.Limits.{homes_counted}
 use Rattle.sg_kernel_calls.proofs.Stated.{awaiting_state, state_other, state_same, AreAwaiting}
 use Rattle.sg_kernel_calls.proofs.Suspending.{whole_less}
 use Rattle.sg_kernel_calls.proofs.Waiting.{others_held, still_held}
@@ -59,11 +59,9 @@ sound_moved fields states actor state moves was =
       hosts_counted = was.hosts_counted;
       links_counted = was.links_counted;
       homes_known = was.homes_known ∙ sym long;
-      hosts_known = was.hosts_known;
       requests_known = was.requests_known ∙ sym long;
       requests_few = was.requests_few;
       extent_is = moves.extent ∙ was.extent_is;
-      network_kept = was.network_kept;
     }
 
 pub roomy_less : (fields : Fields) (states : ActorStates) (room less : ℕ) → less ≤ room → HasRoom room fields → HasRoom less (record fields { states = states })
@@ -123,7 +121,7 @@ steady_moved fields states actor state free moves le was = record {
 }
 
 -- ---- an event is counted
-pub sound_counted : (fields : Fields) → fields.events ≢ fields.budget → IsSound fields → IsSound (record fields { events = fields.events + 1 })
+pub sound_counted : (fields : Fields) → fields.events ≢ fields.setup.budget → IsSound fields → IsSound (record fields { events = fields.events + 1 })
 sound_counted fields left was = record {
   numbered = was.numbered;
   few = omega (arith, was.few);
@@ -132,11 +130,9 @@ sound_counted fields left was = record {
   hosts_counted = was.hosts_counted;
   links_counted = was.links_counted;
   homes_known = was.homes_known;
-  hosts_known = was.hosts_known;
   requests_known = was.requests_known;
   requests_few = omega (arith, was.requests_few);
   extent_is = was.extent_is;
-  network_kept = was.network_kept;
 }
 
 pub held_counted : (fields : Fields) → AreHeld fields → AreHeld (record fields { events = fields.events + 1 })
@@ -158,7 +154,7 @@ roomy_counted : (fields : Fields) (room : ℕ) → HasRoom room fields → HasRo
 roomy_counted fields room was = record { starts = was.starts; owners = was.owners; mailboxes = was.mailboxes; requests = was.requests }
 
 -- by a call
-pub whole_counted : (fields : Fields) → fields.events ≢ fields.budget → IsWhole fields → IsWhole (record fields { events = fields.events + 1 })
+pub whole_counted : (fields : Fields) → fields.events ≢ fields.setup.budget → IsWhole fields → IsWhole (record fields { events = fields.events + 1 })
 whole_counted fields left was = record {
   sound = sound_counted fields left was.sound;
   roomy = roomy_counted fields fields.states.room was.roomy;
@@ -171,7 +167,7 @@ whole_counted fields left was = record {
 }
 
 -- or in a time advance
-pub passing_counted : (fields : Fields) → fields.events ≢ fields.budget → IsPassing fields → IsPassing (record fields { events = fields.events + 1 })
+pub passing_counted : (fields : Fields) → fields.events ≢ fields.setup.budget → IsPassing fields → IsPassing (record fields { events = fields.events + 1 })
 passing_counted fields left was = record {
   sound = sound_counted fields left was.sound;
   roomy = roomy_counted fields fields.states.room was.roomy;
@@ -184,7 +180,7 @@ passing_counted fields left was = record {
 }
 
 -- its call can then be answered
-pub can_call : (fields : Fields) (actor : ℕ) → IsWhole fields → CanCall fields.states actor → fields.events ≢ fields.budget → CanStep (record fields { events = fields.events + 1 }) actor
+pub can_call : (fields : Fields) (actor : ℕ) → IsWhole fields → CanCall fields.states actor → fields.events ≢ fields.setup.budget → CanStep (record fields { events = fields.events + 1 }) actor
 can_call fields actor whole call left = record {
   whole = whole_counted fields left whole;
   call = call;
@@ -192,7 +188,7 @@ can_call fields actor whole call left = record {
 }
 
 -- what contracts see shows the same
-pub can_step : (fields : Fields) (actor : ℕ) → IsWhole fields → MayCall fields.states.actors actor → 0 < fields.states.room → fields.events ≢ fields.budget → CanStep (record fields { events = fields.events + 1 }) actor
+pub can_step : (fields : Fields) (actor : ℕ) → IsWhole fields → MayCall fields.states.actors actor → 0 < fields.states.room → fields.events ≢ fields.setup.budget → CanStep (record fields { events = fields.events + 1 }) actor
 can_step fields actor whole caller room left = can_call fields actor whole (record { caller = caller; room = room; round = whole.round }) left
 
 -- a call that began nothing ends
@@ -208,7 +204,7 @@ whole_concluded fields states actor state able free moves room =
     whole_moved fields (fields.states.room - 1) states actor state able.call free moves (omega (arith, room)) able.whole
 
 -- a call on an object
-pub steady_called : (fields : Fields) (objects : Objects) → IsWhole fields → IsSteady (record fields { objects = objects })
+pub steady_called : (fields : Fields) (objects : SyncState) → IsWhole fields → IsSteady (record fields { objects = objects })
 steady_called fields objects was =
     let sound = was.sound in
     record {
@@ -220,11 +216,9 @@ steady_called fields objects was =
         hosts_counted = sound.hosts_counted;
         links_counted = sound.links_counted;
         homes_known = sound.homes_known;
-        hosts_known = sound.hosts_known;
         requests_known = sound.requests_known;
         requests_few = sound.requests_few;
         extent_is = sound.extent_is;
-        network_kept = sound.network_kept;
       };
       roomy = record { starts = was.roomy.starts; owners = was.roomy.owners; mailboxes = was.roomy.mailboxes; requests = was.roomy.requests };
       dated = was.dated;
@@ -249,8 +243,8 @@ passing_moved fields states actor state from isnt free moves le was = record {
 
 -- ---- who waits at an object, as one actor's state changes
 waking_with : (fields : Fields) (states : ActorStates) (actor : ActorId) (state : State) (comers others : List ActorId) → Moves fields.states states actor.0 state → AreWaking fields comers others
-    → (next left : List ActorId) → ((b : ActorId) → waiting fields.objects b + times b left ≤ 1)
-    → ((b : ActorId) → times b next < waiting fields.objects b + times b left → IsActorNumber (extent (setup_in fields)) b.0 × IsTrue (is_queued (state_at (put_state fields.states.actors actor.0 state) b.0)))
+    → (next left : List ActorId) → ((b : ActorId) → waiting fields.objects.objects b + times b left ≤ 1)
+    → ((b : ActorId) → times b next < waiting fields.objects.objects b + times b left → IsActorNumber (extent fields.setup) b.0 × IsTrue (is_queued (state_at (put_state fields.states.actors actor.0 state) b.0)))
     → AreWaking (record fields { states = states }) next left
 waking_with fields states actor state comers others moves was next left once held = record {
   owners = was.owners;
@@ -275,7 +269,7 @@ waking_waits fields states actor state others sound may held moves was =
     waking_with fields states actor state (actor ∷ []) others moves was [] others was.once (λ b some. elim (cases_eq b.0 actor.0) [
       | inl same ↦
           let here = state_same fields.states.actors actor.0 state (record { from = may.from; to = may.to }) in
-          ((omega (arith, same, may.from), omega (arith, same, may.to, homes_counted fields sound)), ap (λ n. is_queued (state_at (put_state fields.states.actors actor.0 state) n)) same ∙ ap is_queued here ∙ held)
+          ((omega (arith, same, may.from), omega (arith, same, may.to, sound.homes_known)), ap (λ n. is_queued (state_at (put_state fields.states.actors actor.0 state) n)) same ∙ ap is_queued here ∙ held)
       | inr apart ↦
           let old = was.held b (omega (arith, some, times_cons b actor [], one_other b actor (λ e. apart (sym e)))) in
           (old.0, still_held fields.states.actors actor b state may.from old.0.0 apart old.1)

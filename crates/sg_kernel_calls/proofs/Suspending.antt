@@ -128,11 +128,9 @@ whole_suspended fields room target on was =
         hosts_counted = sound.hosts_counted;
         links_counted = sound.links_counted;
         homes_known = sound.homes_known ∙ sym long;
-        hosts_known = sound.hosts_known;
         requests_known = sound.requests_known ∙ sym long;
         requests_few = sound.requests_few;
         extent_is = sound.extent_is;
-        network_kept = sound.network_kept;
       };
       roomy = record { starts = was.roomy.starts; owners = was.roomy.owners; mailboxes = was.roomy.mailboxes; requests = was.roomy.requests };
       dated = was.dated;

@@ -5,4 +5,4 @@ use Rattle.sg_kernel_calls.specs.kept.Sound.{IsTimetable}
 
 -- at another date
 abbrev pub IsTimelyAt : Fields → ℕ → Type 0
-IsTimelyAt fields date = IsTimetable fields.hosts fields.links date fields.profiles
+IsTimelyAt fields date = IsTimetable fields.setup.hosts fields.setup.links date fields.profiles

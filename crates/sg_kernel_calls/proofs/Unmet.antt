@@ -22,7 +22,7 @@ use Rattle.sg_kernel_calls.specs.Steps.{Step, and_then}
 use Rattle.sg_kernel_calls.specs.Setup.{Setup}
 use Rattle.sg_kernel_calls.specs.World.{Core, extent}
 use Rattle.sg_mailbox.specs.Owners.{Owned}
-use Rattle.sg_kernel_calls.specs.kept.Sound.{core_of, setup_in, IsOwner}
+use Rattle.sg_kernel_calls.specs.kept.Sound.{core_of, IsOwner}
 use Rattle.sg_kernel_calls.specs.kept.Whole.{IsWhole, IsWholeFor}
 use Rattle.sg_kernel_calls.proofs.Begins.{held_with, sound_with}
 use Rattle.sg_kernel_calls.proofs.Each.{both_on, then_after}
@@ -99,7 +99,7 @@ pub whole_unmet : (fields : Fields) (comer : Comer) (serial : Serial) (other : S
     → fields.states.room - 1 ≤ boxes.room → IsWholeFor (fields.states.room - 1) (record fields { whose = whose; boxes = boxes })
 whole_unmet fields comer serial other next whose boxes m was owned there elsewhere room =
     let w = Over how.Failed in
-    let e = extent (setup_in fields) in
+    let e = extent fields.setup in
     let owners = ap (λ (o : Owned). o.whose) owned in
     let many = ap length owners ∙ length-set fields.whose.whose (serial.0 - 1) w in
     let more : length fields.whose.whose ≤ length whose.whose = omega (arith, many) in

@@ -1,8 +1,8 @@
 -- Who waits at an object before a call, after it, and once all are answered.
-use Rattle.std.proofs.Common.{◌≡◌, ◌≢◌, ℕ, ◌+◌, ◌-◌, ◌^◌, ◌<◌, ◌≤◌, true≢false, false, IsTrue, Option, None, Some, List, [], length, map, eqb, nat_lt, set, get_or, inl, inr, refl, sym, subst, ap, ◌∙◌, arith}
+use Rattle.std.proofs.Common.{◌≡◌, ◌≢◌, ℕ, ◌+◌, ◌-◌, ◌^◌, ◌<◌, ◌≤◌, true≢false, false, IsTrue, Option, None, Some, List, [], length, eqb, nat_lt, set, get_or, inl, inr, refl, sym, subst, ap, ◌∙◌, arith}
 use Rattle.std.specs.Prelude.{All, Contains}
 use Rattle.std.proofs.lemmas.Bool.{cases_Bool, cases_eq, cases_lt}
-use Rattle.std.proofs.lemmas.List.{length-set, length-map}
+use Rattle.std.proofs.lemmas.List.{length-set}
 use Rattle.std.proofs.lemmas.List.Elements.{All-set}
 use Rattle.std.proofs.lemmas.List.Sums.{get_or-le-sum_by}
 use Rattle.sg_base.specs.declared.ids.ActorId.{ActorId}
@@ -11,15 +11,17 @@ use Rattle.sg_sync.specs.declared.outcome.Outcome.{Outcome}
 use Rattle.sg_sync.specs.declared.outcome.Outcome.TheVariants.{GoesOn, Waits, Refused}
 use Rattle.sg_sync.specs.Laws.{KeepsAll, comers}
 use Rattle.sg_sync.specs.Objects.{Objects, Done, waiting, owner_of, count_of, locked, locked_by, unlocked, unlocked_by, acquired, released, released_to, arrived}
+use Rattle.sg_sync.specs.Sync.{Does, SyncState}
 use Rattle.sg_sync.specs.Queues.{front, queue_at, times}
 use Rattle.sg_sync.proofs.Counts.{one, one_same, one_other, times_cons}
 use Rattle.sg_kernel_calls.specs.declared.simulation_state.Fields.{Fields}
 use Rattle.sg_actor_states.specs.declared.state.State.{State}
 use Rattle.sg_actor_states.specs.declared.state.State.TheVariants.{Unstarted, Ready, Blocked, Ended}
+use Rattle.sg_kernel_calls.specs.Setup.{Setup}
 use Rattle.sg_kernel_calls.specs.World.{IsActor, MayCall, extent, state_of}
 use Rattle.sg_actor_states.specs.declared.state.Actor.{Actor}
 use Rattle.sg_actor_states.specs.Actors.{is_answered, put_state, state_at}
-use Rattle.sg_kernel_calls.specs.kept.Sound.{core_of, is_queued, setup_in, point_number, IsSound, AreHeld}
+use Rattle.sg_kernel_calls.specs.kept.Sound.{core_of, is_queued, IsSound, AreHeld}
 use Rattle.sg_kernel_calls.specs.kept.Waking.{AreWaking}
 use Rattle.sg_kernel_calls.specs.kept.Whole.{IsFresh}
 use Rattle.sg_kernel_calls.proofs.Stated.{state_other}
@@ -54,8 +56,8 @@ comes_once caller actor Waits = elim (cases_eq actor.0 caller.0) [
   | inr apart ↦ omega (arith, comes_alone caller actor Waits apart)
 ]
 
-actor_in : (fields : Fields) (actor : ActorId) → IsSound fields → IsActorIn (extent (setup_in fields)) actor → IsActor (core_of fields) actor.0
-actor_in fields actor sound is = record { from = is.0; to = omega (arith, is.1, sound.homes_known, length-map fields.homes.items point_number) }
+actor_in : (fields : Fields) (actor : ActorId) → IsSound fields → IsActorIn (extent fields.setup) actor → IsActor (core_of fields) actor.0
+actor_in fields actor sound is = record { from = is.0; to = omega (arith, is.1, sound.homes_known) }
 
 pub wakers_exist : (fields : Fields) (caller : ActorId) (outcome : Outcome) (others : List ActorId) → IsSound fields → MayCall (core_of fields) caller.0 → AreWaking fields (comers caller outcome) others → (actor : ActorId) → Contains others actor → IsActor (core_of fields) actor.0
 wakers_exist fields caller outcome others sound may waking actor has = elim (cases_eq actor.0 caller.0) [
@@ -92,7 +94,7 @@ pub record IsLike (before after : Objects) : Type 0 where
 few_more : (bound : ℕ) (counts : List ℕ) → All (λ count. count ≤ bound) counts → All (λ count. count ≤ bound + 1) counts
 few_more bound counts few k d within = omega (arith, few k d within)
 
-like_same : (o : Objects) → IsLike o (record o { others = [] })
+like_same : (o : Objects) → IsLike o o
 like_same o = record { owners = refl; counts = refl; actors = refl; few = λ bound few. few_more bound o.counts few; locking = refl; acquiring = refl }
 
 lock_like : (owner : Option ActorId) (actor : ActorId) (mutex : ℕ) (o : Objects) → IsLike o (locked_by owner actor mutex o).after
@@ -153,8 +155,8 @@ arrived_like actor o = elim (cases_Bool (nat_lt (length o.arrived + 1) o.members
 ]
 
 -- a ready actor waits nowhere
-pub caller_free : (fields : Fields) (actor : ActorId) → MayCall (core_of fields) actor.0 → AreHeld fields → waiting fields.objects actor ≡ 0
-caller_free fields actor may held = elim (cases_lt 0 (waiting fields.objects actor)) [
+pub caller_free : (fields : Fields) (actor : ActorId) → MayCall (core_of fields) actor.0 → AreHeld fields → waiting fields.objects.objects actor ≡ 0
+caller_free fields actor may held = elim (cases_lt 0 (waiting fields.objects.objects actor)) [
   | inl some ↦ absurd (never (state_of (core_of fields) actor.0) may.ready (held.held actor some).1)
   | inr none ↦ omega (arith, none)
 ]
@@ -172,28 +174,30 @@ once_with o caller actor outcome free once = elim (cases_eq actor.0 caller.0) [
 ]
 
 -- the call leaves some that are to be unblocked, and perhaps one that comes to wait
-pub waking_after : (old fields : Fields) (actor : ActorId) (done : Done) → MayCall (core_of old) actor.0 → IsFresh old → AreHeld old → KeepsAll actor old.objects done → IsLike old.objects done.after → fields.objects ≡ done.after →
-    fields.mutexes ≡ old.mutexes → fields.semaphores.items ≡ old.semaphores.items → fields.states.actors ≡ old.states.actors → map point_number fields.homes.items ≡ map point_number old.homes.items → fields.events ≡ old.events →
-    AreWaking fields (comers actor done.outcome) done.after.others
-waking_after old fields actor done may fresh held keeps like is mutexes semaphores states homes events =
+pub waking_after : (old fields : Fields) (actor : ActorId) (done : Done) → MayCall (core_of old) actor.0 → IsFresh old → AreHeld old → KeepsAll actor old.objects.objects done → IsLike old.objects.objects done.after → fields.objects.objects ≡ done.after →
+    fields.setup ≡ old.setup → fields.states.actors ≡ old.states.actors → fields.events ≡ old.events →
+    AreWaking fields (comers actor done.outcome) done.woken
+waking_after old fields actor done may fresh held keeps like is setup states events =
+    let mutexes = ap (λ (s : Setup). s.mutexes) setup in
+    let semaphores = ap (λ (s : Setup). length s.semaphores) setup in
     let free = caller_free old actor may held in
     record {
       owners = ap (λ (o : Objects). length o.owners) is ∙ like.owners ∙ held.owners ∙ sym mutexes;
-      counts = ap (λ (o : Objects). length o.counts) is ∙ like.counts ∙ held.counts ∙ sym (ap length semaphores);
+      counts = ap (λ (o : Objects). length o.counts) is ∙ like.counts ∙ held.counts ∙ sym semaphores;
       actors = ap (λ (o : Objects). o.actors) is ∙ like.actors ∙ held.actors ∙ sym (ap length states);
       few = λ k d within. omega (arith, like.few (10 ^ 9 + old.events - 1) (λ k d within. omega (arith, fresh.counts k d within)) k d (omega (arith, within, ap (λ (o : Objects). length o.counts) is)), ap (λ (o : Objects). get_or o.counts k d) is, events);
-      once = λ b. omega (arith, keeps b, once_with old.objects actor b done.outcome free (held.once b), ap (λ (o : Objects). waiting o b) is);
+      once = λ b. omega (arith, keeps b, once_with old.objects.objects actor b done.outcome free (held.once b), ap (λ (o : Objects). waiting o b) is);
       held = λ b some.
           let was = held.held b (omega (arith, some, keeps b, ap (λ (o : Objects). waiting o b) is)) in
-          ((was.0.0, omega (arith, was.0.1, ap length homes)), ap (λ (xs : List Actor). is_queued (state_at xs b.0)) states ∙ was.1);
+          ((was.0.0, omega (arith, was.0.1, ap (λ (s : Setup). length s.homes) setup)), ap (λ (xs : List Actor). is_queued (state_at xs b.0)) states ∙ was.1);
       locking = ap (λ (o : Objects). length o.locking) is ∙ like.locking ∙ held.locking ∙ sym mutexes;
-      acquiring = ap (λ (o : Objects). length o.acquiring) is ∙ like.acquiring ∙ held.acquiring ∙ sym (ap length semaphores);
+      acquiring = ap (λ (o : Objects). length o.acquiring) is ∙ like.acquiring ∙ held.acquiring ∙ sym semaphores;
     }
 
-pub waking_called : (old : Fields) (objects : Objects) (outcome : Outcome) (actor : ActorId) (done : Objects → Done) → MayCall (core_of old) actor.0 → IsFresh old → AreHeld old → KeepsAll actor old.objects (done old.objects) → IsLike old.objects (done old.objects).after
-    → outcome ≡ (done old.objects).outcome → objects ≡ (done old.objects).after → AreWaking (record old { objects = objects }) (comers actor outcome) objects.others
-waking_called old objects outcome actor done may fresh held keeps like answers leaves =
+pub waking_called : (old : Fields) (objects : SyncState) (outcome : Outcome) (actor : ActorId) (done : Done) → MayCall (core_of old) actor.0 → IsFresh old → AreHeld old → KeepsAll actor old.objects.objects done → IsLike old.objects.objects done.after
+    → Does done outcome objects → AreWaking (record old { objects = objects }) (comers actor outcome) objects.others
+waking_called old objects outcome actor done may fresh held keeps like does =
     let now = record old { objects = objects } in
-    let waking = waking_after old now actor (done old.objects) may fresh held keeps like leaves refl refl refl refl refl in
-    let first = subst (λ (o : Outcome). AreWaking now (comers actor o) (done old.objects).after.others) (sym answers) waking in
-    subst (λ (q : List ActorId). AreWaking now (comers actor outcome) q) (sym (ap (λ (o : Objects). o.others) leaves)) first
+    let waking = waking_after old now actor done may fresh held keeps like does.objects refl refl refl in
+    let first = subst (λ (o : Outcome). AreWaking now (comers actor o) done.woken) (sym does.outcome) waking in
+    subst (λ (q : List ActorId). AreWaking now (comers actor outcome) q) (sym does.others) first

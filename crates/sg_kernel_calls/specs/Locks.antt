@@ -43,9 +43,9 @@ with_objects done core = record core { objects = done.after }
 -- what a call on a mutex or semaphore leads to: its caller is answered before those that its call unblocks
 abbrev pub caller_first : Done → ℕ → Call → Core → Step
 caller_first done actor what core =
-    and_then (caller_gets done.outcome actor what (with_objects done core)) (all_wake done.after.others)
+    and_then (caller_gets done.outcome actor what (with_objects done core)) (all_wake done.woken)
 
 -- what a call on the barrier leads to: its caller is answered after those that its call unblocks
 abbrev pub caller_last : Done → ℕ → Call → Core → Step
 caller_last done actor what core =
-    and_then (all_wake done.after.others (with_objects done core)) (caller_gets done.outcome actor what)
+    and_then (all_wake done.woken (with_objects done core)) (caller_gets done.outcome actor what)

@@ -1,4 +1,5 @@
 -- How what is known is kept.
+pub mod Constants
 pub mod Sound
 pub mod Waking
 pub mod Whole

@@ -1,9 +1,10 @@
 //! Who is answered when an activity ends.
 
-ghost use Rattle.std.specs.Prelude.{◌≡◌, ◌<◌, ◌^◌, if◌then◌else◌};
+ghost use Rattle.std.specs.Prelude.{◌≡◌, if◌then◌else◌};
 ghost use Rattle.sg_kernel_calls.specs.Answers.{answer_to as answer_to_spec, answers, answers_side, for_receiver, tells_bytes as tells_bytes_spec};
 ghost use Rattle.sg_kernel_calls.specs.World.{extent};
-ghost use Rattle.sg_kernel_calls.specs.kept.Sound.{setup_in, IsOwner, IsSide, IsSound, StepsBy};
+ghost use Rattle.sg_kernel_calls.specs.kept.Asks.{CanReply};
+ghost use Rattle.sg_kernel_calls.specs.kept.Sound.{IsOwner, IsSide, StepsBy};
 ghost use Rattle.sg_kernel_calls.specs.kept.Whole.{KeepsWhole};
 
 use crate::meetings::bare_side;
@@ -44,9 +45,8 @@ fn answer_to(over: How, what: Call, msg: Msg) -> Answer
 /// Answers the actor of an endpoint if it is blocked on this endpoint of this activity. The answer depends on how the
 /// activity ended and on what the endpoint gives.
 pub(crate) fn answer_side(fields: &mut Fields, over: How, serial: Serial, party: Party, given: Side)
-    requires given { IsSide (extent (setup_in fields.old)) given }
-    requires sound { IsSound fields.old }
-    requires small { fields.old.doing.under.date < 10 ^ 33 }
+    requires given { IsSide (extent fields.old.setup) given }
+    requires able { CanReply fields.old }
     ensures known { StepsBy (answers_side over serial.0 party given) fields.old fields.new }
     ensures keeps { KeepsWhole fields.old fields.new }
 {
@@ -77,9 +77,8 @@ pub(crate) fn for_receiver(sender: Side, receiver: Side) -> Side
 
 /// Answers the waiters of an activity that ended: of a communication the sender first, then the receiver.
 pub fn answer_owners(fields: &mut Fields, over: How, serial: Serial, whose: Whose)
-    requires whose { IsOwner (extent (setup_in fields.old)) whose }
-    requires sound { IsSound fields.old }
-    requires small { fields.old.doing.under.date < 10 ^ 33 }
+    requires whose { IsOwner (extent fields.old.setup) whose }
+    requires able { CanReply fields.old }
     ensures known { StepsBy (answers over serial.0 whose) fields.old fields.new }
     ensures keeps { KeepsWhole fields.old fields.new }
 {

@@ -4,7 +4,7 @@ ghost use Rattle.std.specs.Prelude.{◌≡◌};
 ghost use Rattle.sg_kernel_calls.specs.Calls.{answered};
 ghost use Rattle.sg_kernel_calls.specs.Meetings.{comer_of};
 ghost use Rattle.sg_kernel_calls.specs.Roads.{AreOver};
-ghost use Rattle.sg_kernel_calls.specs.kept.Sound.{core_of, setup_in};
+ghost use Rattle.sg_kernel_calls.specs.kept.Sound.{core_of};
 ghost use Rattle.sg_kernel_calls.specs.kept.Acts.{Replies};
 ghost use Rattle.sg_kernel_calls.specs.kept.Asks.{CanAnswer};
 
@@ -52,9 +52,9 @@ pub fn answer_call(
     links: &mut ArrayVec<LinkId, 64>,
 ) -> Result<(), Stop>
     requires answers { CanAnswer fields.old actor.0 call }
-    requires roads { AreOver fields.old.links router.old }
+    requires roads { AreOver fields.old.setup.links router.old }
     ensures replies { Replies
-        (answered router.old (setup_in fields.old) (core_of fields.old) actor.0 call)
+        (answered router.old fields.old.setup (core_of fields.old) actor.0 call)
         fields.old fields.new result }
     ensures router { router.new ≡ router.old }
 {

@@ -8,15 +8,15 @@ use crate::stop::Stop;
 
 /// Returns whether as many events were counted as there may be.
 pub fn is_used_up(fields: &Fields) -> bool
-    ensures { result ≡ (fields.now.events == fields.now.budget) }
+    ensures { result ≡ (fields.now.events == fields.now.setup.budget) }
 {
-    fields.events == fields.budget
+    fields.events == fields.setup.budget()
 }
 
 /// Stops the run if the budget is used up.
 pub fn check_budget(fields: &Fields) -> Result<(), Stop>
     ensures { MatchResult result
-        (λ unit. fields.now.events ≢ fields.now.budget)
+        (λ unit. fields.now.events ≢ fields.now.setup.budget)
         (λ stop. IsUsedUp fields.now stop) }
 {
     if is_used_up(fields) {
@@ -29,7 +29,7 @@ pub fn check_budget(fields: &Fields) -> Result<(), Stop>
 /// Counts an event. The budget isn't used up.
 pub fn count(fields: &mut Fields)
     requires sound { IsSound fields.old }
-    requires left { fields.old.events ≢ fields.old.budget }
+    requires left { fields.old.events ≢ fields.old.setup.budget }
     ensures { fields.new ≡ record fields.old { events = fields.old.events + 1 } }
 {
     fields.events += 1;

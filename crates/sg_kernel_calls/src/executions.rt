@@ -1,11 +1,9 @@
 //! Executions and sleeps begin.
-ghost use Rattle.std.specs.Prelude.{◌≡◌, ◌+◌, ◌<◌, IsTrue, length};
+ghost use Rattle.std.specs.Prelude.{◌≡◌, ◌+◌, IsTrue, length};
 ghost use Rattle.sg_activity.specs.Underway.{is_computing};
-ghost use Rattle.sg_kernel_calls.specs.World.{host_of};
 ghost use Rattle.sg_kernel_calls.specs.Calls.{await_alone, computes, executed, with_execution, with_sleep};
 ghost use Rattle.sg_kernel_calls.specs.kept.Acts.{Answers, Becomes, CanMake};
-ghost use Rattle.sg_kernel_calls.specs.kept.Sound.{setup_in, IsHome};
-ghost use Rattle.sg_kernel_calls.specs.kept.Whole.{CanStep};
+ghost use Rattle.sg_kernel_calls.specs.kept.Sound.{IsHome};
 
 use crate::at_once::{answer_now, block};
 use crate::holding::hold_if;
@@ -22,22 +20,13 @@ fn alone(serial: Serial) -> Await
     }
 }
 
-// Returns the host of an actor.
-fn home_of(fields: &Fields, actor: ActorId) -> PointId
-    requires { CanStep fields.now actor.0 }
-    ensures is { result.0 ≡ host_of (setup_in fields.now) actor.0 }
-    ensures exists { result.0 < length fields.now.doing.under.capacities.hosts }
-{
-    fields.homes[actor.index()]
-}
-
 // Begins an execution of the actor on its host.
 fn start(fields: &mut Fields, actor: ActorId, host: PointId, flops: u64, priority: u32) -> Serial
     requires computes { CanMake fields.old actor.0 (Call.Compute flops priority) }
     requires home { IsHome fields.old actor.0 host }
     ensures serial { result.0 ≡ length fields.old.doing.under.tasks + 1 }
     ensures computing { IsTrue (is_computing fields.new.doing.under result.0) }
-    ensures becomes { Becomes (with_execution (setup_in fields.old) actor.0 flops priority)
+    ensures becomes { Becomes (with_execution fields.old.setup actor.0 flops priority)
         fields.old fields.new }
 {
     let serial = fields.doing.start_exec(host, flops, priority);
@@ -51,7 +40,7 @@ fn start(fields: &mut Fields, actor: ActorId, host: PointId, flops: u64, priorit
 fn execute(fields: &mut Fields, actor: ActorId, host: PointId, flops: u64, priority: u32)
     requires computes { CanMake fields.old actor.0 (Call.Compute flops priority) }
     requires home { IsHome fields.old actor.0 host }
-    ensures { Becomes (executed (setup_in fields.old) actor.0 flops priority)
+    ensures { Becomes (executed fields.old.setup actor.0 flops priority)
         fields.old fields.new }
 {
     let serial = start(fields, actor, host, flops, priority);
@@ -61,10 +50,10 @@ fn execute(fields: &mut Fields, actor: ActorId, host: PointId, flops: u64, prior
 /// Makes the actor compute at a priority, unless its host is off.
 pub(crate) fn compute(fields: &mut Fields, actor: ActorId, flops: u64, priority: u32)
     requires { CanMake fields.old actor.0 (Call.Compute flops priority) }
-    ensures { Answers (computes (setup_in fields.old) actor.0 flops priority)
+    ensures { Answers (computes fields.old.setup actor.0 flops priority)
         fields.old fields.new }
 {
-    let host = home_of(fields, actor);
+    let host = fields.setup.host(actor);
     if fields.doing.is_host_off(host) {
         answer_now(
             fields,

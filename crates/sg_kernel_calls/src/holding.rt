@@ -5,7 +5,7 @@ ghost use Rattle.sg_kernel_calls.specs.World.{is_suspended, IsActor};
 ghost use Rattle.sg_kernel_calls.specs.Steps.{at_once};
 ghost use Rattle.sg_kernel_calls.specs.Suspensions.{held_by, held_if, held_to, suspended_to};
 ghost use Rattle.sg_kernel_calls.specs.kept.Acts.{Answers, CanMake};
-ghost use Rattle.sg_kernel_calls.specs.kept.Asks.{CanHold};
+ghost use Rattle.sg_kernel_calls.specs.kept.Asks.{CanHold, CanTurn};
 ghost use Rattle.sg_kernel_calls.specs.kept.Sound.{core_of, known_of, AwaitsMade};
 ghost use Rattle.sg_kernel_calls.specs.kept.Waking.{LeavesCallers};
 ghost use Rattle.sg_kernel_calls.specs.kept.Whole.{IsWhole, IsWholeFor};
@@ -48,8 +48,7 @@ fn turn(doing: &mut Activities, on: bool, serial: Serial)
 // Does the same with the activity on which an actor is blocked, if there is one. That may take the room of a call.
 fn turn_awaited(fields: &mut Fields, on: bool, blocking: Option<Blocking>)
     requires made { AwaitsMade (length fields.old.whose.whose) blocking }
-    requires room { 0 < fields.old.states.room }
-    requires whole { IsWhole fields.old }
+    requires able { CanTurn fields.old }
     ensures known { known_of fields.new
         ≡ record (known_of fields.old) { core = held_by on blocking (core_of fields.old) } }
     ensures states { fields.new.states ≡ fields.old.states }
@@ -77,8 +76,7 @@ fn mark(states: &mut States, target: ActorId, on: bool)
 // Suspends or resumes the named actor, if it is alive. That may take the room of a call.
 fn set(fields: &mut Fields, target: ActorId, on: bool)
     requires target { IsActor (core_of fields.old) target.0 }
-    requires room { 0 < fields.old.states.room }
-    requires whole { IsWhole fields.old }
+    requires able { CanTurn fields.old }
     ensures known { known_of fields.new
         ≡ record (known_of fields.old) { core = suspended_to on target (core_of fields.old) } }
     ensures callers { LeavesCallers fields.old.states fields.new.states }

@@ -2,10 +2,10 @@
 ghost use Rattle.std.specs.Prelude.{◌≡◌, drop};
 ghost use Rattle.sg_actor_states.specs.Actors.{is_ended, joiners, IsJoiner};
 ghost use Rattle.sg_kernel_calls.specs.World.{state_of};
-ghost use Rattle.sg_kernel_calls.specs.Lives.{exits, joins_by, with_actor_ended};
+ghost use Rattle.sg_kernel_calls.specs.Lives.{exits, joins_by};
 ghost use Rattle.sg_kernel_calls.specs.Locks.{joiners_wake, wakes};
-ghost use Rattle.sg_kernel_calls.specs.kept.Acts.{Answers, Becomes, CanMake, Wakes};
-ghost use Rattle.sg_kernel_calls.specs.kept.Whole.{CanConclude, CanStep, IsWhole};
+ghost use Rattle.sg_kernel_calls.specs.kept.Acts.{Answers, CanMake, Wakes};
+ghost use Rattle.sg_kernel_calls.specs.kept.Whole.{CanStep, IsWhole};
 
 use crate::at_once::{answer_now, block};
 use crate::simulation_state::Fields;
@@ -36,20 +36,12 @@ pub(crate) fn wake_joiners(fields: &mut Fields, target: ActorId)
     }
 }
 
-// Marks that the actor has made its last call.
-fn leave(fields: &mut Fields, actor: ActorId)
-    requires { CanConclude fields.old actor.0 }
-    ensures { Becomes (with_actor_ended actor.0) fields.old fields.new }
-{
-    fields.states.exit(actor);
-}
-
 /// Ends an actor after its last call, and unblocks those that wait for its end.
 pub(crate) fn exit(fields: &mut Fields, actor: ActorId)
     requires { CanStep fields.old actor.0 }
     ensures { Answers (exits actor.0) fields.old fields.new }
 {
-    leave(fields, actor);
+    fields.states.exit(actor);
     wake_joiners(fields, actor);
 }
 

@@ -27,10 +27,7 @@ use sg_mailbox::{How, Whose};
 fn blocked_on(state: State) -> Option<Await>
     ensures { result ≡ blocked_on (blocking_in state) }
 {
-    match state.blocking() {
-        Some(blocking) => blocking.on,
-        None => None,
-    }
+    state.blocking()?.on
 }
 
 // Ends the target. That is the last call of one that kills itself; another's call is answered.

@@ -18,6 +18,7 @@ mod killing;
 mod locks;
 mod meetings;
 mod network;
+mod setup;
 mod simulation_state;
 mod stop;
 
@@ -26,5 +27,6 @@ pub use at_once::go_on;
 pub use calls::answer_call;
 pub use creating::create;
 pub use events::{check_budget, count, event, is_used_up};
+pub use setup::Setup;
 pub use simulation_state::Fields;
 pub use stop::Stop;

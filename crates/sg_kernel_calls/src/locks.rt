@@ -97,7 +97,7 @@ fn answer_last(fields: &mut Fields, outcome: Outcome, actor: ActorId, what: Call
 pub(crate) fn lock(fields: &mut Fields, actor: ActorId, mutex: u32)
     requires { CanMake fields.old actor.0 (Call.Lock mutex) }
     ensures { Answers
-        (caller_first (locked actor mutex fields.old.objects) actor.0 (Call.Lock mutex))
+        (λ core. caller_first (locked actor mutex core.objects) actor.0 (Call.Lock mutex) core)
         fields.old fields.new }
 {
     let outcome = fields.objects.lock(actor, mutex);
@@ -108,7 +108,7 @@ pub(crate) fn lock(fields: &mut Fields, actor: ActorId, mutex: u32)
 pub(crate) fn unlock(fields: &mut Fields, actor: ActorId, mutex: u32)
     requires { CanMake fields.old actor.0 (Call.Unlock mutex) }
     ensures { Answers
-        (caller_first (unlocked actor mutex fields.old.objects) actor.0 (Call.Unlock mutex))
+        (λ core. caller_first (unlocked actor mutex core.objects) actor.0 (Call.Unlock mutex) core)
         fields.old fields.new }
 {
     let outcome = fields.objects.unlock(actor, mutex);
@@ -119,8 +119,8 @@ pub(crate) fn unlock(fields: &mut Fields, actor: ActorId, mutex: u32)
 pub(crate) fn acquire(fields: &mut Fields, actor: ActorId, semaphore: u32)
     requires { CanMake fields.old actor.0 (Call.Acquire semaphore) }
     ensures { Answers
-        (caller_first (acquired actor semaphore fields.old.objects)
-        actor.0 (Call.Acquire semaphore))
+        (λ core. caller_first (acquired actor semaphore core.objects)
+        actor.0 (Call.Acquire semaphore) core)
         fields.old fields.new }
 {
     let outcome = fields.objects.acquire(actor, semaphore);
@@ -131,8 +131,8 @@ pub(crate) fn acquire(fields: &mut Fields, actor: ActorId, semaphore: u32)
 pub(crate) fn release(fields: &mut Fields, actor: ActorId, semaphore: u32)
     requires { CanMake fields.old actor.0 (Call.Release semaphore) }
     ensures { Answers
-        (caller_first (released semaphore fields.old.objects)
-        actor.0 (Call.Release semaphore))
+        (λ core. caller_first (released semaphore core.objects)
+        actor.0 (Call.Release semaphore) core)
         fields.old fields.new }
 {
     let outcome = fields.objects.release(semaphore);
@@ -143,7 +143,7 @@ pub(crate) fn release(fields: &mut Fields, actor: ActorId, semaphore: u32)
 pub(crate) fn arrive(fields: &mut Fields, actor: ActorId)
     requires { CanStep fields.old actor.0 }
     ensures { Answers
-        (caller_last (arrived actor fields.old.objects) actor.0 Call.Barrier)
+        (λ core. caller_last (arrived actor core.objects) actor.0 Call.Barrier core)
         fields.old fields.new }
 {
     let outcome = fields.objects.arrive(actor);

@@ -1,22 +1,22 @@
 //! Endpoints of communications arrive at mailboxes, and actors wait for their requests.
 
-ghost use Rattle.std.specs.Prelude.{◌≡◌, ◌≢◌, ◌+◌, ◌<◌, ◌^◌, AllPairs, None, length};
+ghost use Rattle.std.specs.Prelude.{◌≡◌, ◌≢◌, ◌+◌, AllPairs, None, length};
 ghost use Rattle.sg_base.specs.declared.ids.BoxId.{BoxId};
-ghost use Rattle.sg_base.specs.Limits.{IsActorIn};
 ghost use Rattle.sg_mailbox.specs.Posts.{partner, waiters, IsFound};
 ghost use Rattle.sg_requests.specs.Requested.{oldest, queue_at};
 ghost use Rattle.sg_kernel_calls.specs.World.{extent};
 ghost use Rattle.sg_kernel_calls.specs.Answers.{bare_side, side_of};
-ghost use Rattle.sg_kernel_calls.specs.Meetings.{answer_of_over as answer_of_over_spec, comer_fails, fails_with, joins_on, joins_with, other_fails, party_of, point_of, posted, receiver_of, receives_by, sender_of, sends_by, stop_of, takes_part, waits_by};
+ghost use Rattle.sg_kernel_calls.specs.Meetings.{answer_of_over as answer_of_over_spec, comer_fails, fails_with, joins_on, joins_with, other_fails, party_of, posted, receiver_of, receives_by, sender_of, sends_by, stop_of, takes_part, waits_by};
 ghost use Rattle.sg_kernel_calls.specs.Roads.{AreOver, IsOver};
-ghost use Rattle.sg_kernel_calls.specs.kept.Acts.{Answers, CanCome, CanMeet, CanPost, CanTakePart, LeavesWay, Replies};
-ghost use Rattle.sg_kernel_calls.specs.kept.Sound.{setup_in, comes_in, IsComer, IsSide, IsSound, StepsBy};
+ghost use Rattle.sg_kernel_calls.specs.kept.Acts.{Answers, CanCome, CanMeet, CanPost, CanTakePart, FindsWay, Replies};
+ghost use Rattle.sg_kernel_calls.specs.kept.Asks.{CanReply};
+ghost use Rattle.sg_kernel_calls.specs.kept.Sound.{comes_in, IsComer, IsSide, StepsBy};
 ghost use Rattle.sg_kernel_calls.specs.kept.Whole.{CanStep, KeepsWhole};
 
 use crate::answers::{answer_side, for_receiver};
 use crate::at_once::{answer_now, block};
 use crate::events::{check_budget, count};
-use crate::network::{latency_over, own_bound};
+use crate::setup::Setup;
 use crate::simulation_state::Fields;
 use crate::stop::Stop;
 use arrayvec::ArrayVec;
@@ -159,14 +159,6 @@ fn receiver_of(comer: &Comer, other: Side) -> Side
     if comer.sends { other } else { comer.side }
 }
 
-// Returns the host of an endpoint.
-fn point_of(fields: &Fields, side: Side) -> PointId
-    requires { IsActorIn (extent (setup_in fields.now)) side.actor }
-    ensures { result ≡ point_of (setup_in fields.now) side }
-{
-    fields.homes[side.actor.index()]
-}
-
 // Begins the communication of two endpoints over these links.
 fn begin(
     fields: &mut Fields,
@@ -177,21 +169,21 @@ fn begin(
     latency: u128,
 )
     requires meets { CanMeet fields.old comer.now found met }
-    requires route { IsOver fields.old.links
+    requires route { IsOver fields.old.setup.links
         (record { links = links.now; latency = latency }) }
     requires apart { AllPairs (λ a b. a ≢ b) links.now }
     ensures { Answers
-        (joins_with (record { links = links.now; latency = latency }) (setup_in fields.old)
+        (joins_with (record { links = links.now; latency = latency }) fields.old.setup
         comer.now met.0 met.1)
         fields.old fields.new }
 {
     let (serial, other) = met;
     let sender = sender_of(comer, other);
     let receiver = receiver_of(comer, other);
-    let lasts = latency_over(fields, links, latency);
-    let bound = own_bound(fields, links, latency, sender.rate);
-    let from = point_of(fields, sender);
-    let to = point_of(fields, receiver);
+    let lasts = fields.setup.latency_over(links, latency);
+    let bound = fields.setup.own_bound(links, latency, sender.rate);
+    let from = fields.setup.host(sender.actor);
+    let to = fields.setup.host(receiver.actor);
     let next = fields.doing.next_serial();
     fields
         .boxes
@@ -206,7 +198,7 @@ fn begin(
 // Makes the actor take part in a communication that fails.
 fn fail_comer(fields: &mut Fields, comer: &Comer, serial: Serial, other: Side)
     requires takes_part { CanTakePart fields.old comer.now serial.0 }
-    requires other { IsSide (extent (setup_in fields.old)) other }
+    requires other { IsSide (extent fields.old.setup) other }
     ensures { Answers (comer_fails comer.now serial.0 other) fields.old fields.new }
 {
     if comer.waits {
@@ -219,10 +211,9 @@ fn fail_comer(fields: &mut Fields, comer: &Comer, serial: Serial, other: Side)
 
 // Answers the endpoint that waited, since its communication fails.
 fn fail_other(fields: &mut Fields, comer: &Comer, serial: Serial, other: Side)
-    requires comer { IsComer (extent (setup_in fields.old)) comer.now }
-    requires other { IsSide (extent (setup_in fields.old)) other }
-    requires sound { IsSound fields.old }
-    requires small { fields.old.doing.under.date < 10 ^ 33 }
+    requires comer { IsComer (extent fields.old.setup) comer.now }
+    requires other { IsSide (extent fields.old.setup) other }
+    requires able { CanReply fields.old }
     ensures known { StepsBy (other_fails comer.now serial.0 other) fields.old fields.new }
     ensures keeps { KeepsWhole fields.old fields.new }
 {
@@ -264,17 +255,17 @@ fn meet(
     latency: u128,
 )
     requires meets { CanMeet fields.old comer.now found met }
-    requires route { IsOver fields.old.links
+    requires route { IsOver fields.old.setup.links
         (record { links = links.now; latency = latency }) }
     requires apart { AllPairs (λ a b. a ≢ b) links.now }
     ensures { Answers
-        (joins_on (record { links = links.now; latency = latency }) (setup_in fields.old)
+        (joins_on (record { links = links.now; latency = latency }) fields.old.setup
         comer.now met.0 met.1)
         fields.old fields.new }
 {
     let (_, other) = met;
-    let sender = point_of(fields, sender_of(comer, other));
-    let receiver = point_of(fields, receiver_of(comer, other));
+    let sender = fields.setup.host(sender_of(comer, other).actor);
+    let receiver = fields.setup.host(receiver_of(comer, other).actor);
     if fields.doing.is_cut(links, sender, receiver) {
         fail_at_once(fields, comer, found, met)
     } else {
@@ -285,21 +276,19 @@ fn meet(
 // Returns the latency of the route between an arriving endpoint and its match. The links are written to an array that is
 // kept ready, since making one takes longer than writing a route.
 fn route_to(
-    fields: &Fields,
+    setup: &Setup,
     router: &mut Router,
     links: &mut ArrayVec<LinkId, 64>,
     comer: &Comer,
     other: Side,
 ) -> Result<u128, Stop>
-    requires comer { IsSide (extent (setup_in fields.now)) comer.now.side }
-    requires other { IsSide (extent (setup_in fields.now)) other }
-    ensures route { LeavesWay router.old (setup_in fields.now) comer.now other
+    requires comer { IsSide (extent setup.now) comer.now.side }
+    requires other { IsSide (extent setup.now) other }
+    ensures { FindsWay router.old router.new setup.now comer.now other
         result links.new.items }
-    ensures apart { AllPairs (λ a b. a ≢ b) links.new.items }
-    ensures router { router.new ≡ router.old }
 {
-    let from = point_of(fields, sender_of(comer, other));
-    let to = point_of(fields, receiver_of(comer, other));
+    let from = setup.host(sender_of(comer, other).actor);
+    let to = setup.host(receiver_of(comer, other).actor);
     match router.route(from, to, links) {
         Ok(latency) => Ok(latency),
         Err(fault) => Err(stop_of(from, to, fault)),
@@ -315,7 +304,7 @@ pub(crate) fn come(
     comer: &Comer,
 ) -> Result<(), Stop>
     requires comes { CanCome fields.old comer.now }
-    requires roads { AreOver fields.old.links router.old }
+    requires roads { AreOver fields.old.setup.links router.old }
     ensures replies { Replies (comes_in router.old comer.now fields.old)
         fields.old fields.new result }
     ensures router { router.new ≡ router.old }
@@ -324,7 +313,7 @@ pub(crate) fn come(
     let found = fields.boxes.look(comer.mailbox, comer.sends);
     match found.met {
         Some(met) => {
-            let latency = route_to(fields, router, links, comer, met.1)?;
+            let latency = route_to(&fields.setup, router, links, comer, met.1)?;
             count(fields);
             meet(fields, comer, found, met, links.as_slice(), latency);
             Ok(())

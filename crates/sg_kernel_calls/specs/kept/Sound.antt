@@ -1,5 +1,5 @@
 -- How what is known is kept, and what holds of it.
-use Rattle.std.specs.Prelude.{◌≡◌, ℕ, ◌+◌, ◌-◌, ◌*◌, ◌^◌, ◌<◌, ◌≤◌, min, ◌&&◌, not, Bool, true, false, IsTrue, Option, None, Some, is_some, IfSome, IsSome, List, length, map, slice_index_or, All}
+use Rattle.std.specs.Prelude.{◌≡◌, ℕ, ◌+◌, ◌-◌, ◌*◌, ◌^◌, ◌<◌, ◌≤◌, min, ◌&&◌, not, Bool, true, false, IsTrue, Option, None, Some, is_some, IfSome, IsSome, List, length, slice_index_or, All}
 use Rattle.sg_base.specs.declared.awaits.Await.{Await}
 use Rattle.sg_base.specs.declared.ids.ActorId.{ActorId}
 use Rattle.sg_base.specs.declared.ids.BoxId.{BoxId}
@@ -10,7 +10,6 @@ use Rattle.sg_mailbox.specs.Posts.{waiters}
 use Rattle.sg_profile.specs.Ahead.{IsAhead}
 use Rattle.sg_profile.specs.Profiles.{AreProfiles, Timetable}
 use Rattle.sg_route.specs.Roads.{Roads}
-use Rattle.sg_platform_rows.specs.Network.{IsNetwork}
 use Rattle.sg_actor_states.specs.declared.state.Blocking.{Blocking}
 use Rattle.sg_actor_states.specs.declared.state.State.{State}
 use Rattle.sg_actor_states.specs.Actors.{blocking_in, is_held, joined_in}
@@ -27,22 +26,9 @@ use Rattle.sg_kernel_calls.specs.Known.{Known, after}
 use Rattle.sg_kernel_calls.specs.Meetings.{comes, posts_from}
 use Rattle.sg_kernel_calls.specs.Steps.{Step, unless_used}
 
-abbrev pub point_number : PointId → ℕ
-point_number point = point.0
-
+-- the setup of the definition: what stays, and the profiles
 abbrev pub setup_in : Fields → Setup
-setup_in fields = record {
-  hosts = fields.hosts;
-  links = fields.links;
-  network = fields.network;
-  profiles = fields.profiles.profiles;
-  homes = map point_number fields.homes.items;
-  starts = fields.starts.items;
-  mutexes = fields.mutexes;
-  semaphores = fields.semaphores.items;
-  members = fields.members;
-  budget = fields.budget;
-}
+setup_in fields = record fields.setup { profiles = fields.profiles.profiles }
 
 abbrev pub core_of : Fields → Core
 core_of fields = record {
@@ -51,7 +37,7 @@ core_of fields = record {
   actors = fields.states.actors;
   whose = fields.whose.whose;
   requests = fields.requests.queues;
-  objects = fields.objects;
+  objects = fields.objects.objects;
   events = fields.events;
 }
 
@@ -64,23 +50,21 @@ StepsBy step old new = known_of new ≡ after (step (core_of old)) (known_of old
 
 -- what an arriving endpoint leads to
 abbrev pub comes_in : Roads → Comer → Fields → Step
-comes_in roads comer fields = unless_used fields.budget (core_of fields) (comes roads (setup_in fields) comer (core_of fields))
+comes_in roads comer fields = unless_used fields.setup.budget (core_of fields) (comes roads fields.setup comer (core_of fields))
 
 -- ---- what is kept
 -- the numbers keep to their limits
 pub record IsSound (fields : Fields) : Type 0 where
   pub numbered : length fields.whose.whose ≡ length fields.doing.under.tasks
   pub few : length fields.doing.under.tasks ≤ fields.events
-  pub within : fields.events ≤ fields.budget
-  pub budgeted : fields.budget ≤ 10 ^ 9
-  pub hosts_counted : length fields.doing.under.capacities.hosts ≡ fields.hosts
-  pub links_counted : length fields.doing.under.capacities.links ≡ fields.links
-  pub homes_known : length fields.homes.items ≡ length fields.states.actors
-  pub hosts_known : All (λ (home : PointId). home.0 < length fields.doing.under.capacities.hosts) fields.homes.items
+  pub within : fields.events ≤ fields.setup.budget
+  pub budgeted : fields.setup.budget ≤ 10 ^ 9
+  pub hosts_counted : length fields.doing.under.capacities.hosts ≡ fields.setup.hosts
+  pub links_counted : length fields.doing.under.capacities.links ≡ fields.setup.links
+  pub homes_known : length fields.setup.homes ≡ length fields.states.actors
   pub requests_known : length fields.requests.queues ≡ length fields.states.actors
   pub requests_few : fields.requests.asked ≤ fields.events
-  pub extent_is : fields.states.extent ≡ extent (setup_in fields)
-  pub network_kept : IsNetwork fields.network
+  pub extent_is : fields.states.extent ≡ extent fields.setup
 
 -- there is room for what so many calls begin
 pub record HasRoom (room : ℕ) (fields : Fields) : Type 0 where
@@ -103,11 +87,11 @@ pub record IsTimetable (hosts links date : ℕ) (table : Timetable) : Type 0 whe
   pub ahead : IsAhead date table.profiles table.turns
 
 abbrev pub IsTimely : Fields → Type 0
-IsTimely fields = IsTimetable fields.hosts fields.links fields.doing.under.date fields.profiles
+IsTimely fields = IsTimetable fields.setup.hosts fields.setup.links fields.doing.under.date fields.profiles
 
 -- the host of an actor
 pub record IsHome (fields : Fields) (actor : ℕ) (host : PointId) : Type 0 where
-  pub is : host.0 ≡ host_of (setup_in fields) actor
+  pub is : host.0 ≡ host_of fields.setup actor
   pub exists : host.0 < length fields.doing.under.capacities.hosts
 
 -- ---- what keeps to its limits
@@ -130,7 +114,7 @@ IsOwner extent (Pair sender receiver) = IsSide extent sender × IsSide extent re
 
 -- whose activities are keeps to the limits
 abbrev pub AreLimited : Fields → Type 0
-AreLimited fields = All (IsOwner (extent (setup_in fields))) fields.whose.whose
+AreLimited fields = All (IsOwner (extent fields.setup)) fields.whose.whose
 
 -- ---- communications
 abbrev pub is_posted : Whose → Bool
@@ -172,11 +156,11 @@ is_queued state = is_held state && not (is_some (joined_in state))
 
 -- an actor that waits at an object waits there once, and is blocked so
 pub record AreHeld (fields : Fields) : Type 0 where
-  pub owners : length fields.objects.owners ≡ fields.mutexes
-  pub counts : length fields.objects.counts ≡ length fields.semaphores.items
-  pub actors : fields.objects.actors ≡ length fields.states.actors
-  pub few : All (λ count. count ≤ 10 ^ 9 + fields.events) fields.objects.counts
-  pub once : (actor : ActorId) → sync.waiting fields.objects actor ≤ 1
-  pub held : (actor : ActorId) → 0 < sync.waiting fields.objects actor → IsActorNumber (extent (setup_in fields)) actor.0 × IsTrue (is_queued (state_of (core_of fields) actor.0))
-  pub locking : length fields.objects.locking ≡ fields.mutexes
-  pub acquiring : length fields.objects.acquiring ≡ length fields.semaphores.items
+  pub owners : length fields.objects.objects.owners ≡ fields.setup.mutexes
+  pub counts : length fields.objects.objects.counts ≡ length fields.setup.semaphores
+  pub actors : fields.objects.objects.actors ≡ length fields.states.actors
+  pub few : All (λ count. count ≤ 10 ^ 9 + fields.events) fields.objects.objects.counts
+  pub once : (actor : ActorId) → sync.waiting fields.objects.objects actor ≤ 1
+  pub held : (actor : ActorId) → 0 < sync.waiting fields.objects.objects actor → IsActorNumber (extent fields.setup) actor.0 × IsTrue (is_queued (state_of (core_of fields) actor.0))
+  pub locking : length fields.objects.objects.locking ≡ fields.setup.mutexes
+  pub acquiring : length fields.objects.objects.acquiring ≡ length fields.setup.semaphores

@@ -23,7 +23,7 @@ IsWhole fields = IsWholeFor fields.states.room fields
 pub record IsFresh (fields : Fields) : Type 0 where
   pub tasks : length fields.doing.under.tasks < fields.events
   pub asked : fields.requests.asked < fields.events
-  pub counts : All (λ count. count < 10 ^ 9 + fields.events) fields.objects.counts
+  pub counts : All (λ count. count < 10 ^ 9 + fields.events) fields.objects.objects.counts
 
 -- the call of the actor is counted, and can be answered
 pub record CanStep (fields : Fields) (actor : ℕ) : Type 0 where

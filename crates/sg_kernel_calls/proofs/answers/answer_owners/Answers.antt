@@ -1,6 +1,7 @@
-use Rattle.std.proofs.Common.{◌∙◌, sym, ap}
+use Rattle.std.proofs.Common.{◌∙◌, sym, ap, arith}
 use Rattle.sg_base.specs.declared.awaits.Party.TheVariants as party
 use Rattle.sg_mailbox.specs.declared.sides.Side.{Side}
+use Rattle.sg_kernel_calls.specs.declared.simulation_state.Fields.{Fields}
 use Rattle.sg_kernel_calls.specs.Known.{Known, after}
 use Rattle.sg_kernel_calls.specs.Answers.{answers, answers_side, for_receiver}
 use Rattle.sg_kernel_calls.specs.kept.Sound.{core_of, known_of}
@@ -21,3 +22,6 @@ returns-in-Pair-clause-known c =
 
 pub returns-in-Pair-clause-keeps : goal.returns-in-Pair-clause-keeps
 returns-in-Pair-clause-keeps c = keeps_both c.args.fields.now c.answer_side-in-Pair.new.fields c.answer_side-in-Pair-2.new.fields c.answer_side-in-Pair.ensures.keeps c.answer_side-in-Pair-2.ensures.keeps
+
+pub answer_side-requires-in-Pair-2-clause-able : goal.answer_side-requires-in-Pair-2-clause-able
+answer_side-requires-in-Pair-2-clause-able c = record { sound = c.answer_side-in-Pair.ensures.keeps.sound; small = omega (arith, c.requires.able.small, ap (λ (f : Fields). f.doing.under.date) c.answer_side-in-Pair.ensures.keeps.rest) }

@@ -10,7 +10,6 @@ use Rattle.sg_mailbox.specs.declared.owners.How.{How}
 use Rattle.sg_mailbox.specs.declared.owners.How.TheVariants as how
 use Rattle.sg_kernel_calls.specs.Answers.{answer_to}
 use Rattle.sg_kernel_calls.specs.kept.Sound.{is_queued}
-use Rattle.sg_kernel_calls.proofs.Limits.{homes_counted}
 use Rattle.sg_kernel_calls.proofs.Moves.{moves_replied, whole_answered}
 use Rattle.sg_kernel_calls.proofs.answers.answer_side.Goals as goal
 
@@ -47,12 +46,12 @@ some_bytes false n h = omega arith
 pub state-requires : goal.state-requires
 state-requires c =
     let given = c.requires.given.actor in
-    record { from = given.0; to = omega (arith, given.1, homes_counted c.args.fields.now c.requires.sound) }
+    record { from = given.0; to = omega (arith, given.1, c.requires.able.sound.homes_known) }
 
 pub reply-requires-clause-actor : goal.reply-requires-clause-actor
 reply-requires-clause-actor c =
     let given = c.requires.given.actor in
-    record { from = given.0; to = omega (arith, given.1, homes_counted c.args.fields.now c.requires.sound) }
+    record { from = given.0; to = omega (arith, given.1, c.requires.able.sound.homes_known) }
 
 pub reply-requires-clause-blocked : goal.reply-requires-clause-blocked
 reply-requires-clause-blocked c = ap is_blocked (sym c.state.ensures.is ∙ c.in-Blocked-default-default-Some.is)
@@ -69,7 +68,7 @@ reply-requires-clause-answer c =
     subst (IsAnswer ex) (sym c.answer_to-answer.ensures) (answer_limited ex c.args.over c.in-Blocked-default-default-Some.what c.args.given.msg c.requires.given.message)
 
 pub reply-requires-clause-date : goal.reply-requires-clause-date
-reply-requires-clause-date c = omega (arith, c.date-date.ensures, c.requires.small)
+reply-requires-clause-date c = omega (arith, c.date-date.ensures, c.requires.able.small)
 
 pub returns-in-Blocked-default-default-Some-clause-keeps : goal.returns-in-Blocked-default-default-Some-clause-keeps
 returns-in-Blocked-default-default-Some-clause-keeps c =
@@ -83,6 +82,6 @@ returns-in-Blocked-default-default-Some-clause-keeps c =
     let isnt : is_queued (state_at old.states.actors given.actor.0) ≡ false = ap is_queued (sym state) in
     let moves = moves_replied old.states new given.actor.0 inside.what inside.since c.bytes_told-bytes.result answer c.date-date.result c.reply.ensures in
     let room = ap (λ (s : ActorStates). s.room) c.reply.ensures in
-    let long = homes_counted old c.requires.sound in
+    let long = c.requires.able.sound.homes_known in
     let is : IsActor old.states.actors given.actor.0 = record { from = c.requires.given.actor.0; to = omega (arith, c.requires.given.actor.1, long) } in
-    whole_answered old new given.actor (Ready answer) is refl isnt tt moves room c.requires.sound
+    whole_answered old new given.actor (Ready answer) is refl isnt tt moves room c.requires.able.sound

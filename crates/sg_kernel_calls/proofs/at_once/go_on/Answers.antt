@@ -5,8 +5,11 @@ use Rattle.sg_kernel_calls.proofs.Limits.{states_answer}
 use Rattle.sg_kernel_calls.proofs.Moves.{moves_called, whole_concluded}
 use Rattle.sg_kernel_calls.proofs.at_once.go_on.Goals as goal
 
-pub go_on-requires-clause-answer : goal.go_on-requires-clause-answer
-go_on-requires-clause-answer c = states_answer c.args.fields.now c.args.answer c.requires.able.whole.sound c.requires.answer
+pub go_on-requires : goal.go_on-requires
+go_on-requires c = record {
+  able = search rules;
+  answer = states_answer c.args.fields.now c.args.answer c.requires.able.whole.sound c.requires.answer;
+}
 
 pub returns : goal.returns
 returns c = record {

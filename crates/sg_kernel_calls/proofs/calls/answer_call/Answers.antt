@@ -12,7 +12,7 @@ use Rattle.sg_kernel_calls.specs.Meetings.{waits_by}
 use Rattle.sg_kernel_calls.specs.Steps.{at_once, goes_on, readied}
 use Rattle.sg_kernel_calls.specs.Suspensions.{suspended_to}
 use Rattle.sg_kernel_calls.specs.World.{state_of}
-use Rattle.sg_kernel_calls.specs.kept.Sound.{core_of, known_of, setup_in}
+use Rattle.sg_kernel_calls.specs.kept.Sound.{core_of, known_of}
 use Rattle.sg_kernel_calls.proofs.Alone.{can_come, can_make, comer_replies, row_replies}
 use Rattle.sg_kernel_calls.proofs.Each.{called_alone}
 use Rattle.sg_kernel_calls.proofs.Moves.{can_conclude}
@@ -126,4 +126,4 @@ returns-in-Some-clause-replies c = comer_replies c.args.router.now c.args.fields
 
 -- ---- the budget is used up
 pub returns-in_err-event-clause-replies : goal.returns-in_err-event-clause-replies
-returns-in_err-event-clause-replies c = used_replies (answered_call c.args.router.now (setup_in c.args.fields.now) (core_of c.args.fields.now) c.args.actor.0 c.args.call) c.args.fields.now c.event.new.fields c.in_err-event.field-0.0 c.from_residual.result c.from_residual.ensures.1 (c.in_err-event.ensures).counts (c.in_err-event.ensures).stays c.requires.answers.whole
+returns-in_err-event-clause-replies c = used_replies (answered_call c.args.router.now c.args.fields.now.setup (core_of c.args.fields.now) c.args.actor.0 c.args.call) c.args.fields.now c.event.new.fields c.in_err-event.field-0.0 c.from_residual.result c.from_residual.ensures.1 (c.in_err-event.ensures).counts (c.in_err-event.ensures).stays c.requires.answers.whole

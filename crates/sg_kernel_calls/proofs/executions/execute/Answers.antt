@@ -5,7 +5,7 @@ use Rattle.sg_kernel_calls.specs.Calls.{with_execution}
 use Rattle.sg_kernel_calls.specs.Known.{Known}
 use Rattle.sg_kernel_calls.specs.Suspensions.{held_if}
 use Rattle.sg_kernel_calls.specs.World.{is_suspended}
-use Rattle.sg_kernel_calls.specs.kept.Sound.{core_of, known_of, setup_in}
+use Rattle.sg_kernel_calls.specs.kept.Sound.{core_of, known_of}
 use Rattle.sg_kernel_calls.proofs.Stated.{actor_same}
 use Rattle.sg_kernel_calls.proofs.executions.execute.Goals as goal
 
@@ -28,7 +28,7 @@ returns c = record {
       let old = c.args.fields.now in
       let actor = c.args.actor.0 in
       let may = c.requires.computes.able.call.caller in
-      let core = with_execution (setup_in old) actor c.args.flops c.args.priority (core_of old) in
+      let core = with_execution old.setup actor c.args.flops c.args.priority (core_of old) in
       let begun : Known = record (known_of old) { core = core; room = old.states.room - 1 } in
       let same : is_suspended core actor ≡ is_suspended (core_of old) actor = ap (λ (a : Actor). a.suspended) (actor_same old.states.actors actor _ (record { from = may.from; to = may.to })) in
       c.hold_if.ensures.known

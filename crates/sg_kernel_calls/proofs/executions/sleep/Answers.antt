@@ -4,7 +4,6 @@ use Rattle.sg_base.specs.declared.awaits.Await.{Await}
 use Rattle.sg_mailbox.specs.declared.owners.Whose.TheVariants.{Alone}
 use Rattle.sg_mailbox.specs.Owners.{Owned}
 use Rattle.sg_kernel_calls.proofs.Begins.{whole_begun}
-use Rattle.sg_kernel_calls.proofs.Limits.{homes_counted}
 use Rattle.sg_kernel_calls.proofs.executions.sleep.Goals as goal
 
 pub start_timer-serial-requires-clause-start : goal.start_timer-serial-requires-clause-start
@@ -17,7 +16,7 @@ block-requires-clause-able c =
     let old = c.args.fields.now in
     let able = c.requires.able in
     record {
-      whole = whole_begun old old.states.room c.args.actor _ c.start_timer-serial.new.self c.push.new.self (able.call.caller.from, omega (arith, able.call.caller.to, homes_counted old able.whole.sound)) able.fresh.tasks c.start_timer-serial.ensures.starts c.push.ensures able.whole;
+      whole = whole_begun old old.states.room c.args.actor _ c.start_timer-serial.new.self c.push.new.self (able.call.caller.from, omega (arith, able.call.caller.to, able.whole.sound.homes_known)) able.fresh.tasks c.start_timer-serial.ensures.starts c.push.ensures able.whole;
       call = able.call;
     }
 

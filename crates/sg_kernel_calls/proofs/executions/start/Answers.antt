@@ -10,7 +10,6 @@ use Rattle.sg_mailbox.specs.declared.owners.Whose.TheVariants.{Alone}
 use Rattle.sg_mailbox.specs.Owners.{Owned}
 use Rattle.sg_kernel_calls.specs.Known.{Known}
 use Rattle.sg_kernel_calls.proofs.Begins.{whole_begun}
-use Rattle.sg_kernel_calls.proofs.Limits.{homes_counted}
 use Rattle.sg_kernel_calls.proofs.executions.start.Goals as goal
 
 pub start_exec-serial-requires-clause-start : goal.start_exec-serial-requires-clause-start
@@ -23,7 +22,7 @@ block-requires-clause-able c =
     let old = c.args.fields.now in
     let able = c.requires.computes.able in
     record {
-      whole = whole_begun old old.states.room c.args.actor _ c.start_exec-serial.new.self c.push.new.self (able.call.caller.from, omega (arith, able.call.caller.to, homes_counted old able.whole.sound)) able.fresh.tasks c.start_exec-serial.ensures.starts c.push.ensures able.whole;
+      whole = whole_begun old old.states.room c.args.actor _ c.start_exec-serial.new.self c.push.new.self (able.call.caller.from, omega (arith, able.call.caller.to, able.whole.sound.homes_known)) able.fresh.tasks c.start_exec-serial.ensures.starts c.push.ensures able.whole;
       call = able.call;
     }
 

@@ -8,4 +8,4 @@ returns-in-Some-on-clause-whole c =
     let room = old.states.room in
     let under = old.doing.under in
     let like = subst (IsLike under) (sym c.turn.ensures.under) (like_held c.args.on c.in-Some-on.awaited.serial.0 under) in
-    whole_like old room (room - 1) c.turn.new.doing like (omega (arith, c.turn.ensures.room, c.requires.whole.roomy.starts)) (omega arith) c.requires.whole
+    whole_like old room (room - 1) c.turn.new.doing like (omega (arith, c.turn.ensures.room, c.requires.able.whole.roomy.starts)) (omega arith) c.requires.able.whole

@@ -8,7 +8,7 @@ use Rattle.sg_kernel_calls.specs.Answers.{answers}
 use Rattle.sg_kernel_calls.specs.Known.{after}
 use Rattle.sg_kernel_calls.specs.World.{extent}
 use Rattle.sg_mailbox.specs.Owners.{Owned}
-use Rattle.sg_kernel_calls.specs.kept.Sound.{core_of, known_of, setup_in, IsOwner}
+use Rattle.sg_kernel_calls.specs.kept.Sound.{core_of, known_of, IsOwner}
 use Rattle.sg_kernel_calls.specs.kept.Whole.{IsWholeFor}
 use Rattle.sg_kernel_calls.proofs.Killed.{busy_isnt_over, whole_failed}
 use Rattle.sg_kernel_calls.proofs.Limits.{date_below}
@@ -26,18 +26,15 @@ fail-whose-requires-clause-under_way c = busy_isnt_over c.args.fields.now.whose.
 pub answer_owners-requires-clause-whose : goal.answer_owners-requires-clause-whose
 answer_owners-requires-clause-whose c =
     let old = c.args.fields.now in
-    subst (IsOwner (extent (setup_in old))) (sym c.fail-whose.ensures.was) (c.requires.made.whole.limited (c.args.serial.0 - 1) (Over how.Done) (omega (arith, c.requires.made.from, c.requires.made.to)))
+    subst (IsOwner (extent old.setup)) (sym c.fail-whose.ensures.was) (c.requires.made.whole.limited (c.args.serial.0 - 1) (Over how.Done) (omega (arith, c.requires.made.from, c.requires.made.to)))
 
-pub answer_owners-requires-clause-sound : goal.answer_owners-requires-clause-sound
-answer_owners-requires-clause-sound c =
+pub answer_owners-requires-clause-able : goal.answer_owners-requires-clause-able
+answer_owners-requires-clause-able c =
     let old = c.args.fields.now in
-    (whole_failed old old.states.room c.args.serial.0 c.fail-whose.new.self c.give_up.new.self c.requires.busy c.fail-whose.ensures.is c.give_up.ensures c.requires.made.whole).sound
-
-pub answer_owners-requires-clause-small : goal.answer_owners-requires-clause-small
-answer_owners-requires-clause-small c =
-    let old = c.args.fields.now in
-    let same = ap (λ (d : Doing). d.under.date) c.give_up.ensures in
-    omega (arith, same, date_below old c.requires.made.whole.sound c.requires.made.whole.dated)
+    record {
+      sound = (whole_failed old old.states.room c.args.serial.0 c.fail-whose.new.self c.give_up.new.self c.requires.busy c.fail-whose.ensures.is c.give_up.ensures c.requires.made.whole).sound;
+      small = omega (arith, ap (λ (d : Doing). d.under.date) c.give_up.ensures, date_below old c.requires.made.whole.sound c.requires.made.whole.dated);
+    }
 
 pub returns : goal.returns
 returns c = record {

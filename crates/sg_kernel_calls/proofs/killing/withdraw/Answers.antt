@@ -4,6 +4,7 @@ use Rattle.sg_base.specs.declared.call.Call.TheVariants as call
 use Rattle.sg_requests.specs.Requested.{Requested, awaited_with, queue_at, without_requests}
 use Rattle.sg_actor_states.specs.Actors.{blocking_in}
 use Rattle.sg_sync.specs.Objects.{Objects}
+use Rattle.sg_sync.specs.Sync.{SyncState}
 use Rattle.sg_kernel_calls.specs.Kills.{awaited, blocked_on, withdrawn}
 use Rattle.sg_kernel_calls.specs.kept.Killing.{AreSerials}
 use Rattle.sg_kernel_calls.specs.kept.Sound.{core_of, known_of}
@@ -47,7 +48,7 @@ returns-clause-answers c = record {
       let core = core_of old in
       let known = known_of old in
       let room : new.room ≡ old.states.room - 1 = killed_room old.states new c.args.actor.0 target c.date-date.result c.end.ensures in
-      ap₂ (λ (queues : List (List Await)) (o : Objects). record known { core = record core { requests = queues; objects = o; actors = new.actors }; records = new.records; room = new.room }) (ap (λ (r : Requested). r.queues) c.let_go.ensures) c.leave.ensures
+      ap₂ (λ (queues : List (List Await)) (o : Objects). record known { core = record core { requests = queues; objects = o; actors = new.actors }; records = new.records; room = new.room }) (ap (λ (r : Requested). r.queues) c.let_go.ensures) (ap (λ (s : SyncState). s.objects) c.leave.ensures)
       ∙ ap (λ n. record known { core = record (withdrawn target core) { actors = new.actors }; records = new.records; room = n }) room
       ∙ killed_known known core c.args.actor.0 target old.states new c.date-date.result c.end.ensures refl (sym c.date-date.ensures) refl;
   whole =
@@ -56,5 +57,5 @@ returns-clause-answers c = record {
       let queues = without_requests old.requests.queues c.args.target.0 in
       whole_killed old c.end.new.states c.args.actor.0 c.args.target c.date-date.result c.let_go.new.self c.leave.new.self c.requires.named.able c.requires.named.target c.end.ensures
       (gone ∙ ap (λ (l : List ℕ). record old.requests { queues = queues; awaited = l }) (sym (ap (λ (r : Requested). r.awaited) gone)))
-      c.leave.ensures;
+      (ap (λ (s : SyncState). s.objects) c.leave.ensures);
 }

@@ -1,7 +1,7 @@
 use Rattle.std.proofs.Common.{◌≡◌, ◌+◌, ◌<◌, [], List, length, drop, get_or, arith, ap, sym, subst, ◌∙◌}
 use Rattle.std.proofs.lemmas.List.{get_or_default, drop_all}
 use Rattle.sg_base.specs.declared.ids.ActorId.{ActorId}
-use Rattle.sg_sync.specs.Objects.{Objects}
+use Rattle.sg_sync.specs.Sync.{SyncState}
 use Rattle.sg_kernel_calls.specs.Locks.{all_wake}
 use Rattle.sg_kernel_calls.specs.Known.{after}
 use Rattle.sg_kernel_calls.specs.kept.Sound.{core_of, known_of}
@@ -12,7 +12,7 @@ use Rattle.sg_kernel_calls.proofs.locks.wake_others.Goals as goal
 pub wake-requires-clause-actor : goal.wake-requires-clause-actor
 wake-requires-clause-actor c =
     let others = c.args.fields.now.objects.others in
-    let same : c.others.result.now ≡ others = c.others.ensures ∙ ap (λ (o : Objects). o.others) c.loop-i.invariant.objects in
+    let same : c.others.result.now ≡ others = c.others.ensures ∙ ap (λ (s : SyncState). s.others) c.loop-i.invariant.objects in
     let within : c.loop-i.i < length others = omega (arith, c.loop-i-test.true, ap length c.others-i-end.ensures) in
     let none : ActorId = record { 0 = 0 } in
     let actor : ActorId = get_or c.others.result.now c.loop-i.i none in
@@ -24,7 +24,7 @@ pub loop-i-preserved : goal.loop-i-preserved
 loop-i-preserved c =
     let fields = c.args.fields.now in
     let others = fields.objects.others in
-    let same : c.others.result.now ≡ others = c.others.ensures ∙ ap (λ (o : Objects). o.others) c.loop-i.invariant.objects in
+    let same : c.others.result.now ≡ others = c.others.ensures ∙ ap (λ (s : SyncState). s.others) c.loop-i.invariant.objects in
     let within : c.loop-i.i < length others = omega (arith, c.loop-i-test.true, ap length c.others-i-end.ensures) in
     let none : ActorId = record { 0 = 0 } in
     record {

@@ -5,16 +5,14 @@ use Rattle.std.proofs.lemmas.List.Elements.{All-set}
 use Rattle.sg_activity.specs.Doing.{Doing}
 use Rattle.sg_activity.specs.Task.{Task, comm_of}
 use Rattle.sg_base.specs.declared.ids.LinkId.{LinkId}
-use Rattle.sg_base.specs.declared.ids.PointId.{PointId}
 use Rattle.sg_base.specs.declared.ids.Serial.{Serial}
 use Rattle.sg_mailbox.specs.declared.owners.Whose.{Whose}
 use Rattle.sg_mailbox.specs.declared.owners.Whose.TheVariants.{Pair}
 use Rattle.sg_mailbox.specs.Owners.{Owned}
 use Rattle.sg_kernel_calls.specs.World.{extent}
-use Rattle.sg_kernel_calls.specs.kept.Sound.{setup_in, IsSide, IsOwner}
+use Rattle.sg_kernel_calls.specs.kept.Sound.{IsSide, IsOwner}
 use Rattle.sg_kernel_calls.proofs.Begins.{held_with, sound_with}
 use Rattle.sg_kernel_calls.proofs.Timely.{IsTimelyAt}
-use Rattle.sg_kernel_calls.proofs.Limits.{home_exists}
 use Rattle.sg_kernel_calls.proofs.Meets.{AreBusy, AreIdle, AreTold, busy_put, idle_put, made_more, told_met}
 use Rattle.sg_kernel_calls.proofs.Stated.{awaiting_more}
 use Rattle.sg_kernel_calls.proofs.Mets.{is_met, sides_limited, waiting_below}
@@ -34,17 +32,17 @@ start_comm-requires-clause-serial c =
       room = omega (arith, able.call.room, able.whole.roomy.starts);
     }
 
-pub point_of-from-requires : goal.point_of-from-requires
-point_of-from-requires c =
+pub host-from-requires : goal.host-from-requires
+host-from-requires c =
     let old = c.args.fields.now in
-    let e = extent (setup_in old) in
+    let e = extent old.setup in
     let m = is_met old c.args.comer.now c.args.met.0 c.args.met.1 (sym c.requires.meets.found.met ∙ c.requires.meets.met) c.requires.meets.able.whole.limited c.requires.meets.able.whole.meeting in
     (subst (IsSide e) (sym c.sender_of-sender.ensures) (sides_limited e c.args.comer.now c.args.met.1 c.requires.meets.comer.side m.limited).0).actor
 
-pub point_of-to-requires : goal.point_of-to-requires
-point_of-to-requires c =
+pub host-to-requires : goal.host-to-requires
+host-to-requires c =
     let old = c.args.fields.now in
-    let e = extent (setup_in old) in
+    let e = extent old.setup in
     let m = is_met old c.args.comer.now c.args.met.0 c.args.met.1 (sym c.requires.meets.found.met ∙ c.requires.meets.met) c.requires.meets.able.whole.limited c.requires.meets.able.whole.meeting in
     (subst (IsSide e) (sym c.receiver_of-receiver.ensures) (sides_limited e c.args.comer.now c.args.met.1 c.requires.meets.comer.side m.limited).1).actor
 
@@ -52,29 +50,25 @@ pub start_comm-requires-clause-transfer : goal.start_comm-requires-clause-transf
 start_comm-requires-clause-transfer c =
     let old = c.args.fields.now in
     let sound = c.requires.meets.able.whole.sound in
-    let e = extent (setup_in old) in
+    let e = extent old.setup in
     let m = is_met old c.args.comer.now c.args.met.0 c.args.met.1 (sym c.requires.meets.found.met ∙ c.requires.meets.met) c.requires.meets.able.whole.limited c.requires.meets.able.whole.meeting in
     let sides = sides_limited e c.args.comer.now c.args.met.1 c.requires.meets.comer.side m.limited in
     let sender = subst (IsSide e) (sym c.sender_of-sender.ensures) sides.0 in
-    let receiver = subst (IsSide e) (sym c.receiver_of-receiver.ensures) sides.1 in
-    let from = ap (λ (p : PointId). p.0) c.point_of-from.ensures in
-    let to = ap (λ (p : PointId). p.0) c.point_of-to.ensures in
     record {
       some = c.requires.route.some;
       apart = c.requires.apart;
       exist = subst (λ n. All (λ (link : LinkId). link.0 < n) c.args.links.now) (sym sound.links_counted) c.requires.route.exist;
       few = c.requires.route.few;
-      sender = omega (arith, from, home_exists old c.sender_of-sender.result.actor sound sender.actor);
-      receiver = omega (arith, to, home_exists old c.receiver_of-receiver.result.actor sound receiver.actor);
+      sender = omega (arith, c.host-from.ensures.exists, sound.hosts_counted);
+      receiver = omega (arith, c.host-to.ensures.exists, sound.hosts_counted);
       latency = c.latency_over-lasts.ensures.limit;
       bytes = sender.bytes;
     }
 
-pub put-requires-clause-from : goal.put-requires-clause-from
-put-requires-clause-from c = (is_met c.args.fields.now c.args.comer.now c.args.met.0 c.args.met.1 (sym c.requires.meets.found.met ∙ c.requires.meets.met) c.requires.meets.able.whole.limited c.requires.meets.able.whole.meeting).from
-
-pub put-requires-clause-to : goal.put-requires-clause-to
-put-requires-clause-to c = (is_met c.args.fields.now c.args.comer.now c.args.met.0 c.args.met.1 (sym c.requires.meets.found.met ∙ c.requires.meets.met) c.requires.meets.able.whole.limited c.requires.meets.able.whole.meeting).to
+pub put-requires-clause-drawn : goal.put-requires-clause-drawn
+put-requires-clause-drawn c =
+    let m = is_met c.args.fields.now c.args.comer.now c.args.met.0 c.args.met.1 (sym c.requires.meets.found.met ∙ c.requires.meets.met) c.requires.meets.able.whole.limited c.requires.meets.able.whole.meeting in
+    record { from = m.from; to = m.to }
 
 pub take_part-requires : goal.take_part-requires
 take_part-requires c = record {
@@ -91,7 +85,7 @@ take_part-requires c = record {
       let old = c.args.fields.now in
       let comer = c.args.comer.now in
       let serial = c.args.met.0 in
-      let e = extent (setup_in old) in
+      let e = extent old.setup in
       let was = c.requires.meets.able.whole in
       let m = is_met old comer serial c.args.met.1 (sym c.requires.meets.found.met ∙ c.requires.meets.met) c.requires.meets.able.whole.limited c.requires.meets.able.whole.meeting in
       let w = Pair c.sender_of-sender.result c.receiver_of-receiver.result in
@@ -101,7 +95,7 @@ take_part-requires c = record {
       let sides = sides_limited e comer c.args.met.1 c.requires.meets.comer.side m.limited in
       let whose : c.put.new.self.whose ≡ set old.whose.whose (serial.0 - 1) w = ap (λ (o : Owned). o.whose) c.put.ensures in
       let both : IsOwner e w = (subst (IsSide e) (sym c.sender_of-sender.ensures) sides.0, subst (IsSide e) (sym c.receiver_of-receiver.ensures) sides.1) in
-      let task = comm_of (record { links = c.args.links.now; sender = c.point_of-from.result.0; receiver = c.point_of-to.result.0 }) c.latency_over-lasts.result c.sender_of-sender.result.bytes c.own_bound-bound.result in
+      let task = comm_of (record { links = c.args.links.now; sender = c.host-from.result.0; receiver = c.host-to.result.0 }) c.latency_over-lasts.result c.sender_of-sender.result.bytes c.own_bound-bound.result in
       let place : serial.0 - 1 < length old.whose.whose = omega (arith, m.from, m.to) in
       let tasks : doing.under.tasks ≡ set old.doing.under.tasks (serial.0 - 1) (Some task) = ap (λ (d : Doing). d.under.tasks) begun in
       let long = ap length tasks ∙ length-set old.doing.under.tasks (serial.0 - 1) (Some task) in

@@ -17,15 +17,11 @@ use Rattle.sg_kernel_calls.proofs.meetings.fail_at_once.Goals as goal
 pub enter-requires-clause-above : goal.enter-requires-clause-above
 enter-requires-clause-above c = λ other. waiting_below c.args.fields.now other c.next_serial-next.result.0 c.next_serial-next.ensures c.requires.able.whole.sound c.requires.able.whole.meeting
 
-pub put-requires-clause-from : goal.put-requires-clause-from
-put-requires-clause-from c =
+pub put-requires-clause-drawn : goal.put-requires-clause-drawn
+put-requires-clause-drawn c =
     let old = c.args.fields.now in
-    (is_met old c.args.comer.now c.args.met.0 c.args.met.1 (sym c.requires.found.met ∙ c.requires.met) c.requires.able.whole.limited c.requires.able.whole.meeting).from
-
-pub put-requires-clause-to : goal.put-requires-clause-to
-put-requires-clause-to c =
-    let old = c.args.fields.now in
-    (is_met old c.args.comer.now c.args.met.0 c.args.met.1 (sym c.requires.found.met ∙ c.requires.met) c.requires.able.whole.limited c.requires.able.whole.meeting).to
+    let m = is_met old c.args.comer.now c.args.met.0 c.args.met.1 (sym c.requires.found.met ∙ c.requires.met) c.requires.able.whole.limited c.requires.able.whole.meeting in
+    record { from = m.from; to = m.to }
 
 pub fail_comer-requires-clause-other : goal.fail_comer-requires-clause-other
 fail_comer-requires-clause-other c = (is_met c.args.fields.now c.args.comer.now c.args.met.0 c.args.met.1 (sym c.requires.found.met ∙ c.requires.met) c.requires.able.whole.limited c.requires.able.whole.meeting).limited
@@ -48,8 +44,8 @@ fail_comer-requires-clause-takes_part c = record {
       unmet;
 }
 
-pub fail_other-requires-clause-sound : goal.fail_other-requires-clause-sound
-fail_other-requires-clause-sound c = c.fail_comer.ensures.whole.sound
+pub fail_other-requires-clause-able : goal.fail_other-requires-clause-able
+fail_other-requires-clause-able c = record { sound = c.fail_comer.ensures.whole.sound; small = search rules }
 
 pub fail_other-requires-clause-other : goal.fail_other-requires-clause-other
 fail_other-requires-clause-other c =

@@ -8,7 +8,7 @@ use Rattle.sg_mailbox.specs.declared.owners.Whose.{Whose}
 use Rattle.sg_mailbox.specs.declared.owners.Whose.TheVariants.{Posted}
 use Rattle.sg_kernel_calls.specs.World.{extent}
 use Rattle.sg_mailbox.specs.Owners.{Owned}
-use Rattle.sg_kernel_calls.specs.kept.Sound.{setup_in, IsOwner}
+use Rattle.sg_kernel_calls.specs.kept.Sound.{IsOwner}
 use Rattle.sg_kernel_calls.proofs.Begins.{held_with, sound_with}
 use Rattle.sg_kernel_calls.proofs.Timely.{IsTimelyAt}
 use Rattle.sg_kernel_calls.proofs.Meets.{AreBusy, AreIdle, AreTold, busy_more, idle_more, made_more, told_posted}
@@ -33,7 +33,7 @@ take_part-requires c = record {
   whole =
       let old = c.args.fields.now in
       let comer = c.args.comer.now in
-      let e = extent (setup_in old) in
+      let e = extent old.setup in
       let was = c.requires.comes.able.whole in
       let w = Posted comer.mailbox comer.sends comer.side in
       let doing = c.take_serial-serial.new.self in

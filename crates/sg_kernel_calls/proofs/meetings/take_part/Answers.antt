@@ -25,11 +25,9 @@ answer_now-requires-clause-able c =
           hosts_counted = sound.hosts_counted;
           links_counted = sound.links_counted;
           homes_known = sound.homes_known;
-          hosts_known = sound.hosts_known;
           requests_known = grind (arith, common_steps);
           requests_few = omega (arith, c.requires.few, ap (λ (r : Requested). r.asked) c.push.ensures);
           extent_is = sound.extent_is;
-          network_kept = sound.network_kept;
         };
         roomy = record { starts = was.roomy.starts; owners = was.roomy.owners; mailboxes = was.roomy.mailboxes; requests = omega (arith, c.requires.room, ap (λ (r : Requested). r.room) c.push.ensures) };
         dated = was.dated;

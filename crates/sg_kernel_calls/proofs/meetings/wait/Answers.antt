@@ -24,11 +24,9 @@ asking_less fields actor requests is able =
           hosts_counted = sound.hosts_counted;
           links_counted = sound.links_counted;
           homes_known = sound.homes_known;
-          hosts_known = sound.hosts_known;
           requests_known = ap length queues ∙ length-set fields.requests.queues (actor - 1) _ ∙ sound.requests_known;
           requests_few = omega (arith, sound.requests_few, ap (λ (r : Requested). r.asked) is);
           extent_is = sound.extent_is;
-          network_kept = sound.network_kept;
         };
         roomy = record { starts = was.roomy.starts; owners = was.roomy.owners; mailboxes = was.roomy.mailboxes; requests = omega (arith, was.roomy.requests, ap (λ (r : Requested). r.room) is) };
         dated = was.dated;
@@ -42,15 +40,11 @@ asking_less fields actor requests is able =
       fresh = record { tasks = able.fresh.tasks; asked = omega (arith, able.fresh.asked, ap (λ (r : Requested). r.asked) is); counts = able.fresh.counts };
     }
 
-pub of-requires-clause-from : goal.of-requires-clause-from
-of-requires-clause-from c =
+pub of-requires : goal.of-requires
+of-requires c =
     let old = c.args.fields.now in
-    (made_oldest (length old.whose.whose) old.requests.queues c.args.actor.0 c.in-Some.on (sym c.take.ensures.oldest ∙ c.in-Some.is) c.requires.whole.meeting.asked).from
-
-pub of-requires-clause-to : goal.of-requires-clause-to
-of-requires-clause-to c =
-    let old = c.args.fields.now in
-    (made_oldest (length old.whose.whose) old.requests.queues c.args.actor.0 c.in-Some.on (sym c.take.ensures.oldest ∙ c.in-Some.is) c.requires.whole.meeting.asked).to
+    let made = made_oldest (length old.whose.whose) old.requests.queues c.args.actor.0 c.in-Some.on (sym c.take.ensures.oldest ∙ c.in-Some.is) c.requires.whole.meeting.asked in
+    record { from = made.from; to = made.to }
 
 pub answer_now-requires-clause-able : goal.answer_now-requires-clause-able
 answer_now-requires-clause-able c = can_conclude (record c.args.fields.now { requests = c.take.new.self }) c.args.actor.0 (asking_less c.args.fields.now c.args.actor.0 c.take.new.self c.take.ensures.rest c.requires)
