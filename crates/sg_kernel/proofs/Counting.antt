@@ -17,12 +17,12 @@ counts_all old new all left (inl same) none = record { more = omega (arith, same
 counts_all old new all left (inr less) none = record { more = omega (arith, less); some = λ go some. less }
 
 -- or once the budget is used up
-pub counts_used : (old new : Fields) (all left : List ℕ) → Counted old new all left → old.budget ≡ new.budget → new.events ≡ new.budget → CountsSome all old new
+pub counts_used : (old new : Fields) (all left : List ℕ) → Counted old new all left → old.setup.budget ≡ new.setup.budget → new.events ≡ new.setup.budget → CountsSome all old new
 counts_used old new all left (inl same) budget used = record { more = omega (arith, same.0); some = λ go some. absurd (go (sym same.0 ∙ used ∙ sym budget)) }
 counts_used old new all left (inr less) budget used = record { more = omega (arith, less); some = λ go some. less }
 
 -- or once one more came, perhaps not to its end
-pub counts_some : (old now new : Fields) (all was : List ℕ) → Counted old now all was → old.budget ≡ now.budget → CountsSome was now new → CountsSome all old new
+pub counts_some : (old now new : Fields) (all was : List ℕ) → Counted old now all was → old.setup.budget ≡ now.setup.budget → CountsSome was now new → CountsSome all old new
 counts_some old now new all was (inl same) budget count = record {
   more = omega (arith, same.0, count.more);
   some = λ go some. omega (arith, same.0, count.some (λ e. go (sym same.0 ∙ e ∙ sym budget)) (λ e. some (sym same.1 ∙ e)));
@@ -34,7 +34,7 @@ none_or [] = inl refl
 none_or (x ∷ xs) = inr (λ e. cc e)
 
 -- and then something else comes
-pub counts_both : (old mid new : Fields) (rows due left : List ℕ) → CountsSome rows old mid → CountsSome left mid new → (rows ≡ [] → left ≡ due) → mid.budget ≡ old.budget → (rows ≢ []) ⊎ (due ≢ []) → old.events ≢ old.budget → old.events < new.events
+pub counts_both : (old mid new : Fields) (rows due left : List ℕ) → CountsSome rows old mid → CountsSome left mid new → (rows ≡ [] → left ≡ due) → mid.setup.budget ≡ old.setup.budget → (rows ≢ []) ⊎ (due ≢ []) → old.events ≢ old.setup.budget → old.events < new.events
 counts_both old mid new rows due left one two is budget some go = by (none_or rows)
   where
     step : {a b : ℕ} → a ≤ b → (a ≡ b) ⊎ (a < b)

@@ -1,9 +1,7 @@
 -- An entry of a profile comes.
-use Rattle.std.proofs.Common.{◌≡◌, ◌≢◌, ℕ, ◌<◌, ◌++◌, cond, None, List, [], length, drop, get_or, refl, sym, ap, subst, ◌∙◌, append-nil, arith}
-use Rattle.std.specs.List.{All}
+use Rattle.std.proofs.Common.{◌≡◌, ◌≢◌, ℕ, ◌++◌, cond, None, List, [], length, drop, get_or, refl, sym, ap, subst, ◌∙◌, append-nil, arith}
 use Rattle.std.specs.Prelude.{is_some}
 use Rattle.std.proofs.lemmas.List.{length-set}
-use Rattle.sg_base.specs.declared.ids.PointId.{PointId}
 use Rattle.sg_activity.specs.Doing.{Doing}
 use Rattle.sg_activity.specs.Underway.{Underway}
 use Rattle.sg_profile.specs.declared.entry.Entry.{Entry}
@@ -62,28 +60,28 @@ known_with fields under table records = record (known_of fields) {
   records = records;
 }
 
-pub entered_known : (fields : Fields) (doing : Doing) (profiles : Timetable) (entry : Entry) → IsDueEntry fields entry → IsApplied fields.network entry fields.doing doing → profiles ≡ past_next fields.profiles →
+pub entered_known : (fields : Fields) (doing : Doing) (profiles : Timetable) (entry : Entry) → IsDueEntry fields entry → IsApplied fields.setup.network entry fields.doing doing → profiles ≡ past_next fields.profiles →
     known_of (with_entry fields doing profiles) ≡ after (goes_on (enters (setup_in fields) (row_next fields) (core_of fields)) []) (known_of fields)
 entered_known fields doing profiles entry due set gone =
     let records = fields.states.records in
     let past = past_next fields.profiles in
     ap (λ u. known_with fields u profiles records) set.under
-    ∙ ap (λ t. known_with fields (applied fields.network entry fields.doing.under) t records) gone
-    ∙ ap (λ (r : List Record). known_with fields (applied fields.network entry fields.doing.under) past r) (sym (append-nil records))
-    ∙ ap (λ o. known_with fields (applied_if fields.network o fields.doing.under) past (records ++ [])) (sym due.next.entry_is)
+    ∙ ap (λ t. known_with fields (applied fields.setup.network entry fields.doing.under) t records) gone
+    ∙ ap (λ (r : List Record). known_with fields (applied fields.setup.network entry fields.doing.under) past r) (sym (append-nil records))
+    ∙ ap (λ o. known_with fields (applied_if fields.setup.network o fields.doing.under) past (records ++ [])) (sym due.next.entry_is)
 
 -- ---- what is kept of it
 -- the row is past the entry
-timely_past : (fields : Fields) (entry : Entry) → IsDueEntry fields entry → IsTimely fields → IsTimetable fields.hosts fields.links fields.doing.under.date (past_next fields.profiles)
+timely_past : (fields : Fields) (entry : Entry) → IsDueEntry fields entry → IsTimely fields → IsTimetable fields.setup.hosts fields.setup.links fields.doing.under.date (past_next fields.profiles)
 timely_past fields entry due was = record {
   profiles = was.profiles;
-  ahead = ahead_steps fields.hosts fields.links fields.doing.under.date fields.profiles.profiles fields.profiles.turns (row_next fields) due.next.rest was.profiles due.next.first was.ahead;
+  ahead = ahead_steps fields.setup.hosts fields.setup.links fields.doing.under.date fields.profiles.profiles fields.profiles.turns (row_next fields) due.next.rest was.profiles due.next.first was.ahead;
 }
 
 pub entered_timely : (fields : Fields) (doing : Doing) (profiles : Timetable) (entry : Entry) → IsDueEntry fields entry → doing.under.date ≡ fields.doing.under.date → profiles ≡ past_next fields.profiles → IsTimely fields → IsTimely (with_entry fields doing profiles)
 entered_timely fields doing profiles entry due date gone was =
-    subst (λ d. IsTimetable fields.hosts fields.links d profiles) (sym date)
-    (subst (λ (t : Timetable). IsTimetable fields.hosts fields.links fields.doing.under.date t) (sym gone) (timely_past fields entry due was))
+    subst (λ d. IsTimetable fields.setup.hosts fields.setup.links d profiles) (sym date)
+    (subst (λ (t : Timetable). IsTimetable fields.setup.hosts fields.setup.links fields.doing.under.date t) (sym gone) (timely_past fields entry due was))
 
 -- the other rows of the date are left
 pub entered_rows : (fields : Fields) (doing : Doing) (profiles : Timetable) (entry : Entry) → IsDueEntry fields entry → doing.under.date ≡ fields.doing.under.date → profiles ≡ past_next fields.profiles → IsTimely fields →
@@ -91,13 +89,13 @@ pub entered_rows : (fields : Fields) (doing : Doing) (profiles : Timetable) (ent
 entered_rows fields doing profiles entry due date gone was =
     ap (λ d. rows_due d profiles.profiles profiles.turns) date
     ∙ ap (λ (t : Timetable). rows_due fields.doing.under.date t.profiles t.turns) gone
-    ∙ rows_are_left fields.hosts fields.links fields.doing.under.date fields.profiles.profiles fields.profiles.turns (row_next fields) due.next.rest was.profiles due.next.first
+    ∙ rows_are_left fields.setup.hosts fields.setup.links fields.doing.under.date fields.profiles.profiles fields.profiles.turns (row_next fields) due.next.rest was.profiles due.next.first
     ∙ sym (ap (drop 1) due.next.first)
 
-pub entered_passing : (fields : Fields) (doing : Doing) (profiles : Timetable) (entry : Entry) → IsDueEntry fields entry → IsApplied fields.network entry fields.doing doing → profiles ≡ past_next fields.profiles →
+pub entered_passing : (fields : Fields) (doing : Doing) (profiles : Timetable) (entry : Entry) → IsDueEntry fields entry → IsApplied fields.setup.network entry fields.doing doing → profiles ≡ past_next fields.profiles →
     IsPassing fields → IsPassing (with_entry fields doing profiles)
 entered_passing fields doing profiles entry due set gone was =
-    let keeps = set_keeps fields.network entry fields.doing doing set in
+    let keeps = set_keeps fields.setup.network entry fields.doing doing set in
     let sound = was.sound in
     let held = was.held in
     record {
@@ -109,11 +107,9 @@ entered_passing fields doing profiles entry due set gone was =
         hosts_counted = keeps.hosts ∙ sound.hosts_counted;
         links_counted = keeps.links ∙ sound.links_counted;
         homes_known = sound.homes_known;
-        hosts_known = subst (λ n. All (λ (home : PointId). home.0 < n) fields.homes.items) (sym keeps.hosts) sound.hosts_known;
         requests_known = sound.requests_known;
         requests_few = sound.requests_few;
         extent_is = sound.extent_is;
-        network_kept = sound.network_kept;
       };
       roomy = record { starts = omega (arith, was.roomy.starts, set.room); owners = was.roomy.owners; mailboxes = was.roomy.mailboxes; requests = was.roomy.requests };
       timely = entered_timely fields doing profiles entry due keeps.date gone was.timely;

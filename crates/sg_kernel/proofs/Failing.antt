@@ -11,7 +11,7 @@ use Rattle.sg_mailbox.specs.declared.owners.Whose.{Whose}
 use Rattle.sg_mailbox.specs.declared.owners.Whose.TheVariants.{Over}
 use Rattle.sg_kernel_calls.specs.World.{extent}
 use Rattle.sg_mailbox.specs.Owners.{Owned}
-use Rattle.sg_kernel_calls.specs.kept.Sound.{setup_in, is_idle, AreMeeting, IsOwner}
+use Rattle.sg_kernel_calls.specs.kept.Sound.{is_idle, AreMeeting, IsOwner}
 use Rattle.sg_kernel_calls.specs.kept.Whole.{IsPassing}
 use Rattle.sg_kernel_calls.proofs.Begins.{held_with, sound_with}
 use Rattle.sg_kernel_calls.proofs.PostsKept.{meeting_gone, under_way}
@@ -21,9 +21,9 @@ use Rattle.sg_kernel_calls.proofs.Timely.{IsTimelyAt}
 pub not_over : (fields : Fields) (serial : ℕ) (task : Task) → task_at fields.doing.under.tasks serial ≡ Some task → AreMeeting fields → get_or fields.whose.whose (serial - 1) (Over how.Done) ≢ Over how.Done
 not_over fields serial task at meeting over = true≢false (sym (ap is_idle over) ∙ under_way fields.whose.whose fields.doing.under.tasks (serial - 1) task meeting.idle at)
 
-pub failed_owner : (fields : Fields) (serial : ℕ) (whose : Whose) → whose ≡ get_or fields.whose.whose (serial - 1) (Over how.Done) → IsHit fields.doing serial → IsPassing fields → IsOwner (extent (setup_in fields)) whose
+pub failed_owner : (fields : Fields) (serial : ℕ) (whose : Whose) → whose ≡ get_or fields.whose.whose (serial - 1) (Over how.Done) → IsHit fields.doing serial → IsPassing fields → IsOwner (extent fields.setup) whose
 failed_owner fields serial whose is hit passing =
-    subst (IsOwner (extent (setup_in fields))) (sym is) (passing.limited (serial - 1) (Over how.Done) (omega (arith, hit.from, hit.to, passing.sound.numbered)))
+    subst (IsOwner (extent fields.setup)) (sym is) (passing.limited (serial - 1) (Over how.Done) (omega (arith, hit.from, hit.to, passing.sound.numbered)))
 
 -- all that holds in a time advance still holds
 pub failed_passing : (fields : Fields) (serial : ℕ) (whose : Owned) (doing : Doing) → IsHit fields.doing serial → whose ≡ record fields.whose { whose = set fields.whose.whose (serial - 1) (Over how.Failed) } → doing ≡ gave_up serial fields.doing →
@@ -33,7 +33,7 @@ failed_passing fields serial whose doing hit owned gone was =
     let tasks = ap (λ (d : Doing). d.under.tasks) gone in
     let long = ap length tasks ∙ length-set fields.doing.under.tasks (serial - 1) None in
     let many = ap length owners ∙ length-set fields.whose.whose (serial - 1) (Over how.Failed) in
-    let e = extent (setup_in fields) in
+    let e = extent fields.setup in
     record {
       sound = sound_with fields doing whose fields.boxes (many ∙ was.sound.numbered ∙ sym long) (omega (arith, was.sound.few, long)) (ap (λ (d : Doing). d.under.capacities) gone) was.sound;
       roomy = record {

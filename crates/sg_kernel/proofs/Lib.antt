@@ -14,3 +14,4 @@ pub mod Rooms
 pub mod Skips
 pub mod Tells
 pub mod Timely
+pub mod Unprofiled

@@ -133,10 +133,10 @@ gets_leaves Waits actor what core = refl
 gets_leaves Refused actor what core = refl
 
 first_leaves : (done : Done) (actor : ℕ) (what : Call) (core : Core) → (caller_first done actor what core).core.under ≡ core.under
-first_leaves done actor what core = both_leave (caller_gets done.outcome actor what (with_objects done core)) (all_wake done.after.others) core.under (gets_leaves done.outcome actor what (with_objects done core)) (each_leaves wakes wakes_leave done.after.others)
+first_leaves done actor what core = both_leave (caller_gets done.outcome actor what (with_objects done core)) (all_wake done.woken) core.under (gets_leaves done.outcome actor what (with_objects done core)) (each_leaves wakes wakes_leave done.woken)
 
 last_leaves : (done : Done) (actor : ℕ) (what : Call) (core : Core) → (caller_last done actor what core).core.under ≡ core.under
-last_leaves done actor what core = both_leave (all_wake done.after.others (with_objects done core)) (caller_gets done.outcome actor what) core.under (each_leaves wakes wakes_leave done.after.others (with_objects done core)) (gets_leaves done.outcome actor what)
+last_leaves done actor what core = both_leave (all_wake done.woken (with_objects done core)) (caller_gets done.outcome actor what) core.under (each_leaves wakes wakes_leave done.woken (with_objects done core)) (gets_leaves done.outcome actor what)
 
 waits_leaves : (actor : ℕ) (core : Core) → (waits_by (oldest (queue_at core.requests actor)) actor core).core.under ≡ core.under
 waits_leaves actor core = by (oldest (queue_at core.requests actor))

@@ -19,7 +19,6 @@ use Rattle.sg_kernel_calls.specs.kept.Sound.{is_queued, known_of, AreHeld, AreMe
 use Rattle.sg_kernel_calls.specs.kept.Whole.{IsPassing, IsWhole}
 use Rattle.sg_kernel_calls.proofs.Begins.{held_with, sound_with}
 use Rattle.sg_kernel_calls.proofs.Each.{eq_no, eq_yes}
-use Rattle.sg_kernel_calls.proofs.Limits.{homes_counted}
 use Rattle.sg_kernel_calls.proofs.Moves.{roomy_less}
 use Rattle.sg_kernel.proofs.Nexts.{up_to_entries}
 use Rattle.sg_kernel_calls.proofs.Stated.{AreAwaiting}
@@ -53,11 +52,9 @@ sound_states fields states extent same was = record {
   hosts_counted = was.hosts_counted;
   links_counted = was.links_counted;
   homes_known = was.homes_known ∙ sym (ap length same);
-  hosts_known = was.hosts_known;
   requests_known = was.requests_known ∙ sym (ap length same);
   requests_few = was.requests_few;
   extent_is = extent ∙ was.extent_is;
-  network_kept = was.network_kept;
 }
 
 pub held_states : (fields : Fields) (doing : Doing) (states : ActorStates) → states.actors ≡ fields.states.actors → AreHeld fields → AreHeld (record fields { doing = doing; states = states })
@@ -77,7 +74,7 @@ meeting_states fields states same was = record { posts = was.posts; idle = was.i
 
 -- as many actors as homes, before and after
 pub actors_same : (old new : Fields) → IsSound old → IsSound new → (known_of new).setup ≡ (known_of old).setup → length new.states.actors ≡ length old.states.actors
-actors_same old new was is same = sym (homes_counted new is) ∙ ap (λ (s : Setup). length s.homes) same ∙ homes_counted old was
+actors_same old new was is same = sym is.homes_known ∙ ap (λ (s : Setup). length s.homes) same ∙ was.homes_known
 
 -- ---- the rates are updated
 pub whole_settled : (fields : Fields) (doing : Doing) → doing ≡ settled_in fields.doing → IsWhole fields → IsWhole (record fields { doing = doing })
@@ -112,7 +109,7 @@ sound_later fields doing span to was =
     let long : length doing.under.tasks ≡ length fields.doing.under.tasks = ap (λ (d : Doing). length d.under.tasks) to ∙ length-map fields.doing.under.tasks (option_map (passed fields.doing.under span)) in
     sound_with fields doing fields.whose fields.boxes (was.numbered ∙ sym long) (omega (arith, long, was.few)) (ap (λ (d : Doing). d.under.capacities) to) was
 
-pub passing_began : (fields : Fields) (doing : Doing) (states : ActorStates) (date : ℕ) → IsNextDate fields date → doing ≡ later_in (date - fields.doing.under.date) fields.doing → states ≡ record fields.states { passing = true; trimmed = false } → fields.events ≢ fields.budget →
+pub passing_began : (fields : Fields) (doing : Doing) (states : ActorStates) (date : ℕ) → IsNextDate fields date → doing ≡ later_in (date - fields.doing.under.date) fields.doing → states ≡ record fields.states { passing = true; trimmed = false } → fields.events ≢ fields.setup.budget →
     IsWhole fields → IsPassing (record fields { doing = doing; states = states })
 passing_began fields doing states date next to began go was =
     let span = date - fields.doing.under.date in

@@ -1,10 +1,9 @@
 -- What is kept, as there is more room.
-use Rattle.std.proofs.Common.{◌≡◌, ◌<◌, ◌≤◌, List, length, get_or, None, sym, ap, subst, ◌∙◌, arith}
+use Rattle.std.proofs.Common.{◌≡◌, ◌≤◌, List, length, get_or, None, sym, ap, subst, ◌∙◌, arith}
 use Rattle.std.specs.List.{All}
 use Rattle.std.specs.Prelude.{is_some}
 use Rattle.sg_base.specs.declared.awaits.Await.{Await}
 use Rattle.sg_base.specs.declared.ids.BoxId.{BoxId}
-use Rattle.sg_base.specs.declared.ids.PointId.{PointId}
 use Rattle.sg_activity.specs.Doing.{Doing}
 use Rattle.sg_activity.specs.Underway.{Underway}
 use Rattle.sg_mailbox.specs.Posts.{Posts, waiters}
@@ -19,7 +18,7 @@ use Rattle.sg_mailbox.specs.declared.owners.Whose.TheVariants.{Over}
 use Rattle.sg_kernel_calls.specs.World.{extent}
 use Rattle.sg_kernel_calls.specs.Meetings.{posts_from}
 use Rattle.sg_mailbox.specs.Owners.{Owned}
-use Rattle.sg_kernel_calls.specs.kept.Sound.{setup_in, is_idle, is_queued, IsMade, IsOwner}
+use Rattle.sg_kernel_calls.specs.kept.Sound.{is_idle, is_queued, IsMade, IsOwner}
 use Rattle.sg_kernel_calls.specs.kept.Whole.{IsWhole}
 use Rattle.sg_kernel_calls.proofs.Stated.{AreAwaiting}
 use Rattle.sg_kernel_calls.proofs.Timely.{IsTimelyAt}
@@ -53,16 +52,14 @@ whole_roomier fields doing whose boxes requests states is was =
         hosts_counted = ap (λ (u : Underway). length u.capacities.hosts) is.tasks ∙ sound.hosts_counted;
         links_counted = ap (λ (u : Underway). length u.capacities.links) is.tasks ∙ sound.links_counted;
         homes_known = sound.homes_known ∙ sym (ap length is.actors);
-        hosts_known = subst (λ (u : Underway). All (λ (home : PointId). home.0 < length u.capacities.hosts) fields.homes.items) (sym is.tasks) sound.hosts_known;
         requests_known = ap length is.queues ∙ sound.requests_known ∙ sym (ap length is.actors);
         requests_few = omega (arith, is.asked, sound.requests_few);
         extent_is = is.extent_is ∙ sound.extent_is;
-        network_kept = sound.network_kept;
       };
       roomy = record { starts = is.starts_room; owners = is.owners_room; mailboxes = is.mailboxes_room; requests = is.requests_room };
       dated = omega (arith, ap (λ (u : Underway). u.date) is.tasks, was.dated);
       timely = subst (IsTimelyAt fields) (sym (ap (λ (u : Underway). u.date) is.tasks)) was.timely;
-      limited = subst (All (IsOwner (extent (setup_in fields)))) (sym is.owners) was.limited;
+      limited = subst (All (IsOwner (extent fields.setup))) (sym is.owners) was.limited;
       meeting = record {
         posts = λ mailbox. is.mailboxes mailbox ∙ was.meeting.posts mailbox ∙ sym (ap (posts_from mailbox 1) is.owners);
         idle = λ place posted. ap (λ (u : Underway). get_or u.tasks place None) is.tasks ∙ was.meeting.idle place (sym (ap (λ (l : List Whose). is_idle (get_or l place (Over how.Done))) is.owners) ∙ posted);

@@ -25,7 +25,6 @@ first_objects setup = record {
   acquiring = replicate (length setup.semaphores) [];
   members = setup.members;
   arrived = [];
-  others = [];
 }
 
 -- no activity runs on these hosts and links, each profile is before its first entry, and the actors that start now are

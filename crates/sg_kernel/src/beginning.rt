@@ -1,138 +1,43 @@
-//! A simulation begins.
+//! What a simulation begins with.
 
-ghost use Rattle.std.specs.Prelude.{◌≡◌, ◌≤◌, ◌^◌, IfOk};
-ghost use Rattle.sg_platform_rows.specs.Deployment.{IsDeployedOn};
-ghost use Rattle.sg_kernel.specs.Start.{capacities_in, first_known};
-ghost use Rattle.sg_kernel_calls.specs.Setup.{setup_of};
-ghost use Rattle.sg_kernel.specs.kept.First.{AreActors, AreObjects, IsIdle};
-ghost use Rattle.sg_kernel_calls.specs.kept.Sound.{known_of};
-ghost use Rattle.sg_kernel_calls.specs.kept.Whole.{IsWhole};
+ghost use Rattle.std.specs.Prelude.{◌≡◌, IfOk, map};
+ghost use Rattle.sg_activity.specs.Doing.{idle_on};
+ghost use Rattle.sg_kernel.specs.Start.{first_objects};
+ghost use Rattle.sg_kernel_calls.specs.Setup.{host_cap, link_caps};
+ghost use Rattle.sg_kernel.specs.kept.First.{first_states};
 
-use crate::setup::{capacities, homes, hosts, links, members, starts};
+use crate::setup::{hosts, links};
 use sg_activity::Activities;
 use sg_actor_states::States;
-use sg_base::{Memory, PointId};
-use sg_kernel_calls::Fields;
-use sg_mailbox::{Boxes, Owners};
-use sg_platform_rows::{Deployment, PlatformText};
-use sg_profile::Profiles;
-use sg_requests::Requests;
+use sg_base::Memory;
+use sg_kernel_calls::Setup;
+use sg_platform_rows::PlatformText;
 use sg_sync::Sync;
 use std::alloc::Global;
 
-// What is kept is made in parts: running out of memory drops all that a function holds by then, so each holds little.
-
-// The hosts and links of the platform without any activity, and empty mailboxes.
-#[derive(Drop)]
-struct Idle {
-    doing: Activities,
-    boxes: Boxes,
-    hosts: usize,
-    links: usize,
-}
-
-fn make_idle(alloc: Global, platform: &PlatformText) -> Result<Idle, Memory>
-    ensures { IfOk result (IsIdle platform.now) }
+/// Makes the hosts and links of the platform without any activity.
+pub(crate) fn make_doing(alloc: Global, platform: &PlatformText) -> Result<Activities, Memory>
+    ensures { IfOk result (λ doing. doing
+        ≡ idle_on (map host_cap platform.now.hosts)
+        (link_caps platform.now.network platform.now.links)) }
 {
     let hosts = hosts(alloc, platform.hosts())?;
     let links = links(alloc, platform.network(), platform.links())?;
-    let boxes = Boxes::new(alloc)?;
-    let doing = Activities::new(alloc, &hosts, &links)?;
-    Ok(Idle {
-        doing,
-        boxes,
-        hosts: hosts.len(),
-        links: links.len(),
-    })
+    Activities::new(alloc, &hosts, &links)
 }
 
-// The actors of the deployment before any of them ran.
-#[derive(Drop)]
-struct FirstActors {
-    states: States,
-    requests: Requests,
-    homes: Vec<PointId>,
-    starts: Vec<bool>,
-}
-
-fn make_actors(alloc: Global, deployment: &Deployment) -> Result<FirstActors, Memory>
-    ensures { IfOk result (AreActors deployment.now) }
+/// Makes the actors before any of them ran.
+pub(crate) fn make_states(alloc: Global, setup: &Setup) -> Result<States, Memory>
+    ensures { IfOk result (λ states. states ≡ first_states setup.now) }
 {
-    let rows = deployment.actors();
-    let mutexes = deployment.mutexes().len();
-    let semaphores = deployment.semaphores().len();
-    let homes = homes(alloc, rows)?;
-    let requests = Requests::new(alloc, rows.len())?;
-    let starts = starts(alloc, rows)?;
-    let states = States::new(alloc, &starts, mutexes, semaphores)?;
-    Ok(FirstActors {
-        states,
-        requests,
-        homes,
-        starts,
-    })
+    States::new(alloc, &setup.starts, setup.mutexes, setup.semaphores.len())
 }
 
-// The mutexes, semaphores and the barrier of the deployment, at which no actor waits.
-#[derive(Drop)]
-struct FirstObjects {
-    objects: Sync,
-    semaphores: Vec<u64>,
-    members: u32,
-}
-
-fn make_objects(alloc: Global, deployment: &Deployment) -> Result<FirstObjects, Memory>
-    ensures { IfOk result (AreObjects deployment.now) }
+/// Makes the mutexes, semaphores and the barrier, at which no actor waits.
+pub(crate) fn make_objects(alloc: Global, setup: &Setup) -> Result<Sync, Memory>
+    ensures { IfOk result (λ objects. objects.objects ≡ first_objects setup.now) }
 {
-    let rows = deployment.actors();
-    let actors = rows.len() as u32;
-    let mutexes = deployment.mutexes().len() as u32;
-    let members = members(rows);
-    let semaphores = capacities(alloc, deployment.semaphores())?;
-    let objects = Sync::new(alloc, actors, mutexes, &semaphores, members)?;
-    Ok(FirstObjects {
-        objects,
-        semaphores,
-        members,
-    })
-}
-
-/// Makes what a simulation begins with.
-pub(crate) fn first_fields(
-    alloc: Global,
-    platform: &PlatformText,
-    deployment: &Deployment,
-    budget: u64,
-) -> Result<Fields, Memory>
-    requires deployed { IsDeployedOn platform.now deployment.now }
-    requires budget { budget ≤ 10 ^ 9 }
-    ensures known { IfOk result (λ fields. known_of fields
-        ≡ first_known (capacities_in platform.now)
-        (setup_of platform.now deployment.now budget)) }
-    ensures whole { IfOk result (λ fields. IsWhole fields) }
-{
-    let profiles = Profiles::new(alloc, platform)?;
-    let objects = make_objects(alloc, deployment)?;
-    let actors = make_actors(alloc, deployment)?;
-    // Last of all, so that running out of memory doesn't drop it.
-    let idle = make_idle(alloc, platform)?;
-    Ok(Fields {
-        doing: idle.doing,
-        states: actors.states,
-        whose: Owners::new(alloc),
-        boxes: idle.boxes,
-        requests: actors.requests,
-        objects: objects.objects,
-        hosts: idle.hosts,
-        links: idle.links,
-        network: platform.network(),
-        profiles,
-        homes: actors.homes,
-        starts: actors.starts,
-        mutexes: deployment.mutexes().len(),
-        semaphores: objects.semaphores,
-        members: objects.members,
-        events: 0,
-        budget,
-    })
+    let actors = setup.homes.len() as u32;
+    let mutexes = setup.mutexes as u32;
+    Sync::new(alloc, actors, mutexes, &setup.semaphores, setup.members)
 }

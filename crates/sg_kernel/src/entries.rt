@@ -57,14 +57,13 @@ fn enter(fields: &mut Fields, entry: Entry)
         fields.old fields.new }
     ensures rows { rows_now fields.new ≡ drop 1 (rows_now fields.old) }
 {
-    apply(&mut fields.doing, fields.network, entry);
+    apply(&mut fields.doing, fields.setup.network(), entry);
     fields.profiles.step();
 }
 
 // Applies the next entry, with all that comes with it, as far as the budget goes.
 fn change(fields: &mut Fields, entry: Entry) -> Result<(), Stop>
-    requires due { IsDueEntry fields.old entry }
-    requires passing { IsPassing fields.old }
+    requires { CanEnter fields.old entry }
     ensures changes { Changes (changes (setup_in fields.old) (row_next fields.old))
         fields.old fields.new result }
     ensures rows { OnOk result (rows_now fields.new ≡ drop 1 (rows_now fields.old)) }

@@ -19,15 +19,19 @@ ghost use Rattle.sg_kernel_calls.specs.Roads.{AreOver};
 ghost use Rattle.sg_kernel.specs.Passes.{pass_of};
 ghost use Rattle.sg_kernel_calls.specs.Known.{after, after_call};
 
-use crate::beginning::first_fields;
+use crate::beginning::{make_doing, make_objects, make_states};
 use crate::passes::move_on;
+use crate::setup::make_setup;
 use arrayvec::ArrayVec;
 use sg_actor_states::State;
 use sg_base::{Action, ActorId, Answer, Call, LinkId, Memory, PointId, Record, Steps};
 use sg_kernel_calls::{
     Fields, Stop, answer_call, check_budget, count, create, event, go_on, is_used_up,
 };
+use sg_mailbox::{Boxes, Owners};
 use sg_platform_rows::{Deployment, PlatformText};
+use sg_profile::Profiles;
+use sg_requests::Requests;
 use sg_route::Router;
 use std::alloc::Global;
 use std::marker::Model;
@@ -89,7 +93,25 @@ impl Kernel {
             ≡ first_known (capacities_in platform.now)
             (setup_of platform.now deployment.now budget)) }
     {
-        let fields = first_fields(alloc, platform, deployment, budget)?;
+        let setup = make_setup(alloc, platform, deployment, budget)?;
+        let states = make_states(alloc, &setup)?;
+        let objects = make_objects(alloc, &setup)?;
+        let requests = Requests::new(alloc, deployment.actors().len())?;
+        let profiles = Profiles::new(alloc, platform)?;
+        let boxes = Boxes::new(alloc)?;
+        // Last of all, so that running out of memory doesn't drop it.
+        let doing = make_doing(alloc, platform)?;
+        let fields = Fields {
+            setup,
+            doing,
+            states,
+            whose: Owners::new(alloc),
+            boxes,
+            requests,
+            objects,
+            profiles,
+            events: 0,
+        };
         Ok(Kernel {
             fields,
             way: ArrayVec::new(),
@@ -233,7 +255,7 @@ impl Kernel {
         ensures is { result ≡ blocked_of (state_of self.now.core actor.0) }
         ensures limited { IfSome result (IsTellable (extent self.now.setup)) }
     {
-        self.fields.states.blocked(actor)
+        self.fields.states.state(actor).blocked()
     }
 
     /// Returns whether an actor has started and hasn't ended.

@@ -1,14 +1,18 @@
 //! What a platform and a deployment give to a simulation, row by row. An `Err` says that memory ran out.
-ghost use Rattle.std.specs.Prelude.{◌≡◌, ◌≤◌, ◌++◌, All, IfOk, OnOk, length, map, option_map};
+ghost use Rattle.std.specs.Prelude.{◌≡◌, [], ◌≤◌, ◌++◌, All, IfOk, OnOk, length, map, option_map};
 ghost use Rattle.std.specs.List.{count_by};
-ghost use Rattle.sg_platform_rows.specs.Deployment.{is_replay, starts};
+ghost use Rattle.sg_platform_rows.specs.Deployment.{is_replay, starts, IsDeployedOn};
 ghost use Rattle.sg_platform_rows.specs.Network.{IsNetwork};
 ghost use Rattle.sg_platform_rows.specs.Platform.{IsLinkRow};
-ghost use Rattle.sg_kernel_calls.specs.Setup.{capacity_of, caps_in, host_cap, link_cap, link_caps, power_of_row, replays};
+ghost use Rattle.sg_kernel_calls.specs.Setup.{capacity_of, caps_in, host_cap, link_cap, link_caps, power_of_row, replays, setup_of};
 
 use sg_activity_table::{HostCap, LinkCap, Power};
 use sg_base::{Memory, PointId};
-use sg_platform_rows::{ActorRow, Function, HostRow, LinkRow, Network, Policy, SemaphoreRow};
+use sg_kernel_calls::Setup;
+use sg_platform_rows::{
+    ActorRow, Deployment, Function, HostRow, LinkRow, Network, PlatformText, Policy, SemaphoreRow,
+    link_ends,
+};
 use std::alloc::Global;
 
 /// The bandwidth of the loopback, in bytes a second.
@@ -87,8 +91,8 @@ pub(crate) fn links(
     Ok(links)
 }
 
-/// Returns the host of each actor.
-pub(crate) fn homes(alloc: Global, actors: &[ActorRow]) -> Result<Vec<PointId>, Memory>
+// Returns the host of each actor.
+fn homes(alloc: Global, actors: &[ActorRow]) -> Result<Vec<PointId>, Memory>
     ensures { IfOk result (λ homes. homes.items ≡ map (λ actor. actor.host) actors.now) }
 {
     let mut homes = Vec::new(alloc);
@@ -98,8 +102,8 @@ pub(crate) fn homes(alloc: Global, actors: &[ActorRow]) -> Result<Vec<PointId>, 
     Ok(homes)
 }
 
-/// Returns whether each actor starts with the run.
-pub(crate) fn starts(alloc: Global, actors: &[ActorRow]) -> Result<Vec<bool>, Memory>
+// Returns whether each actor starts with the run.
+fn starts(alloc: Global, actors: &[ActorRow]) -> Result<Vec<bool>, Memory>
     ensures { IfOk result (λ starting. starting.items ≡ map starts actors.now) }
 {
     let mut starts = Vec::new(alloc);
@@ -109,8 +113,8 @@ pub(crate) fn starts(alloc: Global, actors: &[ActorRow]) -> Result<Vec<bool>, Me
     Ok(starts)
 }
 
-/// Returns the capacity of each semaphore.
-pub(crate) fn capacities(alloc: Global, rows: &[SemaphoreRow]) -> Result<Vec<u64>, Memory>
+// Returns the capacity of each semaphore.
+fn capacities(alloc: Global, rows: &[SemaphoreRow]) -> Result<Vec<u64>, Memory>
     ensures { IfOk result (λ capacities. capacities.items ≡ map capacity_of rows.now) }
 {
     let mut capacities = Vec::new(alloc);
@@ -129,8 +133,8 @@ fn is_replay(function: &Function) -> bool
     }
 }
 
-/// Returns how many actors replay.
-pub(crate) fn members(actors: &[ActorRow]) -> u32
+// Returns how many actors replay.
+fn members(actors: &[ActorRow]) -> u32
     requires { length actors.now ≤ 65536 }
     ensures { result ≡ count_by replays actors.now }
 {
@@ -138,4 +142,34 @@ pub(crate) fn members(actors: &[ActorRow]) -> u32
         .iter()
         .filter(|actor| is_replay(&actor.function))
         .count() as u32
+}
+
+/// Makes what stays of a simulation, except for the profiles. `budget` is the most events that there may be.
+pub(crate) fn make_setup(
+    alloc: Global,
+    platform: &PlatformText,
+    deployment: &Deployment,
+    budget: u64,
+) -> Result<Setup, Memory>
+    requires { IsDeployedOn platform.now deployment.now }
+    ensures { IfOk result (λ setup. setup
+        ≡ record (setup_of platform.now deployment.now budget) { profiles = [] }) }
+{
+    platform.rows_are_valid();
+    let rows = deployment.actors();
+    let links = link_ends(alloc, platform.links())?.len();
+    let homes = homes(alloc, rows)?;
+    let starts = starts(alloc, rows)?;
+    let semaphores = capacities(alloc, deployment.semaphores())?;
+    Ok(Setup {
+        hosts: platform.hosts().len(),
+        links,
+        network: platform.network(),
+        homes,
+        starts,
+        mutexes: deployment.mutexes().len(),
+        semaphores,
+        members: members(rows),
+        budget,
+    })
 }

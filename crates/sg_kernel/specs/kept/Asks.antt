@@ -17,7 +17,7 @@ pub record CanMoveOn (fields : Fields) : Type 0 where
 pub record CanPass (fields : Fields) : Type 0 where
   pub passing : IsPassing fields
   pub some : (rows_now fields ≢ []) ⊎ (fields.doing.due ≢ [])
-  pub budget : fields.events ≢ fields.budget
+  pub budget : fields.events ≢ fields.setup.budget
 
 -- in a time advance this activity is the first that uses something that is off, and its failure is counted
 pub record CanFail (fields : Fields) (serial : ℕ) : Type 0 where

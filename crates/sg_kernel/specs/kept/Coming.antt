@@ -28,7 +28,7 @@ pub record IsNextDate (fields : Fields) (date : ℕ) : Type 0 where
 -- this entry is the first of those of the date
 pub record IsDueEntry (fields : Fields) (entry : Entry) : Type 0 where
   pub next : IsNextEntry fields.profiles fields.doing.under.date entry
-  pub exists : IsEntry fields.hosts fields.links entry
+  pub exists : IsEntry fields.setup.hosts fields.setup.links entry
 
 -- an entry changed what it is of, whose rate is no longer up to date, unless that was only turned
 -- on or off
@@ -55,4 +55,4 @@ coming fields =
 -- no event is taken back; if some of these are to come and the budget isn't used up, there is one
 pub record CountsSome (left : List ℕ) (old new : Fields) : Type 0 where
   pub more : old.events ≤ new.events
-  pub some : old.events ≢ old.budget → left ≢ [] → old.events < new.events
+  pub some : old.events ≢ old.setup.budget → left ≢ [] → old.events < new.events

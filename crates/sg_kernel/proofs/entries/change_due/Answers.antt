@@ -30,7 +30,7 @@ loop-entry-preserved c =
     let on : (changes setup row (core_of old)).stop ≡ None = on_ok _ (sym (c.in-Ok.ensures.changes.result ∙ ap (λ s. result_of (changes s row (core_of old)).stop) inv.setup)) in
     let rest : rows_now new ≡ due.rest = c.in-Ok.ensures.rows ∙ ap (drop 1) due.first in
     let more = still_next (changes setup) row due.rest (known_of old) (known_of new) known on in
-    let go : old.events ≢ old.budget = λ used. cc (sym (ap (λ (s : Step). s.stop) (change_used setup row (core_of old) (used ∙ ap (λ (s : Setup). s.budget) inv.setup))) ∙ on) in
+    let go : old.events ≢ old.setup.budget = λ used. cc (sym (ap (λ (s : Step). s.stop) (change_used setup row (core_of old) (used ∙ ap (λ (s : Setup). s.budget) inv.setup))) ∙ on) in
     let some : rows_now old ≢ [] = λ none. cc (sym due.first ∙ none) in
     record {
       passing = made.changes.passing;

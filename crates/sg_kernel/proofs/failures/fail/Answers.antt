@@ -14,8 +14,8 @@ use Rattle.sg_kernel.proofs.Hits.{rest_is_hit}
 use Rattle.sg_kernel.proofs.Leaving.{leaves_given}
 use Rattle.sg_kernel.proofs.failures.fail.Goals as goal
 
-pub fail-whose-requires-clause-to : goal.fail-whose-requires-clause-to
-fail-whose-requires-clause-to c = omega (arith, c.requires.hit.to, c.requires.passing.sound.numbered)
+pub fail-whose-requires-clause-drawn : goal.fail-whose-requires-clause-drawn
+fail-whose-requires-clause-drawn c = record { from = c.requires.hit.from; to = omega (arith, c.requires.hit.to, c.requires.passing.sound.numbered) }
 
 pub fail-whose-requires-clause-under_way : goal.fail-whose-requires-clause-under_way
 fail-whose-requires-clause-under_way c = not_over c.args.fields.now c.args.serial.0 c.requires.hit.task c.requires.hit.at c.requires.passing.meeting
@@ -26,15 +26,11 @@ give_up-requires c = record { from = c.requires.hit.from; under_way = ap is_some
 pub answer_owners-requires-clause-whose : goal.answer_owners-requires-clause-whose
 answer_owners-requires-clause-whose c = failed_owner c.args.fields.now c.args.serial.0 c.fail-whose.result c.fail-whose.ensures.was c.requires.hit c.requires.passing
 
-pub answer_owners-requires-clause-sound : goal.answer_owners-requires-clause-sound
-answer_owners-requires-clause-sound c =
+pub answer_owners-requires-clause-able : goal.answer_owners-requires-clause-able
+answer_owners-requires-clause-able c =
     let old = c.args.fields.now in
-    (failed_passing old c.args.serial.0 c.fail-whose.new.self c.give_up.new.self c.requires.hit c.fail-whose.ensures.is c.give_up.ensures c.requires.passing).sound
-
-pub answer_owners-requires-clause-small : goal.answer_owners-requires-clause-small
-answer_owners-requires-clause-small c =
-    let old = c.args.fields.now in
-    (failed_passing old c.args.serial.0 c.fail-whose.new.self c.give_up.new.self c.requires.hit c.fail-whose.ensures.is c.give_up.ensures c.requires.passing).small
+    let passing = failed_passing old c.args.serial.0 c.fail-whose.new.self c.give_up.new.self c.requires.hit c.fail-whose.ensures.is c.give_up.ensures c.requires.passing in
+    record { sound = passing.sound; small = passing.small }
 
 pub returns-clause-enters : goal.returns-clause-enters
 returns-clause-enters c = record {

@@ -9,11 +9,8 @@ use Rattle.sg_kernel_calls.proofs.Meets.{AreBusy, busy_set}
 use Rattle.sg_kernel_calls.proofs.PostsKept.{last_phase, meeting_gone}
 use Rattle.sg_kernel.proofs.passes.end_phase.Goals as goal
 
-pub answer_owners-requires-clause-sound : goal.answer_owners-requires-clause-sound
-answer_owners-requires-clause-sound c = grind (arith, common_steps)
-
-pub answer_owners-requires-clause-small : goal.answer_owners-requires-clause-small
-answer_owners-requires-clause-small c = search rules
+pub answer_owners-requires-clause-able : goal.answer_owners-requires-clause-able
+answer_owners-requires-clause-able c = record { sound = grind (arith, common_steps); small = search rules }
 
 pub returns-in-Latency : goal.returns-in-Latency
 returns-in-Latency c = record {

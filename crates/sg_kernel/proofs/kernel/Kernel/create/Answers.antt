@@ -4,7 +4,6 @@ use Rattle.sg_kernel_calls.specs.declared.simulation_state.Fields.{Fields}
 use Rattle.sg_kernel_calls.specs.Known.{Known}
 use Rattle.sg_kernel_calls.specs.World.{IsActor, MayCall}
 use Rattle.sg_kernel_calls.specs.kept.Acts.{CanMake}
-use Rattle.sg_kernel_calls.proofs.Limits.{homes_counted}
 use Rattle.sg_kernel_calls.proofs.Moves.{can_step}
 use Rattle.sg_kernel.proofs.kernel.Kernel.create.Goals as goal
 
@@ -23,5 +22,5 @@ create-requires-clause-makes c =
     let there = subst (λ (k : Known). IsActor k.core target.0) (sym c.self.view_is) c.requires.target in
     subst (λ (f : Fields). CanMake f actor (call.Create target)) (sym c.count.ensures) (record {
       able = can_step fields actor whole caller room budget;
-      call = (there.from, omega (arith, there.to, homes_counted fields whole.sound));
+      call = (there.from, omega (arith, there.to, whole.sound.homes_known));
     })
