@@ -26,7 +26,7 @@ use Rattle.sg_base.specs.Turn.{actor_of}
 
 -- ---- an actor that waits or is unblocked waited before, or is the caller
 abbrev pub AtMost : ActorId → Objects → Done → Type 0
-AtMost caller o done = (actor : ActorId) → waiting done.after actor + times actor done.after.others ≤ waiting o actor + times actor (comers caller done.outcome)
+AtMost caller o done = (actor : ActorId) → waiting done.after actor + times actor done.woken ≤ waiting o actor + times actor (comers caller done.outcome)
 
 pub locked_most : (o : Objects) (caller : ActorId) (mutex : ℕ) → AtMost caller o (locked caller mutex o)
 locked_most o caller mutex = elim (cases_lt mutex (length o.locking)) [
@@ -87,16 +87,16 @@ no_comer actor caller Refused apart = refl
 
 -- ---- the caller gets its answer, or waits
 awaited_called : (actor : ℕ) (new : State) (done : Done) (core : Core) → JoinsAlone new → ((n : ℕ) → n ≤ length (comers (actor_of actor) done.outcome) → MayStand new n)
-    → AtMost (actor_of actor) core.objects done → IsCaller actor core → AreAwaited Nobody [] core → AreAwaited Nobody done.after.others (with_state actor new (with_objects done core))
+    → AtMost (actor_of actor) core.objects done → IsCaller actor core → AreAwaited Nobody [] core → AreAwaited Nobody done.woken (with_state actor new (with_objects done core))
 awaited_called actor new done core alone may most caller a = record {
   numbered = a.numbered;
   rooms = omega (arith, a.rooms, put_long core.actors actor new);
   named = (awaited_put Nobody [] actor new core alone caller.apart a).named;
   held = record {
     stand = λ other from.
-        put_at (λ state. MayStand state (waiting done.after other + times other done.after.others)) core.actors actor other.0 new caller.within
-        (λ same. may (waiting done.after other + times other done.after.others) (omega (arith, most other, caller.apart.idle other from same, comers_few other (actor_of actor) done.outcome)))
-        (λ apart. fewer_stand (state_of core other.0) (waiting core.objects other + times other []) (waiting done.after other + times other done.after.others) (omega (arith, most other, no_comer other (actor_of actor) done.outcome (λ e. apart (ap (λ n. n - 1) (sym e))))) (a.held.stand other from));
+        put_at (λ state. MayStand state (waiting done.after other + times other done.woken)) core.actors actor other.0 new caller.within
+        (λ same. may (waiting done.after other + times other done.woken) (omega (arith, most other, caller.apart.idle other from same, comers_few other (actor_of actor) done.outcome)))
+        (λ apart. fewer_stand (state_of core other.0) (waiting core.objects other + times other []) (waiting done.after other + times other done.woken) (omega (arith, most other, no_comer other (actor_of actor) done.outcome (λ e. apart (ap (λ n. n - 1) (sym e))))) (a.held.stand other from));
     real = λ other none.
         let differs : actor ≢ other.0 = (λ e. omega (arith, e, none, caller.from)) in
         omega (arith, most other, a.held.real other none, no_comer other (actor_of actor) done.outcome differs);
@@ -106,7 +106,7 @@ awaited_called actor new done core alone may most caller a = record {
 
 -- by a call that is no join
 awaited_gets : (outcome : Outcome) (done : Done) (actor : ℕ) (what : Call) (core : Core) → done.outcome ≡ outcome → joined_by what ≡ None
-    → AtMost (actor_of actor) core.objects done → IsCaller actor core → AreAwaited Nobody [] core → AreAwaited Nobody done.after.others (caller_gets outcome actor what (with_objects done core)).core
+    → AtMost (actor_of actor) core.objects done → IsCaller actor core → AreAwaited Nobody [] core → AreAwaited Nobody done.woken (caller_gets outcome actor what (with_objects done core)).core
 awaited_gets GoesOn done actor what core e none most caller a =
     awaited_called actor (Ready answer.Done) done core (λ target e. refl) (λ n le. omega (arith, le, ap (λ o. length (comers (actor_of actor) o)) e)) most caller a
 awaited_gets Waits done actor what core e none most caller a =
@@ -117,7 +117,7 @@ awaited_gets Refused done actor what core e none most caller a =
 pub awaited_first : (done : Done) (actor : ℕ) (what : Call) (core : Core) → joined_by what ≡ None → AtMost (actor_of actor) core.objects done → IsCaller actor core → AreAwaited Nobody [] core → AreAwaited Nobody [] (caller_first done actor what core).core
 awaited_first done actor what core none most caller a =
     let first = caller_gets done.outcome actor what (with_objects done core) in
-    woken_after first done.after.others (awaited_gets done.outcome done actor what core refl none most caller a) (awaited_woken done.after.others first.core)
+    woken_after first done.woken (awaited_gets done.outcome done actor what core refl none most caller a) (awaited_woken done.woken first.core)
 
 -- ---- the barrier, which answers the caller last
 pub awaited_barrier : (actor : ℕ) (what : Call) (core : Core) → joined_by what ≡ None → IsCaller actor core → AreAwaited Nobody [] core → AreAwaited Nobody [] (caller_last (arrived (actor_of actor) core.objects) actor what core).core
@@ -125,10 +125,10 @@ unfolding each
 awaited_barrier actor what core none caller a = by (nat_lt (length core.objects.arrived + 1) core.objects.members) (λ other. omega (arith, arrived_keeps core.objects (actor_of actor) other))
   where
     waits_there : Done
-    waits_there = record { outcome = Waits; after = record core.objects { arrived = core.objects.arrived ++ actor_of actor ∷ []; others = [] } }
+    waits_there = record { outcome = Waits; after = record core.objects { arrived = core.objects.arrived ++ actor_of actor ∷ [] }; woken = [] }
 
     all_go : Done
-    all_go = record { outcome = GoesOn; after = record core.objects { arrived = []; others = core.objects.arrived } }
+    all_go = record { outcome = GoesOn; after = record core.objects { arrived = [] }; woken = core.objects.arrived }
 
     opened : AtMost (actor_of actor) core.objects all_go → AreAwaited Nobody [] (caller_last all_go actor what core).core
     opened most =

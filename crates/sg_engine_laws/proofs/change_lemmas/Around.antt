@@ -192,12 +192,12 @@ module _ (R : Underway → Objects → Type 0) (lasting : Lasting R) (May : ℕ 
   first_kept : (actor : ℕ) → May actor → (done : Done) (what : Call) (core : Core) → AtMost (actor_of actor) core.objects done → P core → Still (caller_first done actor what core)
   first_kept actor may done what core most p =
       let gets = caller_gets done.outcome actor what (with_objects done core) in
-      both P anything gets (all_wake done.after.others) (gets_kept done.outcome actor what (with_objects done core) ((served actor may).does core.under core.objects done most p)) (all_kept P anything replying done.after.others gets.core)
+      both P anything gets (all_wake done.woken) (gets_kept done.outcome actor what (with_objects done core) ((served actor may).does core.under core.objects done most p)) (all_kept P anything replying done.woken gets.core)
 
   last_kept : (actor : ℕ) → May actor → (done : Done) (what : Call) (core : Core) → AtMost (actor_of actor) core.objects done → P core → Still (caller_last done actor what core)
   last_kept actor may done what core most p =
-      let woken = all_wake done.after.others (with_objects done core) in
-      both P anything woken (caller_gets done.outcome actor what) (all_kept P anything replying done.after.others (with_objects done core) ((served actor may).does core.under core.objects done most p)) (gets_kept done.outcome actor what woken.core)
+      let woken = all_wake done.woken (with_objects done core) in
+      both P anything woken (caller_gets done.outcome actor what) (all_kept P anything replying done.woken (with_objects done core) ((served actor may).does core.under core.objects done most p)) (gets_kept done.outcome actor what woken.core)
 
   -- ---- other actors
   joins_kept : (ended : Bool) (actor : ℕ) (target : ActorId) (core : Core) → P core → Still (joins_by ended actor target core)

@@ -278,12 +278,12 @@ parts_gets Refused actor what core p = parts_ready Nobody core actor answer.Refu
 parts_first : (done : Done) (actor : ℕ) (what : Call) (core : Core) → TakePart Nobody core → TakePart Nobody (caller_first done actor what core).core
 parts_first done actor what core p =
     let gets = caller_gets done.outcome actor what (with_objects done core) in
-    after_both (TakePart Nobody) gets (all_wake done.after.others) (parts_gets done.outcome actor what (with_objects done core) p) (λ q. (all_kept (TakePart Nobody) anything parts_replying done.after.others gets.core q).holds)
+    after_both (TakePart Nobody) gets (all_wake done.woken) (parts_gets done.outcome actor what (with_objects done core) p) (λ q. (all_kept (TakePart Nobody) anything parts_replying done.woken gets.core q).holds)
 
 parts_last : (done : Done) (actor : ℕ) (what : Call) (core : Core) → TakePart Nobody core → TakePart Nobody (caller_last done actor what core).core
 parts_last done actor what core p =
-    let woken = all_wake done.after.others (with_objects done core) in
-    after_both (TakePart Nobody) woken (caller_gets done.outcome actor what) (all_kept (TakePart Nobody) anything parts_replying done.after.others (with_objects done core) p).holds (parts_gets done.outcome actor what woken.core)
+    let woken = all_wake done.woken (with_objects done core) in
+    after_both (TakePart Nobody) woken (caller_gets done.outcome actor what) (all_kept (TakePart Nobody) anything parts_replying done.woken (with_objects done core) p).holds (parts_gets done.outcome actor what woken.core)
 
 -- ---- suspensions
 parts_marked : (target : ℕ) (on : Bool) (core : Core) → TakePart Nobody core → TakePart Nobody (with_suspended target on core)

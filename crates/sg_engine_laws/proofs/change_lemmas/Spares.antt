@@ -78,13 +78,13 @@ module _ (place : ℕ) where
   first_live done actor what core p =
       let start = with_objects done core in
       let first = caller_gets done.outcome actor what start in
-      both Live anything first (all_wake done.after.others) (caller_live done.outcome actor what start p) (all_kept Live anything live_replies done.after.others first.core)
+      both Live anything first (all_wake done.woken) (caller_live done.outcome actor what start p) (all_kept Live anything live_replies done.woken first.core)
 
   last_live : (done : Done) (actor : ℕ) (what : Call) (core : Core) → Live core → Keeps (caller_last done actor what core)
   last_live done actor what core p =
       let start = with_objects done core in
-      let first = all_wake done.after.others start in
-      both Live anything first (caller_gets done.outcome actor what) (all_kept Live anything live_replies done.after.others start p) (caller_live done.outcome actor what first.core)
+      let first = all_wake done.woken start in
+      both Live anything first (caller_gets done.outcome actor what) (all_kept Live anything live_replies done.woken start p) (caller_live done.outcome actor what first.core)
 
   -- ---- communications
   part_live : (waits : Bool) (comer : Comer) (serial : ℕ) (core : Core) → Live core → Keeps (takes_part waits comer serial core)

@@ -159,12 +159,12 @@ module _ (before : Core) where
     first : (done : Done) (what : Call) (core : Core) → created_by what ≡ None → Leaves before core → Keeping before (caller_first done actor what core)
     first done what core none l =
         let one = caller_gets done.outcome actor what (with_objects done core) in
-        both (Leaves before) TellsNone one (all_wake done.after.others) (gets done.outcome what (with_objects done core) none (with_others done core l)) (all_kept (Leaves before) TellsNone replying done.after.others one.core)
+        both (Leaves before) TellsNone one (all_wake done.woken) (gets done.outcome what (with_objects done core) none (with_others done core l)) (all_kept (Leaves before) TellsNone replying done.woken one.core)
 
     last : (done : Done) (what : Call) (core : Core) → created_by what ≡ None → Leaves before core → Keeping before (caller_last done actor what core)
     last done what core none l =
-        let one = all_wake done.after.others (with_objects done core) in
-        both (Leaves before) TellsNone one (caller_gets done.outcome actor what) (all_kept (Leaves before) TellsNone replying done.after.others (with_objects done core) (with_others done core l)) (gets done.outcome what one.core none)
+        let one = all_wake done.woken (with_objects done core) in
+        both (Leaves before) TellsNone one (caller_gets done.outcome actor what) (all_kept (Leaves before) TellsNone replying done.woken (with_objects done core) (with_others done core l)) (gets done.outcome what one.core none)
 
     until : (over : Option Answer) (on : Await) (core : Core) → Leaves before core → Keeping before (waits_until over actor on core)
     until (Some over) on core l = now call.Wait 0 over core refl l

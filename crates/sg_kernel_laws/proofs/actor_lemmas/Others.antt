@@ -118,12 +118,12 @@ caller_spares resting Q rests Refused actor what core apart e = now_spares resti
 first_spares : (resting : ℕ) (Q : State → List Await → Type 0) (rests : Rests Q) (done : Done) (actor : ℕ) (what : Call) (core : Core) → Apart resting actor → Stays resting Q core → Spares resting Q (caller_first done actor what core)
 first_spares resting Q rests done actor what core apart e =
     let first = caller_gets done.outcome actor what (with_objects done core) in
-    both (Stays resting Q) (IsOfAnother resting) first (all_wake done.after.others) (caller_spares resting Q rests done.outcome actor what (with_objects done core) apart e) (all_kept (Stays resting Q) (IsOfAnother resting) (replying resting Q rests) done.after.others first.core)
+    both (Stays resting Q) (IsOfAnother resting) first (all_wake done.woken) (caller_spares resting Q rests done.outcome actor what (with_objects done core) apart e) (all_kept (Stays resting Q) (IsOfAnother resting) (replying resting Q rests) done.woken first.core)
 
 last_spares : (resting : ℕ) (Q : State → List Await → Type 0) (rests : Rests Q) (done : Done) (actor : ℕ) (what : Call) (core : Core) → Apart resting actor → Stays resting Q core → Spares resting Q (caller_last done actor what core)
 last_spares resting Q rests done actor what core apart e =
-    let first = all_wake done.after.others (with_objects done core) in
-    both (Stays resting Q) (IsOfAnother resting) first (caller_gets done.outcome actor what) (all_kept (Stays resting Q) (IsOfAnother resting) (replying resting Q rests) done.after.others (with_objects done core) e) (caller_spares resting Q rests done.outcome actor what first.core apart)
+    let first = all_wake done.woken (with_objects done core) in
+    both (Stays resting Q) (IsOfAnother resting) first (caller_gets done.outcome actor what) (all_kept (Stays resting Q) (IsOfAnother resting) (replying resting Q rests) done.woken (with_objects done core) e) (caller_spares resting Q rests done.outcome actor what first.core apart)
 
 -- ---- communications
 part_spares : (resting : ℕ) (Q : State → List Await → Type 0) (rests : Rests Q) (waits : Bool) (comer : Comer) (serial : ℕ) (core : Core) → Apart resting comer.side.actor.0 → Stays resting Q core → Spares resting Q (takes_part waits comer serial core)

@@ -210,14 +210,14 @@ module _ (R : Core → Core → List Record → Type 0) (c : Calling R) where
       let start = with_objects done (counted core) in
       let first = caller_gets done.outcome actor what start in
       from R b core start (caller_first done actor what (counted core)) refl
-      (both R b start first (all_wake done.after.others) (caller_so done.outcome actor what start) (all_so R b done.after.others first.core))
+      (both R b start first (all_wake done.woken) (caller_so done.outcome actor what start) (all_so R b done.woken first.core))
 
   last_so : (done : Done) (actor : ℕ) (what : Call) (core : Core) → Holds R core (caller_last done actor what (counted core))
   last_so done actor what core =
       let start = with_objects done (counted core) in
-      let first = all_wake done.after.others start in
+      let first = all_wake done.woken start in
       from R b core start (caller_last done actor what (counted core)) refl
-      (both R b start first (caller_gets done.outcome actor what) (all_so R b done.after.others start) (caller_so done.outcome actor what first.core))
+      (both R b start first (caller_gets done.outcome actor what) (all_so R b done.woken start) (caller_so done.outcome actor what first.core))
 
   -- ---- communications
   part_so : (waits : Bool) (comer : Comer) (serial : ℕ) (core other : Core) → other.actors ≡ core.actors → Holds R core (takes_part waits comer serial other)

@@ -1,7 +1,7 @@
 -- Whose calls fail by a call.
 use Rattle.std.proofs.Common.{◌≡◌, ℕ, ◌==◌, ◌||◌, Bool, true, false, cond, Option, None, Some, Result, Ok, Err, List, [], ◌∷◌, ◌++◌, refl, sym, ap, subst}
 use Rattle.std.specs.List.{All}
-use Rattle.std.proofs.lemmas.List.Elements.{All-nil, All-cons, All-append}
+use Rattle.std.proofs.lemmas.List.Elements.{All-nil, All-append}
 use Rattle.sg_base.specs.Turn.{actor_of}
 use Rattle.sg_base.specs.declared.awaits.Await.{Await}
 use Rattle.sg_base.specs.declared.awaits.Party.{Party}
@@ -19,7 +19,7 @@ use Rattle.sg_route.specs.declared.router.RouteFault.{RouteFault}
 use Rattle.sg_route.specs.Roads.{Roads}
 use Rattle.sg_route.specs.Route.{Route}
 use Rattle.sg_actor_states.specs.declared.state.Blocking.{Blocking}
-use Rattle.sg_actor_states.specs.Actors.{blocking_in, is_alive, is_ended, joiners}
+use Rattle.sg_actor_states.specs.Actors.{blocking_in, is_ended, joiners}
 use Rattle.sg_actor_states.specs.Records.{record_of}
 use Rattle.sg_sync.specs.declared.outcome.Outcome.{Outcome}
 use Rattle.sg_sync.specs.declared.outcome.Outcome.TheVariants.{GoesOn, Waits, Refused}
@@ -84,13 +84,13 @@ gets_well Refused actor what core = just GoesWell _ refl
 
 first_well : (done : Done) (actor : ℕ) (what : Call) (core : Core) → All GoesWell (caller_first done actor what core).made
 first_well done actor what core =
-    then_all GoesWell (caller_gets done.outcome actor what (with_objects done core)) (all_wake done.after.others)
-    (gets_well done.outcome actor what (with_objects done core)) (each_all GoesWell wakes wakes_well done.after.others)
+    then_all GoesWell (caller_gets done.outcome actor what (with_objects done core)) (all_wake done.woken)
+    (gets_well done.outcome actor what (with_objects done core)) (each_all GoesWell wakes wakes_well done.woken)
 
 last_well : (done : Done) (actor : ℕ) (what : Call) (core : Core) → All GoesWell (caller_last done actor what core).made
 last_well done actor what core =
-    then_all GoesWell (all_wake done.after.others (with_objects done core)) (caller_gets done.outcome actor what)
-    (each_all GoesWell wakes wakes_well done.after.others (with_objects done core)) (gets_well done.outcome actor what)
+    then_all GoesWell (all_wake done.woken (with_objects done core)) (caller_gets done.outcome actor what)
+    (each_all GoesWell wakes wakes_well done.woken (with_objects done core)) (gets_well done.outcome actor what)
 
 part_well : (waits : Bool) (comer : Comer) (serial : ℕ) (core : Core) → All GoesWell (takes_part waits comer serial core).made
 part_well true comer serial core = All-nil GoesWell

@@ -27,14 +27,14 @@ use Rattle.sg_mailbox.specs.declared.sides.Post.{Post}
 use Rattle.sg_mailbox.specs.declared.sides.Side.{Side}
 use Rattle.sg_mailbox.specs.Posts.{is_other, partner}
 use Rattle.sg_profile.specs.Profiles.{entry_at, rows_due}
-use Rattle.sg_requests.specs.Requested.{awaited_with, rising_numbers_with, oldest, queue_at, queues_with_request, rest_of, rising_numbers, serial_of, queues_without_oldest, without_requests}
+use Rattle.sg_requests.specs.Requested.{rising_numbers_with, oldest, queue_at, rest_of, rising_numbers, serial_of, queues_without_oldest, without_requests}
 use Rattle.sg_route.specs.declared.router.RouteFault.{RouteFault}
 use Rattle.sg_route.specs.Roads.{Roads}
 use Rattle.sg_route.specs.Route.{Route}
 use Rattle.sg_actor_states.specs.declared.state.Actor.{Actor}
 use Rattle.sg_actor_states.specs.declared.state.Blocking.{Blocking}
 use Rattle.sg_actor_states.specs.declared.state.State.{State}
-use Rattle.sg_actor_states.specs.declared.state.State.TheVariants.{Unstarted, Ready, Blocked, Ended}
+use Rattle.sg_actor_states.specs.declared.state.State.TheVariants.{Ready, Blocked, Ended}
 use Rattle.sg_actor_states.specs.Actors.{blocking_in, first_actor, is_alive, is_ended, joiners, not_suspended, put_state, put_suspended, state_at}
 use Rattle.sg_actor_states.specs.Records.{end_by}
 use Rattle.sg_sync.specs.declared.outcome.Outcome.{Outcome}
@@ -50,7 +50,7 @@ use Rattle.sg_kernel_calls.specs.declared.stop.Stop.TheVariants.{Budget}
 use Rattle.sg_kernel_calls.specs.Answers.{answer_to, answers, answers_by, answers_side, bare_side, finishes, for_receiver, awaits_side, party_eq, side_of, tells_bytes, with_over}
 use Rattle.sg_kernel_calls.specs.Calls.{await_alone, answer_of_ask, answered, answered_call, blocks_on, computes, executed, executes, told, with_execution, with_sleep}
 use Rattle.sg_kernel_calls.specs.Kills.{awaited, blocked_on, gives_up, gives_up_by, kill_done, kill_stretches, kills, withdrawn}
-use Rattle.sg_kernel_calls.specs.Lives.{begins, answers_create, created, exits, joins_by, with_actor_ended}
+use Rattle.sg_kernel_calls.specs.Lives.{begins, answers_create, created, joins_by, with_actor_ended}
 use Rattle.sg_kernel_calls.specs.Locks.{all_wake, caller_first, caller_gets, caller_last, joiners_wake, wakes, wakes_from, with_objects}
 use Rattle.sg_kernel_calls.specs.Meetings.{answer_of_over, asks_for, await, both_fail, comer_fails, comes, comes_by, fails_with, joined, joins_on, joins_over, joins_with, other_fails, posted, posts_at, receiver_of, receives_by, route_between, sender_of, sends_by, takes_part, takes_part_failed, waits_by, waits_until, way_with}
 use Rattle.sg_kernel.specs.Passes.{all_fail, changes, core_later, ends, ends_by, ends_in, ends_one, enters_one, entry_stretches, fails, fails_one, next_span, pass_at, settled, stretches}
@@ -429,13 +429,13 @@ few_gets Refused actor what core fit = few_replied core actor core.under.date 0 
 
 few_first : (done : Done) (actor : ℕ) (what : Call) (core : Core) → IsFit core → TellsFew (caller_first done actor what core)
 few_first done actor what core fit =
-    few_both (caller_gets done.outcome actor what (with_objects done core)) (all_wake done.after.others) (few_gets done.outcome actor what (with_objects done core) fit)
-    (few_each wakes few_wakes done.after.others (caller_gets done.outcome actor what (with_objects done core)).core)
+    few_both (caller_gets done.outcome actor what (with_objects done core)) (all_wake done.woken) (few_gets done.outcome actor what (with_objects done core) fit)
+    (few_each wakes few_wakes done.woken (caller_gets done.outcome actor what (with_objects done core)).core)
 
 few_last : (done : Done) (actor : ℕ) (what : Call) (core : Core) → IsFit core → TellsFew (caller_last done actor what core)
 few_last done actor what core fit =
-    few_both (all_wake done.after.others (with_objects done core)) (caller_gets done.outcome actor what) (few_each wakes few_wakes done.after.others (with_objects done core) fit)
-    (few_gets done.outcome actor what (all_wake done.after.others (with_objects done core)).core)
+    few_both (all_wake done.woken (with_objects done core)) (caller_gets done.outcome actor what) (few_each wakes few_wakes done.woken (with_objects done core) fit)
+    (few_gets done.outcome actor what (all_wake done.woken (with_objects done core)).core)
 
 -- one that waits comes by a call that may fail
 abbrev MayWait : Comer → Type 0

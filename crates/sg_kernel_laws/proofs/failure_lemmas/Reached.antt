@@ -22,14 +22,13 @@ use Rattle.sg_mailbox.specs.declared.owners.How.TheVariants as how
 use Rattle.sg_mailbox.specs.declared.owners.Whose.{Whose}
 use Rattle.sg_mailbox.specs.declared.owners.Whose.TheVariants.{Over, Alone, Posted, Pair}
 use Rattle.sg_kernel_calls.specs.declared.stop.Stop.{Stop}
-use Rattle.sg_kernel_calls.specs.Answers.{answers, answers_by, answers_side, bare_side, finishes, for_receiver, awaits_side, party_eq, tells_bytes, with_over}
+use Rattle.sg_kernel_calls.specs.Answers.{answers, answers_by, answers_side, bare_side, for_receiver, awaits_side, party_eq, tells_bytes, with_over}
 use Rattle.sg_kernel_calls.specs.Kills.{awaited, gives_up, gives_up_by, kill_done, kill_stretches, kills, withdrawn}
 use Rattle.sg_kernel_calls.specs.Locks.{joiners_wake}
 use Rattle.sg_kernel_calls.specs.Steps.{Step, goes_on, counted, follows, and_then, each, all_of, at_once, replied}
 use Rattle.sg_kernel_calls.specs.World.{Core, MayCall, state_of, whose_at}
 use Rattle.sg_kernel_calls.proofs.Each.{eq_no, eq_yes}
 use Rattle.sg_kernel_calls.proofs.Finishes.{answers_side_goes, finishes_goes}
-use Rattle.sg_kernel_calls.proofs.Stated.{blocking_is}
 use Rattle.sg_kernel_laws.specs.failures.Laws.{IsOtherSide, TellsCaller, is_side}
 use Rattle.sg_kernel_laws.proofs.failure_lemmas.Passed.{put_there}
 
