@@ -6,7 +6,7 @@ ghost use Rattle.sg_script.specs.Known.{known_in};
 ghost use Rattle.sg_script.specs.Line.{entry_of, is_plain, KeepsLimits, line_judgement, text_judgement, without_return};
 ghost use Rattle.sg_script.specs.Operation.{IsOperation};
 ghost use Rattle.sg_script.specs.Words.{words};
-ghost use Rattle.sg_script.specs.kept.Asks.{IsJudged};
+ghost use Rattle.sg_script.specs.kept.Asks.{IsJudged, IsSaid};
 ghost use Rattle.sg_script.specs.kept.Verbs.{operation_in, operation_of};
 ghost use Rattle.sg_script.specs.declared.operation.Operation.TheVariants.{Alone, Together};
 ghost use Rattle.sg_script.specs.declared.verbs.Verb.TheVariants.{ISend, Send};
@@ -109,8 +109,8 @@ fn read_operation(verb: Verb, text: &[u8], deployment: &Deployment) -> Result<Op
 
 // Reads what the action of a word asks for with the arguments that stand in this text.
 fn read_action(word: &[u8], text: &[u8], deployment: &Deployment) -> Result<Operation, LineFault>
-    ensures said { result ≡ operation_in (known_in deployment.now) word.now (words text.now) }
-    ensures limits { IfOk result (IsOperation (extent_of deployment.now)) }
+    ensures { IsSaid deployment.now
+        (operation_in (known_in deployment.now) word.now (words text.now)) result }
 {
     match read_verb(word) {
         Some(verb) => read_operation(verb, text, deployment),

@@ -1,5 +1,5 @@
 //! The lines that wait for each actor, first in, first out.
-ghost use Rattle.std.specs.Prelude.{◌≡◌, ◌<◌, [], ◌∷◌, length, replicate, slice_set, All, IfOk, IfNone, IfSome, MatchOption, OnOk, OnErr};
+ghost use Rattle.std.specs.Prelude.{◌≡◌, ◌<◌, [], ◌∷◌, length, replicate, slice_set, All, IfOk, IfNone, IfSome, MatchOption, MatchResult};
 ghost use Rattle.std.specs.List.{flat_map};
 ghost use Rattle.sg_script.specs.declared.operation.Operation.TheVariants.{Alone};
 ghost use Rattle.sg_base.specs.Limits.{Extent, IsAction, IsActorIn};
@@ -95,8 +95,8 @@ impl Queues {
     /// Puts a line after those that wait for the actor.
     pub fn push(&mut self, actor: ActorId, operation: Operation) -> Result<(), Memory>
         requires { actor.0 < length self.old }
-        ensures ok { OnOk result (self.new ≡ with_line actor.0 operation self.old) }
-        ensures err { OnErr result (self.new ≡ self.old) }
+        ensures { MatchResult result (λ _. self.new ≡ with_line actor.0 operation self.old)
+            (λ _. self.new ≡ self.old) }
     {
         match self.lists[actor.0 as usize].push_back(Waiting {
             operation,

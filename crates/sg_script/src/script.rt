@@ -55,7 +55,7 @@ impl Script {
     ghost use Rattle.sg_script.specs.Frugal.{Frugal};
     ghost use Rattle.sg_script.specs.Known.{ScriptNames};
     ghost use Rattle.sg_script.specs.Stands.{AreLimited, IsLimited, IsRead, LeadsFetch, BreaksOnFailure, actors_of, kept_of, Stands};
-    ghost use Rattle.sg_script.specs.kept.Asks.{CanPass, IsAnswered, IsAtFront, IsIdle, IsReady, KeepsLimitsIf};
+    ghost use Rattle.sg_script.specs.kept.Asks.{CanPass, IsAnswered, IsAtFront, IsIdle, IsReady, KeepsLimitsIf, MayRead};
     ghost use Rattle.sg_script.specs.kept.Steps.{LineIs, LineTells, Pops, ReadIs, StepIs};
 
     /// Makes a script of which nothing was read, for so many actors.
@@ -200,8 +200,8 @@ impl Script {
         deployment: &Deployment,
         files: &mut F,
     ) -> Option<Answer>
-        requires begun { (F.shows files.old Part.Script).stage ≢ Fresh }
-        requires idle { IsIdle deployment.now actor.0 (kept_of self.old) }
+        requires { MayRead deployment.now actor.0 (F.shows files.old Part.Script)
+            (kept_of self.old) }
         ensures step { StepIs (known_in deployment.now) actor.0 result
             (F.shows files.old Part.Script) (F.shows files.new Part.Script) (kept_of self.old)
             (kept_of self.new) }
@@ -227,8 +227,8 @@ impl Script {
         deployment: &Deployment,
         files: &mut F,
     ) -> Result<Option<Action>, ScriptFault>
-        requires begun { (F.shows files.old Part.Script).stage ≢ Fresh }
-        requires idle { IsIdle deployment.now actor.0 (kept_of self.old) }
+        requires { MayRead deployment.now actor.0 (F.shows files.old Part.Script)
+            (kept_of self.old) }
         ensures { IsAnswered deployment.now actor.0 result (F.shows files.old)
             (F.shows files.new) (kept_of self.old) (kept_of self.new) }
     {

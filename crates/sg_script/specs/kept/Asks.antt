@@ -1,15 +1,19 @@
 -- What a fetch stands on, and what keeps to the limits after it.
-use Rattle.std.specs.Prelude.{◌≡◌, ◌<◌, ◌≤◌, ℕ, [], length, take, true, IfSome, Option, Result}
+use Rattle.std.specs.Prelude.{◌≡◌, ◌≢◌, ◌<◌, ◌≤◌, ℕ, [], length, take, true, IfOk, IfSome, Option, Result}
 use Rattle.std.specs.List.{list_all}
 use Rattle.sg_base.specs.declared.call.Action.{Action}
 use Rattle.sg_edge.specs.Files.{Only, PartView}
 use Rattle.sg_edge.specs.declared.files.Part.{Part}
+use Rattle.sg_edge.specs.declared.files.Stage.TheVariants.{Fresh}
 use Rattle.sg_edge.specs.declared.files.Part.TheVariants as part
 use Rattle.sg_platform_rows.specs.Deployment.{Deployed, extent_of, members_among}
 use Rattle.sg_script.specs.Known.{actors_in, known_in}
 use Rattle.sg_script.specs.Line.{Judgement, KeepsLimits}
 use Rattle.sg_script.specs.Stands.{AreLimited, IsLimited, IsRead, Kept}
+use Rattle.sg_script.specs.Operation.{IsOperation}
+use Rattle.sg_script.specs.declared.fault.LineFault.{LineFault}
 use Rattle.sg_script.specs.declared.fault.ScriptFault.{ScriptFault}
+use Rattle.sg_script.specs.declared.operation.Operation.{Operation}
 use Rattle.sg_script.specs.kept.Front.{is_within}
 use Rattle.sg_script.specs.kept.Queues.{waits}
 use Rattle.sg_script.specs.kept.Steps.{Ends}
@@ -18,6 +22,11 @@ use Rattle.sg_script.specs.kept.Steps.{Ends}
 pub record IsJudged (deployed : Deployed) (judgement answer : Judgement) : Type 0 where
   pub said : answer ≡ judgement
   pub limits : KeepsLimits (extent_of deployed) answer
+
+-- the arguments of an action say this, which keeps to the limits of the deployment
+pub record IsSaid (deployed : Deployed) (wanted answer : Result Operation LineFault) : Type 0 where
+  pub said : answer ≡ wanted
+  pub limits : IfOk answer (IsOperation (extent_of deployed))
 
 -- so many bytes are there, and one line more may be
 pub record CanPass (end : ℕ) (kept : Kept) : Type 0 where
@@ -40,6 +49,11 @@ pub record IsReady (deployed : Deployed) (actor : ℕ) (kept : Kept) : Type 0 wh
 pub record IsIdle (deployed : Deployed) (actor : ℕ) (kept : Kept) : Type 0 where
   pub ready : IsReady deployed actor kept
   pub empty : waits (members_among deployed.actors) kept.queues actor ≡ []
+
+-- so it is, and the script may be read: it is begun
+pub record MayRead (deployed : Deployed) (actor : ℕ) (part : PartView) (kept : Kept) : Type 0 where
+  pub begun : part.stage ≢ Fresh
+  pub idle : IsIdle deployed actor kept
 
 -- an answer, if there is one, and the lines that wait keep to the limits
 pub record KeepsLimitsIf (deployed : Deployed) (answer : Option (Result (Option Action) ScriptFault))

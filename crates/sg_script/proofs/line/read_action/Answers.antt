@@ -9,17 +9,23 @@ use Rattle.sg_script.specs.kept.Verbs.{operation_of}
 use Rattle.sg_script.proofs.Actions.{by_verb}
 use Rattle.sg_script.proofs.line.read_action.Goals as goal
 
-pub returns-in-Some-clause-said : goal.returns-in-Some-clause-said
-returns-in-Some-clause-said c =
+pub returns-in-Some : goal.returns-in-Some
+returns-in-Some c =
     let known = known_in c.args.deployment.now in
     let args = words c.args.text.now in
-    c.read_operation.ensures.said
-    ∙ ap (λ (found : Option Verb). then_go (ok_or found UnknownAction) (λ verb. operation_of known verb args)) c.in-Some.ensures
-    ∙ sym (by_verb known c.args.word.now args)
+    record {
+      said = c.read_operation.ensures.said
+          ∙ ap (λ (found : Option Verb). then_go (ok_or found UnknownAction) (λ verb. operation_of known verb args)) c.in-Some.ensures
+          ∙ sym (by_verb known c.args.word.now args);
+      limits = c.read_operation.ensures.limits;
+    }
 
-pub returns-in-None-clause-said : goal.returns-in-None-clause-said
-returns-in-None-clause-said c =
+pub returns-in-None : goal.returns-in-None
+returns-in-None c =
     let known = known_in c.args.deployment.now in
     let args = words c.args.text.now in
-    ap (λ (found : Option Verb). then_go (ok_or found UnknownAction) (λ verb. operation_of known verb args)) c.in-None.ensures
-    ∙ sym (by_verb known c.args.word.now args)
+    record {
+      said = ap (λ (found : Option Verb). then_go (ok_or found UnknownAction) (λ verb. operation_of known verb args)) c.in-None.ensures
+          ∙ sym (by_verb known c.args.word.now args);
+      limits = tt;
+    }

@@ -5,18 +5,21 @@ use Rattle.sg_script.specs.Stands.{kept_of}
 use Rattle.sg_script.proofs.Steps.{ends_behind, pop_answers, popped_length}
 use Rattle.sg_script.proofs.script.Script.answer.Goals as goal
 
-pub read_on-requires-clause-idle : goal.read_on-requires-clause-idle
-read_on-requires-clause-idle g c =
+pub read_on-requires : goal.read_on-requires
+read_on-requires g c =
     let pops = c.in-None.ensures.pops in
     let same : length c.take_waiting.new.self.queues ≡ length c.args.self.now.queues =
     popped_length (known_in c.args.deployment.now) c.args.actor.0 None (kept_of c.args.self.now) (kept_of c.take_waiting.new.self) pops in
     record {
-      ready = record {
-        actors = omega (arith, same, c.requires.ready.actors);
-        queue = omega (arith, same, c.requires.ready.queue);
-        waiting = c.take_waiting.ensures.waiting;
+      begun = c.requires.begun;
+      idle = record {
+        ready = record {
+          actors = omega (arith, same, c.requires.ready.actors);
+          queue = omega (arith, same, c.requires.ready.queue);
+          waiting = c.take_waiting.ensures.waiting;
+        };
+        empty = sym pops.first_is ∙ pops.empty;
       };
-      empty = sym pops.first_is ∙ pops.empty;
     }
 
 pub returns-in-Some : goal.returns-in-Some
