@@ -1,7 +1,7 @@
 -- What runs write that are the same except for the number of a bad line.
-use Rattle.std.proofs.Common.{◌≡◌, ◌∙◌, ◌-◌, ◌++◌, ap, sym, refl, ℕ, List, Option, None, Some, option_map, unwrap_or}
+use Rattle.std.proofs.Common.{◌≡◌, ◌∙◌, ◌-◌, ◌++◌, ap, sym, refl, ℕ, List, length, Option, None, Some, option_map, unwrap_or}
 use Rattle.sg_edge.specs.Sources.{Source}
-use Rattle.sg_engine.specs.Output.{end_of, last_lines, trace_of, written_of}
+use Rattle.sg_engine.specs.Output.{end_of, last_lines, report_of, trace_of, written_of}
 use Rattle.sg_engine.specs.Run.{Progress}
 use Rattle.sg_engine.specs.declared.ended.Ended.{Ended}
 use Rattle.sg_engine.specs.declared.ended.Ended.TheVariants as ended
@@ -15,9 +15,13 @@ end_unnumbered : (how : Option Ended) → unnumbered_end (unwrap_or how ended.Bu
 end_unnumbered None = refl
 end_unnumbered (Some how) = refl
 
--- the number of a bad line isn't in the last lines on Out
+-- the last lines on Out of a run that ended so
+abbrev lines : Show → Platform → Deployed → ℕ → Core → Ended → List ℕ
+lines show platform deployed budget core how = last_lines platform deployed core (report_of show platform (length deployed.actors) budget core how)
+
+-- the number of a bad line isn't in them
 last_unnumbered : (show : Show) (platform : Platform) (deployed : Deployed) (budget : ℕ) (core : Core) (how : Ended) →
-    last_lines show platform deployed budget core how ≡ last_lines show platform deployed budget core (unnumbered_end how)
+    lines show platform deployed budget core how ≡ lines show platform deployed budget core (unnumbered_end how)
 last_unnumbered show platform deployed budget core ended.Completed = refl
 last_unnumbered show platform deployed budget core ended.Deadlock = refl
 last_unnumbered show platform deployed budget core ended.Starved = refl
@@ -35,9 +39,9 @@ written_alike show platform deployed budget crew source other p q e =
     let ends : unnumbered_end (end_of p) ≡ unnumbered_end (end_of q) =
     end_unnumbered p.ended ∙ ap (λ (r : Progress). unwrap_or r.ended ended.Budget) e ∙ sym (end_unnumbered q.ended) in
     record {
-      out = (λ i. trace_of show platform deployed (e i).made ++ last_lines show platform deployed budget p.world.core (end_of p))
+      out = (λ i. trace_of show platform deployed (e i).made ++ lines show platform deployed budget p.world.core (end_of p))
           ∙ ap (λ (l : List ℕ). trace_of show platform deployed q.made ++ l) (last_unnumbered show platform deployed budget p.world.core (end_of p))
-          ∙ (λ i. trace_of show platform deployed q.made ++ last_lines show platform deployed budget (e i).world.core (ends i))
+          ∙ (λ i. trace_of show platform deployed q.made ++ lines show platform deployed budget (e i).world.core (ends i))
           ∙ ap (λ (l : List ℕ). trace_of show platform deployed q.made ++ l) (sym (last_unnumbered show platform deployed budget q.world.core (end_of q)));
       ended = ends;
       contexts = ap (λ (r : Progress). crew - r.world.contexts) e;

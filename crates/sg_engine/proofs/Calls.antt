@@ -1,6 +1,6 @@
 -- Calls that are answered one after another.
-use Rattle.std.proofs.Common.{◌≡◌, ◌≢◌, ◌∙◌, sym, ap, ap₂, subst, refl, ℕ, ◌+◌, ◌==◌, ◌<◌, ◌≤◌, Bool, true, false, cond, List, [], ◌++◌, length, get_or, drop, Option, None, Some, Result, Ok, append_assoc, arith}
-use Rattle.std.specs.Prelude.{option_map, MatchResult}
+use Rattle.std.proofs.Common.{◌≡◌, ◌≢◌, ◌∙◌, sym, ap, ap₂, subst, refl, ℕ, ◌+◌, ◌==◌, ◌<◌, ◌≤◌, Bool, true, false, cond, List, [], ◌++◌, length, get_or, drop, Option, None, Some, Result, Ok, Err, append_assoc, arith}
+use Rattle.std.specs.Prelude.{option_map, MatchBool}
 use Rattle.std.proofs.lemmas.List.{append-nil, at_drop_more, at_drop_all}
 use Rattle.sg_base.specs.declared.call.Action.{Action}
 use Rattle.sg_base.specs.declared.trace_record.Record.{Record}
@@ -20,8 +20,9 @@ use Rattle.sg_script.specs.Answer.{answer_of}
 use Rattle.sg_script.specs.Known.{ScriptNames as Names}
 use Rattle.sg_script.specs.declared.script.Script.{Script}
 use Rattle.sg_script.specs.Rest.{GoesOn}
-use Rattle.sg_script.specs.Stands.{Kept, kept_of, IsFetched, IsCut, IsEnough, IsWithinNeed}
+use Rattle.sg_script.specs.Stands.{Kept, kept_of, IsFetched, IsCut, FetchIs, IsEnough, IsWithinNeed}
 use Rattle.sg_script.specs.declared.fault.ScriptFault.{ScriptFault}
+use Rattle.sg_script.specs.declared.fault.ScriptFault.TheVariants as fault
 use Rattle.sg_script.proofs.AllNeeds.{add_up, within_more}
 use Rattle.sg_script.proofs.Counting.{one_more_made}
 use Rattle.sg_script.proofs.Chains.{reads_none, reads_then}
@@ -29,8 +30,8 @@ use Rattle.sg_engine.specs.declared.actor_call.ActorCall.{ActorCall}
 use Rattle.sg_engine.specs.declared.ended.Ended.{Ended}
 use Rattle.sg_engine.specs.declared.ended.Ended.TheVariants as ended
 use Rattle.sg_engine.specs.kept.CallList.{calls_of}
-use Rattle.sg_engine.specs.Run.{Scene, scene, Answering, Progress, at_world, then_unless_ended, ended_by, in_world, with_front, ask_step, answer_step, unless_killed}
-use Rattle.sg_engine.specs.kept.Moments.{Cast, Moment, moment, moment_of, Fits, StandsFor, StaysOpen, IsStretch, LacksMemory, ending, script_part}
+use Rattle.sg_engine.specs.Run.{Scene, scene, Answering, Progress, at_world, then_unless_ended, in_world, with_front, ask_step, answer_step, ended_at, unless_killed, ended_by}
+use Rattle.sg_engine.specs.kept.Moments.{Cast, Moment, moment, moment_of, Fits, StandsFor, StaysOpen, IsStretch, LacksMemory, LeadsOn, ending, script_part}
 use Rattle.sg_engine.proofs.Fetches.{fetch_made, fetches_rise}
 use Rattle.sg_engine.proofs.Runs.{ask_keeps, calls_keep_behind, contexts_fall}
 use Rattle.sg_engine.proofs.Reaching.{goes_back, matched_as, open_then, reached_then, reached_as, reached_spent, rest_as, goes_on_to, ends_at, stands_as}
@@ -125,7 +126,7 @@ told_to names taken cast part part' kept kept' old new room world actor action h
     (stepped names (taken ++ is_fetched.piece) cast part' kept' old new room (record world { fetched = one_more actor world.fetched }) step how is_fetched.reads.begun first.stands is ends)
 
 -- or memory ran out for it
-pub cut_asked : (names : Names) (taken : List ℕ) (cast : Cast) (part part' : PartView) (kept kept' : Kept) (known : Known) (world : World) (actor : ℕ) →
+cut_asked : (names : Names) (taken : List ℕ) (cast : Cast) (part part' : PartView) (kept kept' : Kept) (known : Known) (world : World) (actor : ℕ) →
     StandsFor names taken cast (moment part kept known) world → (known.core.events == known.setup.budget) ≡ false → IsCut names taken world.fetched actor part part' kept' →
     LacksMemory names (λ answers. ask_step known.setup answers actor world) taken cast.contexts part part'
 cut_asked names taken cast part part' kept kept' known world actor stands unused cut = record {
@@ -139,13 +140,21 @@ cut_asked names taken cast part part' kept kept' known world actor stands unused
   contexts = λ source goes. omega (arith, ask_keeps contexts_fall known.setup (answer_of names source) actor world, ap (λ (c : Cast). c.contexts) stands.cast);
 }
 
+-- a fault of the script ends the run, or memory ran out
+pub fetch_failed : (names : Names) (taken : List ℕ) (cast : Cast) (part part' : PartView) (kept kept' : Kept) (known : Known) (world : World) (actor : ℕ) (why : ScriptFault) (result : Result (Unit {0}) Ended) → result ≡ Err (ended_at why) →
+    StandsFor names taken cast (moment part kept known) world → (known.core.events == known.setup.budget) ≡ false → FetchIs names taken world.fetched actor (Err why) part part' kept' →
+    LeadsOn world.work names (λ answers. ask_step known.setup answers actor world) result taken cast (moment part kept known) (moment part' kept' known)
+fetch_failed names taken cast part part' kept kept' known world actor (fault.Line number kind) result is stands unused fetched = rw is (asked_to names taken cast part part' kept kept' known world actor (Err (fault.Line number kind)) stands unused fetched)
+fetch_failed names taken cast part part' kept kept' known world actor fault.Read result is stands unused fetched = rw is (asked_to names taken cast part part' kept kept' known world actor (Err fault.Read) stands unused fetched)
+fetch_failed names taken cast part part' kept kept' known world actor fault.Memory result is stands unused fetched = rw is (cut_asked names taken cast part part' kept kept' known world actor stands unused fetched)
+
 -- ---- the script
 -- a fetch from the script leads on in the run, if there is a script
-pub script_answers : {E : Type 0} (script : Bool) (names : Names) (whole other : Answering → Progress) (taken : List ℕ) (cast : Cast) (world : World) (part part' : PartView) (reader reader' : Script) (old new : Known) (result : Result (Option Ended) E) →
+pub script_answers : (script : Bool) (names : Names) (whole other : Answering → Progress) (taken : List ℕ) (cast : Cast) (world : World) (part part' : PartView) (reader reader' : Script) (old new : Known) (result : Result (Unit {0}) Ended) →
     script ≡ true → ((answers : Answering) → other answers ≡ whole answers) →
-    (StandsFor names taken cast (moment part (kept_of reader) old) world → MatchResult result (λ how. IsStretch world.work names whole (ending how) taken cast (moment part (kept_of reader) old) (moment part' (kept_of reader') new)) (λ _. LacksMemory names whole taken cast.contexts part part')) →
+    (StandsFor names taken cast (moment part (kept_of reader) old) world → LeadsOn world.work names whole result taken cast (moment part (kept_of reader) old) (moment part' (kept_of reader') new)) →
     StandsFor names taken cast (moment_of script part reader old) world →
-    MatchResult result (λ how. IsStretch world.work names other (ending how) taken cast (moment_of script part reader old) (moment_of script part' reader' new)) (λ _. LacksMemory names other taken cast.contexts (script_part script part) (script_part script part'))
+    LeadsOn world.work names other result taken cast (moment_of script part reader old) (moment_of script part' reader' new)
 script_answers true names whole other taken cast world part part' reader reader' old new result is same step stands = matched_as world.work result names whole other taken cast _ _ same (step stands)
 script_answers false names whole other taken cast world part part' reader reader' old new result is same step stands = absurd (cc is)
 
@@ -195,7 +204,7 @@ one_more_call {spent} names whole roads setup firsts script calls i d taken cast
     (λ answers. calls_keep_behind fetches_rise (at_place (scene roads setup firsts script) (get_or calls i d) first.world answers) (scene roads setup firsts script) answers (drop (i + 1) calls)) here)))
 
 -- one more call was answered, and the run has ended
-pub last_call : {spent : ℕ} (names : Names) (whole : Answering → Progress) (roads : Roads) (setup : Setup) (firsts : List Mind) (script : Bool) (calls : List ActorCall) (i : ℕ) (d : ActorCall) (how : Ended) (taken : List ℕ) (cast cast' : Cast) (old mid new : Moment) → i < length calls → mid.kernel.setup ≡ setup →
+last_call : {spent : ℕ} (names : Names) (whole : Answering → Progress) (roads : Roads) (setup : Setup) (firsts : List Mind) (script : Bool) (calls : List ActorCall) (i : ℕ) (d : ActorCall) (how : Ended) (taken : List ℕ) (cast cast' : Cast) (old mid new : Moment) → i < length calls → mid.kernel.setup ≡ setup →
     (first : IsStretch spent names whole (rest_from (scene roads setup firsts script) calls i) taken cast old mid) → IsStretch first.world.work names (λ answers. unless_killed (scene roads mid.kernel.setup firsts script) answers (get_or calls i d).actor.0 (get_or calls i d).call first.world) (ending (Some how)) (taken ++ first.piece) cast' mid new →
     IsStretch spent names whole (ending (Some how)) taken cast' old new
 last_call {spent} names whole roads setup firsts script calls i d how taken cast cast' old mid new within same first step =
@@ -213,7 +222,7 @@ pub all_called : {spent : ℕ} (names : Names) (whole : Answering → Progress) 
 all_called names whole at calls i taken cast old new past reached = rest_as names whole (rest_from at calls i) (ending None) taken cast old new (λ answers world. calls_none at answers calls i world past) reached
 
 -- memory ran out at a later call
-pub cut_later : {spent : ℕ} (names : Names) (whole : Answering → Progress) (roads : Roads) (setup : Setup) (firsts : List Mind) (script : Bool) (calls : List ActorCall) (i : ℕ) (d : ActorCall) (taken : List ℕ) (cast : Cast) (left : ℕ) (old mid : Moment) (new : PartView) → i < length calls → mid.kernel.setup ≡ setup →
+cut_later : {spent : ℕ} (names : Names) (whole : Answering → Progress) (roads : Roads) (setup : Setup) (firsts : List Mind) (script : Bool) (calls : List ActorCall) (i : ℕ) (d : ActorCall) (taken : List ℕ) (cast : Cast) (left : ℕ) (old mid : Moment) (new : PartView) → i < length calls → mid.kernel.setup ≡ setup →
     (first : IsStretch spent names whole (rest_from (scene roads setup firsts script) calls i) taken cast old mid) → LacksMemory names (λ answers. unless_killed (scene roads mid.kernel.setup firsts script) answers (get_or calls i d).actor.0 (get_or calls i d).call first.world) (taken ++ first.piece) left mid.part new →
     LacksMemory names whole taken left old.part new
 cut_later names whole roads setup firsts script calls i d taken cast left old mid new within same first cut =
@@ -252,3 +261,12 @@ cut_later names whole roads setup firsts script calls i d taken cast left old mi
           first.is source (goes_back (taken ++ first.piece) cut.piece mid.part new source cut.reads there) ∙ ap (with_front first.made) (calls_more at answers calls i d first.world within) in
           omega (arith, ap (λ (p : Progress). p.world.contexts) all, calls_keep_behind contexts_fall call at answers (drop (i + 1) calls), here);
     }
+
+-- a later call has ended the run, or cut it off
+pub ends_call : {spent : ℕ} (b : Bool) (names : Names) (whole : Answering → Progress) (roads : Roads) (setup : Setup) (firsts : List Mind) (script : Bool) (calls : List ActorCall) (i : ℕ) (d : ActorCall) (how : Ended) (taken : List ℕ) (cast cast' : Cast) (old mid new : Moment) → i < length calls → mid.kernel.setup ≡ setup →
+    (first : IsStretch spent names whole (rest_from (scene roads setup firsts script) calls i) taken cast old mid) →
+    MatchBool b (LacksMemory names (λ answers. unless_killed (scene roads mid.kernel.setup firsts script) answers (get_or calls i d).actor.0 (get_or calls i d).call first.world) (taken ++ first.piece) cast'.contexts mid.part new.part)
+    (IsStretch first.world.work names (λ answers. unless_killed (scene roads mid.kernel.setup firsts script) answers (get_or calls i d).actor.0 (get_or calls i d).call first.world) (ending (Some how)) (taken ++ first.piece) cast' mid new) →
+    MatchBool b (LacksMemory names whole taken cast'.contexts old.part new.part) (IsStretch spent names whole (ending (Some how)) taken cast' old new)
+ends_call true names whole roads setup firsts script calls i d how taken cast cast' old mid new within same first cut = cut_later names whole roads setup firsts script calls i d taken cast cast'.contexts old mid new.part within same first cut
+ends_call false names whole roads setup firsts script calls i d how taken cast cast' old mid new within same first step = last_call names whole roads setup firsts script calls i d how taken cast cast' old mid new within same first step

@@ -31,7 +31,7 @@ use Rattle.sg_engine.specs.World.{World}
 use Rattle.sg_engine.specs.declared.ended.Ended.TheVariants as ended
 use Rattle.sg_engine.specs.Roles.{mind_at}
 use Rattle.sg_engine.specs.kept.Listed.{firsts_from}
-use Rattle.sg_engine.specs.Run.{Scene, Answering, Progress, ask_step, at_world, created_by, creates, ended_by, if_given, in_world, is_ask, is_given, minds_if, one_call, other_call, unless_killed}
+use Rattle.sg_engine.specs.Run.{Scene, Answering, Progress, ask_step, at_world, created_by, creates, if_given, in_world, is_ask, is_given, minds_if, one_call, other_call, unless_killed, ended_by}
 use Rattle.sg_engine.specs.kept.Invariant.{unstarted, AreSeatsOf}
 use Rattle.sg_engine.specs.kept.Moments.{Cast, moment, IsFree, IsStretch, LacksMemory, StandsFor, ending}
 use Rattle.sg_engine.specs.kept.SeatRules.{mind_in, minds_of, IsSeated}

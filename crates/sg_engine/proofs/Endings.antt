@@ -23,12 +23,10 @@ use Rattle.sg_engine.specs.declared.ended.Ended.{Ended}
 use Rattle.sg_engine.specs.declared.show.Show.{Show}
 use Rattle.sg_engine.specs.Gains.{GainsAll, GainsFronts}
 use Rattle.sg_engine.specs.RunContract.{is_cut, AreEnough, Ends, EndsOnDemand, IsBroken, TakesContexts}
-use Rattle.sg_engine.specs.Output.{first_of, trace_of, last_lines, fault_line, written_of, run_output, scene_of}
-use Rattle.sg_engine.specs.kept.Listed.{last_by}
+use Rattle.sg_engine.specs.Output.{Report, first_of, trace_of, last_lines, fault_line, report_of, written_of, run_output, scene_of}
 use Rattle.sg_engine.specs.kept.Moments.{AnswersAll, AreNeededBy, StaysOpen, script_part}
 use Rattle.sg_engine.specs.Run.{Answering, Progress, run_of}
 use Rattle.sg_engine.specs.kept.Stretches.{CutsOff, IsOver}
-use Rattle.sg_engine.proofs.LastLines.{last_parts}
 use Rattle.sg_engine.proofs.Runs.{contexts_fall, run_keeps}
 use Rattle.sg_engine.proofs.Fronts.{front_more, fronts_out, fronts_behind, all_behind, written_whole}
 
@@ -44,12 +42,15 @@ ends_by false front waiting out err how result old mid new wrote same ends = (en
 
 pub run_ends : (start count left : ℕ) (platform : Platform) (deployed : Deployed) (script : Bool) (budget crew : ℕ) (show : Show) (how result : Ended) (core : Core) (p0 p1 : PartView) (old mid new : Stream → Option (List ℕ)) (source : Source) → Going p0 p1 source →
     IsOver start count left (known_in deployed) (trace_of show platform deployed) (run_of (scene_of platform deployed script budget) (first_of platform deployed budget crew)) how core p0 p1 (old Out) (mid Out) → mid Err ≡ old Err →
-    Ends (last_by show platform deployed budget core how) (fault_line platform how) how result mid new → let want = run_output platform deployed script budget crew show source in Ends want.out want.err want.ended result old new
+    Ends (last_lines platform deployed core (report_of show platform (length deployed.actors) budget core how)) (fault_line (report_of show platform (length deployed.actors) budget core how)) how result mid new →
+    let want = run_output platform deployed script budget crew show source in Ends want.out want.err want.ended result old new
 run_ends start count left platform deployed script budget crew show how result core p0 p1 old mid new source going over same ends =
     let trace = trace_of show platform deployed over.made in
-    let last : Ends (last_lines show platform deployed budget over.world.core how) (fault_line platform how) how result mid new = subst (λ (c : Core). Ends (last_lines show platform deployed budget c how) (fault_line platform how) how result mid new) over.core_is
-    (subst (λ (l : List ℕ). Ends l (fault_line platform how) how result mid new) (sym (last_parts platform deployed show budget core how)) ends) in
-    let all : Ends (trace ++ last_lines show platform deployed budget over.world.core how) (fault_line platform how) how result old new = ends_by (is_cut result) trace [] (last_lines show platform deployed budget over.world.core how) (fault_line platform how) how result old mid new (written_whole trace (old Out) (mid Out) over.printed) same last in
+    let report : Core → Report = λ c. report_of show platform (length deployed.actors) budget c how in
+    let world = over.world.core in
+    let last : Ends (last_lines platform deployed world (report world)) (fault_line (report world)) how result mid new = subst (λ (c : Core). Ends (last_lines platform deployed c (report c)) (fault_line (report c)) how result mid new) over.core_is ends in
+    let all : Ends (trace ++ last_lines platform deployed world (report world)) (fault_line (report world)) how result old new =
+    ends_by (is_cut result) trace [] (last_lines platform deployed world (report world)) (fault_line (report world)) how result old mid new (written_whole trace (old Out) (mid Out) over.printed) same last in
     let written : Progress → Type 0 = λ p. Ends (written_of show platform deployed budget crew source p).out (written_of show platform deployed budget crew source p).err (written_of show platform deployed budget crew source p).ended result old new in
     subst written (sym (over.is source (going over.piece over.reads))) all
 

@@ -7,9 +7,9 @@ use Rattle.sg_script.specs.Fetched.{fetches_of, one_more}
 use Rattle.sg_script.specs.declared.fault.ScriptFault.{ScriptFault}
 use Rattle.sg_script.proofs.Counting.{one_more_rises}
 use Rattle.sg_engine.specs.World.{World}
-use Rattle.sg_engine.specs.declared.ended.Ended.TheVariants as ended
 use Rattle.sg_engine.specs.Run.{Answering, answer_step, ask_step, at_world}
 use Rattle.sg_engine.proofs.Runs.{Keeps}
+use Rattle.sg_engine.specs.declared.ended.Ended.TheVariants as ended
 
 -- no actor has fetched fewer lines
 abbrev pub FetchesNoLess : World → World → Type 0

@@ -9,7 +9,7 @@ use Rattle.sg_edge.specs.Sinks.{gain, IsWritten, GainsFront, SameBut}
 use Rattle.sg_edge.proofs.Writing.{gain-gain, gain-nil}
 use Rattle.sg_edge.specs.declared.files.Failed.{Failed}
 use Rattle.sg_engine.specs.Gains.{GainsAll, GainsFronts}
-use Rattle.sg_engine.specs.kept.Writing.{Wrote, Broke, BrokeOff, IsPut, Tells}
+use Rattle.sg_engine.specs.kept.Writing.{Wrote, Broke, BrokeOff, IsPut, Tells, Writes}
 
 -- what is left begins with a text, of which a prefix was written then
 written_on : (whole text rest left : List ℕ) (old mid new : Option (List ℕ)) → IsWritten whole (text ++ rest) old mid → IsWritten text left mid new → IsWritten whole (left ++ rest) old new
@@ -158,3 +158,8 @@ told_err text old new wrote same = record { out_held = same ∙ sym (gain-nil (o
 pub tells_err : {O : Type 0} (contents : O → Stream → Option (List ℕ)) (faults : O → ℕ) (text : List ℕ) (result : Result (Unit {0}) Failed) (old new : MutBor O) → OnOk result (contents new.now Err ≡ gain (contents old.now Err) text) → OnOk result (faults new.now ≡ faults old.now) → OnErr result (GainsFront text (contents old.now Err) (contents new.now Err)) → OnErr result (0 < faults new.now) → SameBut Err (contents old.now) (contents new.now) → new.ghost_name ≡ old.ghost_name → Tells contents faults [] text result old new
 tells_err contents faults text (Ok done) old new wrote sound front failed other same = record { same = same; all = told_err text _ _ wrote (other Out (λ e. cc)); sound = sound }
 tells_err contents faults text (Error why) old new wrote sound front failed other same = record { same = same; fronts = fronts_err text _ _ front (other Out (λ e. cc)); failed = failed }
+
+-- a text on Out alone, by what writing it has done
+pub tells_out : {O : Type 0} (contents : O → Stream → Option (List ℕ)) (faults : O → ℕ) (text : List ℕ) (result : Result (Unit {0}) Failed) (old new : MutBor O) → Writes contents faults text result old new → Tells contents faults text [] result old new
+tells_out contents faults text (Ok done) old new wrote = record { same = wrote.same; all = record { out_held = wrote.out_held; err_held = wrote.err_held ∙ sym (gain-nil _) }; sound = wrote.sound }
+tells_out contents faults text (Error why) old new broke = told_broke text [] old new broke

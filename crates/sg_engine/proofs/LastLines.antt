@@ -1,5 +1,5 @@
 -- The lines of the end, as the definition lists them and as the code puts them.
-use Rattle.std.proofs.Common.{◌≡◌, ◌∙◌, ap, ap₂, refl, ℕ, ◌+◌, ◌++◌, List, [], ◌∷◌, length, Option, None, Some}
+use Rattle.std.proofs.Common.{◌≡◌, ◌∙◌, ap, ap₂, refl, ℕ, ◌+◌, ◌++◌, Bool, true, false, cond, List, [], ◌∷◌, Option, None, Some}
 use Rattle.std.specs.Prelude.{filter_map, slice_index_or}
 use Rattle.std.specs.List.{cons_option, enumerate_from, flat_map}
 use Rattle.std.proofs.lemmas.Grind.{flat_map-append}
@@ -11,17 +11,13 @@ use Rattle.sg_platform_rows.specs.declared.rows.HostRow.{HostRow}
 use Rattle.sg_actor_states.specs.declared.state.Actor.{Actor}
 use Rattle.sg_trace.specs.Ending.{ending_of}
 use Rattle.sg_trace.specs.declared.last.Last.{Last}
-use Rattle.sg_trace.specs.declared.last.Last.TheVariants as last
-use Rattle.sg_engine.specs.Output.{energies_used, energy_last, last_lines, stuck, stuck_last, summary}
-use Rattle.sg_engine.specs.declared.ended.Ended.{Ended}
-use Rattle.sg_engine.specs.declared.ended.Ended.TheVariants as ended
-use Rattle.sg_engine.specs.declared.show.Show.{Show}
-use Rattle.sg_engine.specs.declared.show.Show.TheVariants as show
-use Rattle.sg_engine.specs.kept.Listed.{all_energy, energy_lines, last_by, line_if, stuck_lines, summary_line}
+use Rattle.sg_engine.specs.Output.{lasts, energies_used, energy_last, last_lines, stuck, stuck_last}
+use Rattle.sg_engine.specs.declared.report.Lasts.{Lasts}
+use Rattle.sg_engine.specs.kept.Listed.{all_energy, energy_lines, how_lines, lasts_of, line_if, listed, stuck_lines}
 
 module _ (platform : Platform) (deployed : Deployed) where
   lines : List Last → List ℕ
-  lines lasts = flat_map (λ what. ending_of what platform deployed) lasts
+  lines told = flat_map (λ what. ending_of what platform deployed) told
 
   line_then : (told : Option Last) (rest : List Last) → lines (cons_option told rest) ≡ line_if platform deployed told ++ lines rest
   unfolding lines
@@ -43,43 +39,33 @@ module _ (platform : Platform) (deployed : Deployed) where
       line_then (energy_last host row (slice_index_or energies host 0)) (filter_map (λ p. energy_last p.0 p.1 (slice_index_or energies p.0 0)) (enumerate_from (host + 1) rows))
       ∙ ap (λ l. line_if platform deployed (energy_last host row (slice_index_or energies host 0)) ++ l) (energy_same energies (host + 1) rows)
 
-  summary_same : (show : Show) (events : ℕ) → lines (summary show (length deployed.actors) events) ≡ summary_line show platform deployed events
+  listed_same : (told : Option Last) → lines (listed told) ≡ line_if platform deployed told
   unfolding lines
-  summary_same show.Summary events = append-nil (ending_of (last.Summary (length deployed.actors) events) platform deployed)
-  summary_same show.All events = refl
-  summary_same show.Quiet events = refl
+  listed_same None = refl
+  listed_same (Some what) = append-nil (ending_of what platform deployed)
 
   lines-append : (front back : List Last) → lines (front ++ back) ≡ lines front ++ lines back
   unfolding lines
   lines-append front back = flat_map-append (λ what. ending_of what platform deployed) front back
 
-  -- one line, and then those of the actors that can't continue
-  stuck_after : (what : Last) (actors : List Actor) → lines (what ∷ stuck actors) ≡ ending_of what platform deployed ++ stuck_lines platform deployed 1 actors
+  stuck_if : (told : Bool) (actors : List Actor) → lines (cond told (stuck actors) []) ≡ cond told (stuck_lines platform deployed 1 actors) []
   unfolding lines
-  stuck_after what actors = ap (λ l. ending_of what platform deployed ++ l) (stuck_same 1 actors)
+  stuck_if true actors = stuck_same 1 actors
+  stuck_if false actors = refl
 
-  completed_same : (show : Show) (events : ℕ) (what : Last) → lines (summary show (length deployed.actors) events ++ what ∷ []) ≡ summary_line show platform deployed events ++ ending_of what platform deployed
+  last_then : (what : Last) (more : List Last) → lines (what ∷ more) ≡ ending_of what platform deployed ++ lines more
   unfolding lines
-  completed_same show events what =
-      lines-append (summary show (length deployed.actors) events) (what ∷ [])
-      ∙ ap₂ (λ a b. a ++ b) (summary_same show events) (append-nil (ending_of what platform deployed))
+  last_then what more = refl
 
-  -- lines, and then those of the energies
-  energy_after : (front : List Last) (text : List ℕ) (core : Core) → lines front ≡ text → lines (front ++ energies_used core.under.energy platform.hosts) ≡ text ++ all_energy platform deployed core
-  energy_after front text core same =
-      lines-append front (energies_used core.under.energy platform.hosts)
-      ∙ ap₂ (λ a b. a ++ b) same (energy_same core.under.energy 0 platform.hosts)
+  how_same : (core : Core) (told : Lasts) → lines (lasts_of core told) ≡ how_lines platform deployed core told
+  how_same core told =
+      lines-append (listed told.ahead) (told.last ∷ cond told.stuck (stuck core.actors) [])
+      ∙ ap₂ (λ a b. a ++ b) (listed_same told.ahead)
+      (last_then told.last (cond told.stuck (stuck core.actors) []) ∙ ap (λ l. ending_of told.last platform deployed ++ l) (stuck_if told.stuck core.actors))
 
-  -- the last lines of a run that ended so: how it has ended, and then the energies
-  pub last_parts : (show : Show) (budget : ℕ) (core : Core) (how : Ended) → last_lines show platform deployed budget core how ≡ last_by show platform deployed budget core how
+  -- how a run has ended, and then the energies
+  pub last_parts : (core : Core) (told : Lasts) → last_lines platform deployed core (lasts (lasts_of core told)) ≡ how_lines platform deployed core told ++ all_energy platform deployed core
   unfolding lines
-  last_parts show budget core ended.Completed = energy_after (summary show (length deployed.actors) core.events ++ last.Time core.under.date ∷ []) (summary_line show platform deployed core.events ++ ending_of (last.Time core.under.date) platform deployed) core (completed_same show core.events (last.Time core.under.date))
-  last_parts show budget core ended.Deadlock = energy_after (last.Deadlock core.under.date ∷ stuck core.actors) (ending_of (last.Deadlock core.under.date) platform deployed ++ stuck_lines platform deployed 1 core.actors) core (stuck_after (last.Deadlock core.under.date) core.actors)
-  last_parts show budget core ended.Starved = energy_after (last.Starved core.under.date ∷ stuck core.actors) (ending_of (last.Starved core.under.date) platform deployed ++ stuck_lines platform deployed 1 core.actors) core (stuck_after (last.Starved core.under.date) core.actors)
-  last_parts show budget core ended.Budget = energy_after (last.Budget budget core.under.date ∷ []) (ending_of (last.Budget budget core.under.date) platform deployed) core (append-nil (ending_of (last.Budget budget core.under.date) platform deployed))
-  last_parts show budget core (ended.Script number kind) = refl
-  last_parts show budget core (ended.NoRoute from to zone a b) = refl
-  last_parts show budget core (ended.TooLong from to) = refl
-  last_parts show budget core ended.ReadFault = refl
-  last_parts show budget core ended.WriteFault = refl
-  last_parts show budget core ended.Memory = refl
+  last_parts core told =
+      lines-append (lasts_of core told) (energies_used core.under.energy platform.hosts)
+      ∙ ap₂ (λ a b. a ++ b) (how_same core told) (energy_same core.under.energy 0 platform.hosts)

@@ -189,10 +189,10 @@ woken : (actor : ℕ) (others : List ActorId) (core : Core) → Leaves actor cor
 woken actor others core = each_one actor wakes (λ who c. woken_from (blocking_in (state_of c who.0)) actor who c) others core
 
 first : (done : Done) (actor : ℕ) (what : Call) (core : Core) → 0 < actor → Leaves actor core.actors (caller_first done actor what core).core.actors
-first done actor what core from = next actor core.actors _ (all_wake done.after.others) (gets done.outcome actor what _ from) (λ c. woken actor done.after.others c)
+first done actor what core from = next actor core.actors _ (all_wake done.woken) (gets done.outcome actor what _ from) (λ c. woken actor done.woken c)
 
 last : (done : Done) (actor : ℕ) (what : Call) (core : Core) → 0 < actor → Leaves actor core.actors (caller_last done actor what core).core.actors
-last done actor what core from = next actor core.actors _ (caller_gets done.outcome actor what) (woken actor done.after.others _) (λ c. gets done.outcome actor what c from)
+last done actor what core from = next actor core.actors _ (caller_gets done.outcome actor what) (woken actor done.woken _) (λ c. gets done.outcome actor what c from)
 
 -- ---- communications
 taking : (waits : Bool) (comer : Comer) (serial : ℕ) (core : Core) → 0 < comer.side.actor.0 → Leaves comer.side.actor.0 core.actors (takes_part waits comer serial core).core.actors

@@ -1,6 +1,6 @@
 -- Scheduling rounds, by the turns that they take and the calls that they answer.
 use Rattle.std.proofs.Common.{◌≡◌, ◌≤◌, ◌∙◌, sym, ap, ap₂, subst, ℕ, ◌<◌, List, length, map, Option, Result, arith}
-use Rattle.std.specs.Prelude.{All, AllPairs, MatchResult}
+use Rattle.std.specs.Prelude.{All, AllPairs}
 use Rattle.std.proofs.lemmas.List.{length-map}
 use Rattle.sg_actor.specs.Seats.{SeatView}
 use Rattle.sg_base.specs.Limits.{Extent, IsCall}
@@ -17,7 +17,7 @@ use Rattle.sg_script.specs.Known.{ScriptNames as Names}
 use Rattle.sg_engine.specs.declared.actor_call.ActorCall.{ActorCall}
 use Rattle.sg_engine.specs.declared.ended.Ended.{Ended}
 use Rattle.sg_engine.specs.kept.CallList.{call_list, calls_of}
-use Rattle.sg_engine.specs.kept.Moments.{Cast, cast_of, LacksMemory, Moment, StandsFor, IsStretch, ending}
+use Rattle.sg_engine.specs.kept.Moments.{Cast, cast_of, LeadsOn, Moment, StandsFor}
 use Rattle.sg_engine.specs.Run.{Scene, Answering, zip_with, mind_after, call_after, inboxes, round, calls_from}
 use Rattle.sg_engine.specs.kept.SeatRules.{mind_in, minds_of, IsSeated}
 use Rattle.sg_engine.proofs.Listing.{calls_listed, listed_may, listed_rises, listed_short, row_short}
@@ -53,10 +53,10 @@ room_for {A} {mind} {deployed} {part} {sim} mid kept same room =
     }
 
 -- ---- the whole of a scheduling round
-pub round_as : {E : Type 0} (result : Result (Option Ended) E) (names : Names) (at : Scene) (taken : List ℕ) (had mid new : Cast) (calls : List ActorCall) (world : World) (old then : Moment) → StandsFor names taken had old world →
+pub round_as : (result : Result (Unit {0}) Ended) (names : Names) (at : Scene) (taken : List ℕ) (had mid new : Cast) (calls : List ActorCall) (world : World) (old then : Moment) → StandsFor names taken had old world →
     mid.minds ≡ zip_with mind_after had.minds (inboxes old.kernel.core) → mid.contexts ≡ had.contexts → calls ≡ call_list 1 (zip_with call_after had.minds (inboxes old.kernel.core)) →
-    ((next : World) → StandsFor names taken mid old next → MatchResult result (λ how. IsStretch next.work names (λ answers. calls_of at answers calls next) (ending how) taken new old then) (λ _. LacksMemory names (λ answers. calls_of at answers calls next) taken new.contexts old.part then.part)) →
-    MatchResult result (λ how. IsStretch world.work names (λ answers. round at answers world) (ending how) taken new old then) (λ _. LacksMemory names (λ answers. round at answers world) taken new.contexts old.part then.part)
+    ((next : World) → StandsFor names taken mid old next → LeadsOn next.work names (λ answers. calls_of at answers calls next) result taken new old then) →
+    LeadsOn world.work names (λ answers. round at answers world) result taken new old then
 round_as result names at taken had mid new calls world old then stands turned left made step =
     let next : World = record world { minds = zip_with mind_after world.minds (inboxes world.core) } in
     let turn : Cast → Core → Cast = λ c core. record { minds = zip_with mind_after c.minds (inboxes core); contexts = c.contexts } in

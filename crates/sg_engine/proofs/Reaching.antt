@@ -1,6 +1,6 @@
 -- Stretches of a run, one after another.
-use Rattle.std.proofs.Common.{◌≡◌, ◌≤◌, ◌∙◌, inl, inr, sym, ap, subst, refl, ℕ, List, [], ◌++◌, length, Option, None, Some, Result, Ok, Err, append_assoc, arith}
-use Rattle.std.specs.Prelude.{MatchResult}
+use Rattle.std.proofs.Common.{◌≡◌, ◌≤◌, ◌∙◌, inl, inr, sym, ap, subst, refl, ℕ, List, [], ◌++◌, length, Bool, true, false, Option, None, Some, Result, append_assoc, arith}
+use Rattle.std.specs.Prelude.{MatchBool}
 use Rattle.std.proofs.lemmas.List.{append-nil}
 use Rattle.sg_base.specs.declared.trace_record.Record.{Record}
 use Rattle.sg_edge.specs.Sources.{Source}
@@ -16,7 +16,7 @@ use Rattle.sg_script.proofs.Chains.{may_back, reads_then}
 use Rattle.sg_script.proofs.Spending.{all_may, begun_or_not}
 use Rattle.sg_engine.specs.declared.ended.Ended.{Ended}
 use Rattle.sg_engine.specs.Run.{Answering, Progress, with_front, then_unless_ended}
-use Rattle.sg_engine.specs.kept.Moments.{AnswersAll, AreNeededBy, StaysOpen, Cast, LacksMemory, LeavesContexts, Moment, StandsFor, IsStretch, ending}
+use Rattle.sg_engine.specs.kept.Moments.{AnswersAll, AreNeededBy, StaysOpen, Cast, LacksMemory, LeadsOn, LeavesContexts, Moment, StandsFor, IsStretch, cuts, end_in, ending}
 
 -- a source that continues from a later moment continues from an earlier one
 pub goes_back : (taken piece : List ℕ) (old new : PartView) (source : Source) → Reads piece old new → GoesOn (taken ++ piece) new.stage source → GoesOn taken old.stage source
@@ -118,10 +118,14 @@ lacks_as names whole other taken left old new same cut = record {
   contexts = λ source goes. subst (λ (p : Progress). p.world.contexts ≤ left) (sym (same (answer_of names source))) (cut.contexts source goes);
 }
 
-pub matched_as : {E : Type 0} (spent : ℕ) (result : Result (Option Ended) E) (names : Names) (whole other : Answering → Progress) (taken : List ℕ) (cast : Cast) (old new : Moment) → ((answers : Answering) → other answers ≡ whole answers) →
-    MatchResult result (λ how. IsStretch spent names whole (ending how) taken cast old new) (λ _. LacksMemory names whole taken cast.contexts old.part new.part) → MatchResult result (λ how. IsStretch spent names other (ending how) taken cast old new) (λ _. LacksMemory names other taken cast.contexts old.part new.part)
-matched_as spent (Ok how) names whole other taken cast old new same reached = reached_as names whole other (ending how) taken cast old new same reached
-matched_as spent (Err why) names whole other taken cast old new same cut = lacks_as names whole other taken cast.contexts old.part new.part same cut
+matched_by : (b : Bool) (spent : ℕ) (how : Option Ended) (names : Names) (whole other : Answering → Progress) (taken : List ℕ) (cast : Cast) (old new : Moment) → ((answers : Answering) → other answers ≡ whole answers) →
+    MatchBool b (LacksMemory names whole taken cast.contexts old.part new.part) (IsStretch spent names whole (ending how) taken cast old new) → MatchBool b (LacksMemory names other taken cast.contexts old.part new.part) (IsStretch spent names other (ending how) taken cast old new)
+matched_by true spent how names whole other taken cast old new same cut = lacks_as names whole other taken cast.contexts old.part new.part same cut
+matched_by false spent how names whole other taken cast old new same reached = reached_as names whole other (ending how) taken cast old new same reached
+
+pub matched_as : (spent : ℕ) (result : Result (Unit {0}) Ended) (names : Names) (whole other : Answering → Progress) (taken : List ℕ) (cast : Cast) (old new : Moment) → ((answers : Answering) → other answers ≡ whole answers) →
+    LeadsOn spent names whole result taken cast old new → LeadsOn spent names other result taken cast old new
+matched_as spent result names whole other taken cast old new same leads = matched_by (cuts result) spent (end_in result) names whole other taken cast old new same leads
 
 -- the rest in other words
 abbrev pub rest_as : {spent : ℕ} (names : Names) (whole : Answering → Progress) (rest other : Answering → World → Progress) (taken : List ℕ) (cast : Cast) (old new : Moment) →

@@ -1,5 +1,5 @@
 -- Parts of a run with their lines, one after another.
-use Rattle.std.proofs.Common.{arith, ◌+◌, ◌≡◌, ◌≢◌, ◌∙◌, sym, ap, subst, refl, ℕ, suc, ◌≤◌, List, [], ◌++◌, length, Bool, true, false, cond, Option, None, Some}
+use Rattle.std.proofs.Common.{arith, ◌+◌, ◌≡◌, ◌≢◌, ◌∙◌, sym, ap, subst, refl, ℕ, suc, ◌≤◌, List, [], ◌++◌, length, Bool, true, false, cond, Option, None, Some, Result}
 use Rattle.std.specs.Prelude.{All, MatchBool, vec_capacity}
 use Rattle.std.specs.List.{list_all}
 use Rattle.std.proofs.lemmas.Grind.{flat_map-append}
@@ -31,8 +31,7 @@ use Rattle.sg_script.proofs.Chains.{reads_then, reads_none}
 use Rattle.sg_engine.specs.declared.ended.Ended.{Ended}
 use Rattle.sg_engine.specs.declared.ended.Ended.TheVariants as ended
 use Rattle.sg_engine.specs.declared.plan.Plan.{Plan}
-use Rattle.sg_engine.specs.RunContract.{is_cut}
-use Rattle.sg_engine.specs.kept.Moments.{Cast, Moment, moment, Fits, StandsFor, StaysOpen, IsStretch, LacksMemory, ending, cuts}
+use Rattle.sg_engine.specs.kept.Moments.{Cast, Moment, moment, Fits, StandsFor, StaysOpen, IsStretch, LacksMemory, cuts, end_in, ending}
 use Rattle.sg_engine.specs.Run.{Scene, scene, Answering, Progress, at_world, with_front, then_unless_ended, and_then_by, round_or_pass, run_from, work_behind}
 use Rattle.sg_engine.specs.declared.show.Show.{Show}
 use Rattle.sg_engine.specs.declared.show.Show.TheVariants as show
@@ -130,21 +129,25 @@ pub lacks_scene : (names : Names) (roads : Roads) (firsts : List Mind) (script :
 lacks_scene names roads firsts script setup setup' taken left world old new same lacks = subst (λ (s : Setup). LacksMemory names (λ answers. round_or_pass (scene roads s firsts script) answers world) taken left old new) same lacks
 
 -- a part of a scene is that of the same one
-pub part_as : (spent : ℕ) (names : Names) (trace : Trace) (at at' : Scene) (how : Option Ended) (taken : List ℕ) (cast : Cast) (world : World) (old new : Moment) (before after : Option (List ℕ)) → at ≡ at' →
-    PartIs spent names trace (λ answers. round_or_pass at answers world) how taken cast old new before after → PartIs spent names trace (λ answers. round_or_pass at' answers world) how taken cast old new before after
-part_as spent names trace at at' how taken cast world old new before after same part = subst (λ (s : Scene). PartIs spent names trace (λ answers. round_or_pass s answers world) how taken cast old new before after) same part
+pub part_as : (spent : ℕ) (names : Names) (trace : Trace) (at at' : Scene) (result : Result (Unit {0}) Ended) (taken : List ℕ) (cast : Cast) (world : World) (old new : Moment) (before after : Option (List ℕ)) → at ≡ at' →
+    PartIs spent names trace (λ answers. round_or_pass at answers world) result taken cast old new before after → PartIs spent names trace (λ answers. round_or_pass at' answers world) result taken cast old new before after
+part_as spent names trace at at' result taken cast world old new before after same part = subst (λ (s : Scene). PartIs spent names trace (λ answers. round_or_pass s answers world) result taken cast old new before after) same part
 
 -- a part that didn't cut the run off
-pub part_is : {spent : ℕ} (names : Names) (trace : Trace) (whole : Answering → Progress) (how : Option Ended) (taken : List ℕ) (cast : Cast) (old new : Moment) (before after : Option (List ℕ)) → cuts how ≡ false → Advances spent names trace whole how taken cast old new before after → PartIs spent names trace whole how taken cast old new before after
-part_is names trace whole how taken cast old new before after uncut advances = rw uncut advances
+pub part_is : {spent : ℕ} (names : Names) (trace : Trace) (whole : Answering → Progress) (result : Result (Unit {0}) Ended) (taken : List ℕ) (cast : Cast) (old new : Moment) (before after : Option (List ℕ)) → cuts result ≡ false → Advances spent names trace whole (end_in result) taken cast old new before after → PartIs spent names trace whole result taken cast old new before after
+part_is names trace whole result taken cast old new before after uncut advances = rw uncut advances
 
--- what it keeps
-pub part_kept : {A : Type 0} (mind : A → Option Mind) (plan : Plan) (how : Option Ended) (shows : Part → PartView) (old new : Simulation A) → cuts how ≡ false → TakesCrew false old new → new.kernel.setup ≡ old.kernel.setup → Holds mind plan shows new → StaysKept mind plan how shows old new
-part_kept mind plan how shows old new uncut crew setup kept = record { crew = rw uncut crew; setup = setup; kept = rw uncut kept }
+-- one that was cut off
+pub part_short : (spent : ℕ) (names : Names) (trace : Trace) (whole : Answering → Progress) (result : Result (Unit {0}) Ended) (taken : List ℕ) (cast : Cast) (old new : Moment) (before after : Option (List ℕ)) → cuts result ≡ true → CutsOff names trace whole taken cast.contexts old.part new.part before after → PartIs spent names trace whole result taken cast old new before after
+part_short spent names trace whole result taken cast old new before after cut is = rw cut is
 
--- after a part for which memory ran out only the setup is kept
-pub short_kept : {A : Type 0} (mind : A → Option Mind) (plan : Plan) (how : Ended) (shows : Part → PartView) (old new : Simulation A) → is_cut how ≡ true → TakesCrew true old new → new.kernel.setup ≡ old.kernel.setup → StaysKept mind plan (Some how) shows old new
-short_kept mind plan how shows old new cut crew setup = record { crew = rw cut crew; setup = setup; kept = rw cut tt }
+-- what the first keeps
+pub part_kept : {A : Type 0} (mind : A → Option Mind) (plan : Plan) (result : Result (Unit {0}) Ended) (shows : Part → PartView) (old new : Simulation A) → cuts result ≡ false → TakesCrew false old new → new.kernel.setup ≡ old.kernel.setup → Holds mind plan shows new → StaysKept mind plan result shows old new
+part_kept mind plan result shows old new uncut crew setup kept = record { crew = rw uncut crew; setup = setup; kept = rw uncut kept }
+
+-- after one that was cut off only the setup is kept
+pub short_kept : {A : Type 0} (mind : A → Option Mind) (plan : Plan) (result : Result (Unit {0}) Ended) (shows : Part → PartView) (old new : Simulation A) → cuts result ≡ true → TakesCrew true old new → new.kernel.setup ≡ old.kernel.setup → StaysKept mind plan result shows old new
+short_kept mind plan result shows old new cut crew setup = record { crew = rw cut crew; setup = setup; kept = rw cut tt }
 
 -- what a simulation keeps after a part whose records are in lines and cleared
 pub kept_on : {A : Type 0} (mind : A → Option Mind) (deployed : Deployed) (part : PartView) (sim : Simulation A) (known : Known) → Fits deployed (moment part (kept_of sim.script) known) → sim.kernel ≡ record known { records = [] } → length known.setup.homes ≡ length deployed.actors →

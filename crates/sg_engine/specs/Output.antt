@@ -1,7 +1,6 @@
 -- What a run writes, and how it ends.
-use Rattle.std.specs.Prelude.{ℕ, ◌-◌, ◌/◌, ◌%◌, ◌^◌, ◌&&◌, ◌++◌, unwrap_or, Bool, Option, None, Some, option_map, if◌then◌else◌, List, [], ◌∷◌, length, filter_map, slice_index_or, codes}
+use Rattle.std.specs.Prelude.{ℕ, ◌-◌, ◌/◌, ◌%◌, ◌^◌, ◌&&◌, ◌++◌, unwrap_or, Bool, Option, Some, option_map, if◌then◌else◌, List, [], ◌∷◌, length, filter_map, slice_index_or, codes}
 use Rattle.std.specs.List.{enumerate_from, flat_map}
-use Rattle.std.specs.Option.{option_map_or}
 use Rattle.sg_base.specs.declared.trace_record.Record.{Record}
 use Rattle.sg_edge.specs.Sources.{Source}
 use Rattle.sg_actor_states.specs.declared.state.Actor.{Actor}
@@ -65,29 +64,35 @@ energy_last host row energy = option_map (λ power. last.Energy (record { 0 = ho
 abbrev pub energies_used : List ℕ → List HostRow → List Last
 energies_used energies rows = filter_map (λ p. energy_last p.0 p.1 (slice_index_or energies p.0 0)) (enumerate_from 0 rows)
 
--- how the run has ended, and which actors can't continue; none: a fault has ended it
-abbrev pub how_ended : Show → ℕ → ℕ → Core → Ended → Option (List Last)
-how_ended show actors budget core ended.Completed = Some (summary show actors core.events ++ last.Time core.under.date ∷ [])
-how_ended show actors budget core ended.Deadlock = Some (last.Deadlock core.under.date ∷ stuck core.actors)
-how_ended show actors budget core ended.Starved = Some (last.Starved core.under.date ∷ stuck core.actors)
-how_ended show actors budget core ended.Budget = Some (last.Budget budget core.under.date ∷ [])
-how_ended show actors budget core other = None
+-- what is reported of the end of a run: how it has ended, by lines on Out, or which fault has ended it, by a line on Err;
+-- nothing if it was cut off
+pub data Report : Type 0 where
+  lasts : List Last → Report
+  fault : List ℕ → Report
+  nothing : Report
+
+-- of one that ended so
+abbrev pub report_of : Show → Platform → ℕ → ℕ → Core → Ended → Report
+report_of show platform actors budget core ended.Completed = lasts (summary show actors core.events ++ last.Time core.under.date ∷ [])
+report_of show platform actors budget core ended.Deadlock = lasts (last.Deadlock core.under.date ∷ stuck core.actors)
+report_of show platform actors budget core ended.Starved = lasts (last.Starved core.under.date ∷ stuck core.actors)
+report_of show platform actors budget core ended.Budget = lasts (last.Budget budget core.under.date ∷ [])
+report_of show platform actors budget core (ended.NoRoute from to zone a b) = fault (no_route_line platform from to zone a b)
+report_of show platform actors budget core (ended.TooLong from to) = fault (too_long_line platform from to)
+report_of show platform actors budget core (ended.Script number kind) = fault (script_line number kind)
+report_of show platform actors budget core ended.ReadFault = fault (codes "cannot read the script\n")
+report_of show platform actors budget core other = nothing
 
 -- what stands on Out after the trace lines, a line each: how the run has ended, and then the energies; nothing if a
 -- fault has ended it
-abbrev pub last_lines : Show → Platform → Deployed → ℕ → Core → Ended → List ℕ
-last_lines show platform deployed budget core how =
-    flat_map (λ what. ending_of what platform deployed)
-    (option_map_or (λ lasts. lasts ++ energies_used core.under.energy platform.hosts)
-    (how_ended show (length deployed.actors) budget core how) [])
+abbrev pub last_lines : Platform → Deployed → Core → Report → List ℕ
+last_lines platform deployed core (lasts told) = flat_map (λ what. ending_of what platform deployed) (told ++ energies_used core.under.energy platform.hosts)
+last_lines platform deployed core other = []
 
 -- what stands on Err
-abbrev pub fault_line : Platform → Ended → List ℕ
-fault_line platform (ended.Script number kind) = script_line number kind
-fault_line platform (ended.NoRoute from to zone a b) = no_route_line platform from to zone a b
-fault_line platform (ended.TooLong from to) = too_long_line platform from to
-fault_line platform ended.ReadFault = codes "cannot read the script\n"
-fault_line platform other = []
+abbrev pub fault_line : Report → List ℕ
+fault_line (fault line) = line
+fault_line other = []
 
 -- What a run writes, how it ends, how many contexts its actors take, how many visits to uses its time advances may
 -- make, and how many bytes of its script its fetches need.
@@ -103,11 +108,15 @@ pub record Output : Type 0 where
 abbrev pub end_of : Progress → Ended
 end_of progress = unwrap_or progress.ended ended.Budget
 
+-- so it is reported
+abbrev pub report_at : Show → Platform → Deployed → ℕ → Progress → Report
+report_at show platform deployed budget progress = report_of show platform (length deployed.actors) budget progress.world.core (end_of progress)
+
 -- what a run writes and uses, by the world and the records at its end
 abbrev pub written_of : Show → Platform → Deployed → ℕ → ℕ → Source → Progress → Output
 written_of show platform deployed budget crew source progress = record {
-  out = trace_of show platform deployed progress.made ++ last_lines show platform deployed budget progress.world.core (end_of progress);
-  err = fault_line platform (end_of progress);
+  out = trace_of show platform deployed progress.made ++ last_lines platform deployed progress.world.core (report_at show platform deployed budget progress);
+  err = fault_line (report_at show platform deployed budget progress);
   ended = end_of progress;
   contexts = crew - progress.world.contexts;
   work = progress.world.work;

@@ -4,21 +4,21 @@ ghost use Rattle.sg_engine.specs.kept.Moments.{OnlyReads};
 ghost use Rattle.sg_engine.specs.kept.Invariant.{snapshot_of, CanAdvance, IsCaused, LeadsPart, StaysKept};
 ghost use Rattle.sg_engine.specs.Run.{next_work};
 
-use crate::ended::Ended;
+use crate::ended::{Ended, cuts};
 use crate::output::Output;
 use crate::plan::Engine;
 use crate::printing::write_trace;
 use crate::rounds::round_or_pass;
 use crate::simulation::Simulation;
 use sg_actor::Actor;
-use sg_base::{Memory, Steps};
-use sg_edge::{Failed, Files, Part, Sinks, Stream};
+use sg_base::Steps;
+use sg_edge::{Files, Part, Sinks, Stream};
 use sg_route::Router;
 use std::sync::ledger::Ledger;
 use std::thread::Threads;
 
-/// Makes a scheduling round, or a time advance if no actor is ready, and writes the lines of its records. Returns how
-/// the run ended, if it did. No line waits before or after it, so that none waits while the script is read.
+/// Makes a scheduling round, or a time advance if no actor is ready, and writes the lines of its records. It fails if
+/// that has ended the run. No line waits before or after it, so that none waits while the script is read.
 pub fn advance<R: Threads + Sync, F: Files, O: Sinks, L: Ledger>(
     engine: &Engine<'_, '_, R>,
     router: &mut Router,
@@ -26,7 +26,7 @@ pub fn advance<R: Threads + Sync, F: Files, O: Sinks, L: Ledger>(
     files: &mut F,
     out: &mut Output<'_, O>,
     steps: &mut Steps<L>,
-) -> Option<Ended>
+) -> Result<(), Ended>
     requires { CanAdvance (λ b. mind b) engine.now.plan (F.shows files.old) router.old sim.old }
     ensures part { LeadsPart engine.now.plan router.old result
         (snapshot_of (λ b. mind b) engine.now.plan (F.shows files.old)
@@ -41,18 +41,12 @@ pub fn advance<R: Threads + Sync, F: Files, O: Sinks, L: Ledger>(
         router.old router.new }
     ensures steps { steps.new ≤ steps.old + next_work sim.old.kernel.core }
 {
-    match sim.kernel.reserve_round(sim.seats.len()) {
-        Ok(()) => {}
-        Err(Memory) => return Some(Ended::Memory),
+    sim.kernel.reserve_round(sim.seats.len())?;
+    let done = round_or_pass(engine, router, sim, files, steps);
+    if cuts(done) {
+        return done;
     }
-    let how = match round_or_pass(engine, router, sim, files, steps) {
-        Ok(how) => how,
-        Err(Memory) => return Some(Ended::Memory),
-    };
-    match write_trace(&engine.plan, sim.kernel.records(), &mut sim.buffer, out) {
-        Ok(()) => {}
-        Err(Failed) => return Some(Ended::WriteFault),
-    }
+    write_trace(&engine.plan, sim.kernel.records(), &mut sim.buffer, out)?;
     sim.kernel.clear_records();
-    how
+    done
 }

@@ -1,6 +1,5 @@
 //! The answers of a scheduling round: its calls are answered by rising id.
-ghost use Rattle.std.specs.Prelude.{◌≡◌, ◌≢◌, ◌+◌, ◌<◌, ◌≤◌, IfOk, None, Ok, Some, length, All, AllPairs, false};
-ghost use Rattle.std.specs.Result.{is_err};
+ghost use Rattle.std.specs.Prelude.{◌≡◌, ◌≢◌, ◌+◌, ◌<◌, ◌≤◌, IfErr, Err, length, All, AllPairs};
 ghost use Rattle.sg_base.specs.Limits.{IsActorIn, IsCall};
 ghost use Rattle.sg_edge.specs.Files.{PartView};
 ghost use Rattle.sg_edge.specs.declared.files.Stage.TheVariants.{Fresh};
@@ -12,16 +11,16 @@ ghost use Rattle.sg_engine.specs.kept.Moments.{cuts, script_moment, call_at, cal
 ghost use Rattle.sg_engine.specs.Run.{ask_step};
 
 use crate::actor_call::ActorCall;
-use crate::ended::{Ended, end_of};
+use crate::ended::Ended;
 use crate::plan::Plan;
 use crate::seating::seat_if;
 use crate::simulation::Simulation;
 use sg_actor::Actor;
-use sg_base::{ActorId, Call, Memory};
+use sg_base::{ActorId, Call};
 use sg_edge::{Files, Part};
 use sg_kernel::Kernel;
 use sg_route::Router;
-use sg_script::{Script, ScriptFault};
+use sg_script::Script;
 
 // Answers an actor that fetches its next line: with that line, or by the end of the run.
 fn answer_ask<F: Files>(
@@ -30,7 +29,7 @@ fn answer_ask<F: Files>(
     script: &mut Script,
     files: &mut F,
     actor: ActorId,
-) -> Result<Option<Ended>, Memory>
+) -> Result<(), Ended>
     requires caller { MayCall kernel.old.core actor.0 }
     requires room { 0 < kernel.old.room }
     requires fits { FitsScript plan.now (F.shows files.old) script.old kernel.old }
@@ -45,14 +44,10 @@ fn answer_ask<F: Files>(
     ensures begun { unstarted kernel.new.core ≤ unstarted kernel.old.core }
 {
     if kernel.is_used_up() {
-        return Ok(Some(Ended::Budget));
+        return Err(Ended::Budget);
     }
-    match script.next_of(actor, plan.deployment, files) {
-        Ok(action) => Ok(end_of(kernel.tell(actor, action))),
-        Err(ScriptFault::Line(number, kind)) => Ok(Some(Ended::Script(number, kind))),
-        Err(ScriptFault::Read) => Ok(Some(Ended::ReadFault)),
-        Err(ScriptFault::Memory) => Err(Memory),
-    }
+    let action = script.next_of(actor, plan.deployment, files)?;
+    Ok(kernel.tell(actor, action)?)
 }
 
 // Answers a create that is given or refused: if given, its actor takes a context and its slot first.
@@ -62,7 +57,7 @@ fn create(
     actor: ActorId,
     target: ActorId,
     given: bool,
-) -> Result<Option<Ended>, Memory>
+) -> Result<(), Ended>
     requires can { CanCreate (λ b. mind b) plan.now actor target sim.old }
     requires unused { sim.old.kernel.core.events ≢ sim.old.kernel.setup.budget }
     requires given { given ≡ may_be_given target.0 sim.old }
@@ -71,18 +66,14 @@ fn create(
         (created_at plan.now sim.old.kernel actor target) result
         (cast_in (λ b. mind b) sim.old) (cast_in (λ b. mind b) sim.new)
         (at_moment part sim.old) (at_moment part sim.new) }
-    ensures uncut { IfOk result (λ how. how ≡ None) }
-    ensures others { KeepsOthers (λ b. mind b) actor.0 (is_err result) sim.old sim.new }
+    ensures short { IfErr result (λ how. how ≡ Ended.Memory) }
+    ensures others { KeepsOthers (λ b. mind b) actor.0 (cuts result) sim.old sim.new }
     ensures script { sim.new.script ≡ sim.old.script }
 {
     let seats = sim.seats.as_mut_slice();
-    match seat_if(plan, &mut sim.crew, seats, target, given) {
-        Ok(()) => {
-            sim.kernel.create(actor, target, given);
-            Ok(None)
-        }
-        Err(Memory) => Err(Memory),
-    }
+    seat_if(plan, &mut sim.crew, seats, target, given)?;
+    sim.kernel.create(actor, target, given);
+    Ok(())
 }
 
 // Answers a create.
@@ -91,25 +82,21 @@ fn answer_create(
     sim: &mut Simulation,
     actor: ActorId,
     target: ActorId,
-) -> Result<Option<Ended>, Memory>
+) -> Result<(), Ended>
     requires can { CanCreate (λ b. mind b) plan.now actor target sim.old }
     ensures step { (part : PartView) → part.stage ≢ Fresh →
         Leads plan.now (λ world. world.work)
         (created_at plan.now sim.old.kernel actor target) result
         (cast_in (λ b. mind b) sim.old) (cast_in (λ b. mind b) sim.new)
         (at_moment part sim.old) (at_moment part sim.new) }
-    ensures uncut { IfOk result (λ how. cuts how ≡ false) }
-    ensures read { result ≢ Ok (Some Ended.ReadFault) }
-    ensures others { KeepsOthers (λ b. mind b) actor.0 (is_err result) sim.old sim.new }
+    ensures unwritten { result ≢ Err Ended.WriteFault }
+    ensures read { result ≢ Err Ended.ReadFault }
+    ensures others { KeepsOthers (λ b. mind b) actor.0 (cuts result) sim.old sim.new }
     ensures script { sim.new.script ≡ sim.old.script }
 {
-    match sim.kernel.may_create(actor, target) {
-        Ok(fresh) => {
-            let given = fresh && !sim.crew.is_empty();
-            create(plan, sim, actor, target, given)
-        }
-        Err(_) => Ok(Some(Ended::Budget)),
-    }
+    let fresh = sim.kernel.may_create(actor, target)?;
+    let given = fresh && !sim.crew.is_empty();
+    create(plan, sim, actor, target, given)
 }
 
 // Answers a call, except that of an actor that was killed in this scheduling round.
@@ -119,7 +106,7 @@ fn answer_one<F: Files>(
     sim: &mut Simulation,
     files: &mut F,
     made: ActorCall,
-) -> Result<Option<Ended>, Memory>
+) -> Result<(), Ended>
     requires caller { IsFree sim.old.kernel.core made.actor.0 }
     requires call { IsCall (extent sim.old.kernel.setup) made.call }
     requires room { 0 < sim.old.kernel.room }
@@ -130,17 +117,17 @@ fn answer_one<F: Files>(
     ensures fits { FitsNow plan.now (F.shows files.new) sim.new }
     ensures script { UsesScript F.shows plan.now.script result files.old files.new
         router.old router.new }
-    ensures others { KeepsOthers (λ b. mind b) made.actor.0 (is_err result) sim.old sim.new }
+    ensures others { KeepsOthers (λ b. mind b) made.actor.0 (cuts result) sim.old sim.new }
 {
     if !sim.kernel.alive(made.actor) {
-        return Ok(None);
+        return Ok(());
     }
     match made.call {
         Call::Create(target) => answer_create(plan, sim, made.actor, target),
         Call::Ask if plan.script => {
             answer_ask(plan, &mut sim.kernel, &mut sim.script, files, made.actor)
         }
-        call => Ok(end_of(sim.kernel.answer(made.actor, call, router))),
+        call => Ok(sim.kernel.answer(made.actor, call, router)?),
     }
 }
 
@@ -150,7 +137,7 @@ pub fn answer_calls<F: Files>(
     router: &mut Router,
     sim: &mut Simulation,
     files: &mut F,
-) -> Result<Option<Ended>, Memory>
+) -> Result<(), Ended>
     requires callers { All (λ (made : ActorCall). MayCall sim.old.kernel.core made.actor.0
         × IsCall (extent sim.old.kernel.setup) made.call) sim.old.calls.items }
     requires rises { AllPairs (λ (a b : ActorCall). a.actor.0 < b.actor.0) sim.old.calls.items }
@@ -164,11 +151,7 @@ pub fn answer_calls<F: Files>(
 {
     for place in 0..sim.calls.len() {
         let made = sim.calls.as_slice()[place];
-        match answer_one(plan, router, sim, files, made) {
-            Ok(None) => {}
-            Ok(Some(how)) => return Ok(Some(how)),
-            Err(Memory) => return Err(Memory),
-        }
+        answer_one(plan, router, sim, files, made)?;
     }
-    Ok(None)
+    Ok(())
 }

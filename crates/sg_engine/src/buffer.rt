@@ -70,13 +70,9 @@ impl Buffer {
             (self.old ++ line_of answered.now plan.now.platform.now plan.now.deployment.now)
             self.new result out.old.sink out.new.sink }
     {
-        match self.make_room(out) {
-            Ok(()) => {
-                push_line(&mut *self.lines, answered, plan.platform, plan.deployment);
-                Ok(())
-            }
-            Err(Failed) => Err(Failed),
-        }
+        self.make_room(out)?;
+        push_line(&mut *self.lines, answered, plan.platform, plan.deployment);
+        Ok(())
     }
 
     /// Adds a line that reports how the run ended. If there may be no room for it, what waits is written first.
@@ -91,13 +87,9 @@ impl Buffer {
             ++ ending_of last.now plan.now.platform.now plan.now.deployment.now) self.new
             result out.old.sink out.new.sink }
     {
-        match self.make_room(out) {
-            Ok(()) => {
-                push_ending(&mut *self.lines, last, plan.platform, plan.deployment);
-                Ok(())
-            }
-            Err(Failed) => Err(Failed),
-        }
+        self.make_room(out)?;
+        push_ending(&mut *self.lines, last, plan.platform, plan.deployment);
+        Ok(())
     }
 
     /// Writes what waits.
@@ -105,12 +97,8 @@ impl Buffer {
         ensures writes { Writes O.contents O.faults self.old result out.old.sink out.new.sink }
         ensures empty { OnOk result (self.new ≡ []) }
     {
-        match out.append(Stream::Out, self.lines.as_str().as_bytes()) {
-            Ok(()) => {
-                self.lines.clear();
-                Ok(())
-            }
-            Err(Failed) => Err(Failed),
-        }
+        out.append(Stream::Out, self.lines.as_str().as_bytes())?;
+        self.lines.clear();
+        Ok(())
     }
 }

@@ -1,15 +1,16 @@
 //! How a run ends.
-ghost use Rattle.std.specs.Prelude.{◌≡◌, ◌≢◌, false, Option, option_map};
-ghost use Rattle.sg_kernel_calls.specs.declared.stop.Stop.{Stop};
-ghost use Rattle.sg_kernel_calls.specs.Steps.{result_of};
-ghost use Rattle.sg_engine.specs.kept.Moments.{cuts};
-ghost use Rattle.sg_engine.specs.Run.{ended_by};
+ghost use Rattle.std.specs.Prelude.{◌≡◌};
+ghost use Rattle.sg_engine.specs.declared.ended.Ended.TheVariants as ended;
+ghost use Rattle.sg_engine.specs.RunContract.{is_cut as is_cut_spec};
+ghost use Rattle.sg_engine.specs.Run.{ended_at, ended_by};
+ghost use Rattle.sg_engine.specs.kept.Moments.{cuts as cuts_spec};
 
-use sg_base::{Child, PointId, ZoneId};
+use sg_base::{Child, Memory, PointId, ZoneId};
+use sg_edge::Failed;
 use sg_kernel::Stop;
-use sg_script::LineFault;
+use sg_script::{LineFault, ScriptFault};
 
-/// How a run ended. The first line of each says when.
+/// How a run ended.
 #[derive(Clone, Copy)]
 pub enum Ended {
     /// All actors have ended.
@@ -44,33 +45,74 @@ pub enum Ended {
     Memory,
 }
 
-/// Returns the end of the run for a stop of the kernel.
-pub fn end_of(stopped: Result<(), Stop>) -> Option<Ended>
-    ensures is { (stop : Option Stop) → stopped ≡ result_of stop →
-        result ≡ option_map ended_by stop }
-    ensures uncut { cuts result ≡ false }
-    ensures no_fault { result ≢ Some Ended.ReadFault }
-{
-    match stopped {
-        Ok(()) => None,
-        Err(Stop::Budget) => Some(Ended::Budget),
-        Err(
+impl From<Stop> for Ended {
+    ghost from_gives = { λ stop how. how ≡ ended_by stop };
+
+    fn from(stop: Stop) -> Ended {
+        match stop {
+            Stop::Budget => Ended::Budget,
             Stop::NoRoute {
                 from,
                 to,
                 zone,
                 a,
                 b,
+            } => Ended::NoRoute {
+                from,
+                to,
+                zone,
+                a,
+                b,
             },
-        ) => Some(Ended::NoRoute {
-            from,
-            to,
-            zone,
-            a,
-            b,
-        }),
-        Err(Stop::TooLong { from, to }) => Some(Ended::TooLong { from, to }),
-        Err(Stop::Deadlock) => Some(Ended::Deadlock),
-        Err(Stop::Starved) => Some(Ended::Starved),
+            Stop::TooLong { from, to } => Ended::TooLong { from, to },
+            Stop::Deadlock => Ended::Deadlock,
+            Stop::Starved => Ended::Starved,
+        }
+    }
+}
+
+impl From<ScriptFault> for Ended {
+    ghost from_gives = { λ fault how. how ≡ ended_at fault };
+
+    fn from(fault: ScriptFault) -> Ended {
+        match fault {
+            ScriptFault::Line(number, kind) => Ended::Script(number, kind),
+            ScriptFault::Read => Ended::ReadFault,
+            ScriptFault::Memory => Ended::Memory,
+        }
+    }
+}
+
+impl From<Memory> for Ended {
+    ghost from_gives = { λ _ how. how ≡ ended.Memory };
+
+    fn from(_: Memory) -> Ended {
+        Ended::Memory
+    }
+}
+
+// Of what a run calls itself, only a write fails so.
+impl From<Failed> for Ended {
+    ghost from_gives = { λ _ how. how ≡ ended.WriteFault };
+
+    fn from(_: Failed) -> Ended {
+        Ended::WriteFault
+    }
+}
+
+/// Returns whether a run that ended so was cut off.
+pub fn is_cut(how: Ended) -> bool
+    ensures { result ≡ is_cut_spec how }
+{
+    matches!(how, Ended::WriteFault | Ended::Memory)
+}
+
+/// Returns whether a part of a run has cut it off.
+pub fn cuts(done: Result<(), Ended>) -> bool
+    ensures { result ≡ cuts_spec done }
+{
+    match done {
+        Ok(()) => false,
+        Err(how) => is_cut(how),
     }
 }

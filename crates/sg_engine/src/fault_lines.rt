@@ -42,34 +42,53 @@ pub fn script_fault_line(number: u64, kind: LineFault) -> Line
     line
 }
 
-fn point_name(platform: &PlatformText, point: PointId) -> &str
-    ensures name { result.now ≡ point_name platform.now point }
-    ensures short { length result.now ≤ 64 }
+/// Returns the line that reports that the script could not be read.
+pub fn read_fault_line() -> Line
+    ensures { result.bytes ≡ codes "cannot read the script\n" }
+{
+    let mut line = Line::new();
+    line.push_str("cannot read the script\n");
+    line
+}
+
+// A name on a line.
+#[derive(Clone, Copy)]
+struct Name<'a> {
+    text: &'a str,
+    ghost short: { length text.now ≤ 64 },
+}
+
+fn point_name(platform: &PlatformText, point: PointId) -> Name<'_>
+    ensures { result.text.now ≡ point_name platform.now point }
 {
     let hosts = platform.hosts();
     let place = point.0 as usize;
     if place < hosts.len() {
-        return hosts[place].id.as_str();
+        return Name {
+            text: hosts[place].id.as_str(),
+        };
     }
     match platform.routers().get(place - hosts.len()) {
-        Some(router) => router.id.as_str(),
-        None => "",
+        Some(router) => Name {
+            text: router.id.as_str(),
+        },
+        None => Name { text: "" },
     }
 }
 
-fn zone_name(platform: &PlatformText, zone: ZoneId) -> &str
-    ensures name { result.now ≡ zone_name platform.now zone }
-    ensures short { length result.now ≤ 64 }
+fn zone_name(platform: &PlatformText, zone: ZoneId) -> Name<'_>
+    ensures { result.text.now ≡ zone_name platform.now zone }
 {
     match platform.zones().get(zone.0 as usize) {
-        Some(zone) => zone.id.as_str(),
-        None => "",
+        Some(zone) => Name {
+            text: zone.id.as_str(),
+        },
+        None => Name { text: "" },
     }
 }
 
-fn child_name(platform: &PlatformText, child: Child) -> &str
-    ensures name { result.now ≡ child_name platform.now child }
-    ensures short { length result.now ≤ 64 }
+fn child_name(platform: &PlatformText, child: Child) -> Name<'_>
+    ensures { result.text.now ≡ child_name platform.now child }
 {
     match child {
         Child::Point(point) => point_name(platform, point),
@@ -78,16 +97,15 @@ fn child_name(platform: &PlatformText, child: Child) -> &str
 }
 
 // Adds two names, and " to " between them.
-fn push_pair(line: &mut Line, from: &str, to: &str)
-    requires from { length from.now ≤ 64 }
-    requires to { length to.now ≤ 64 }
-    requires room { array_string_len line.old ≤ 380 }
-    ensures bytes { line.new.bytes ≡ line.old.bytes ++ (from.now ++ (codes " to " ++ to.now)) }
+fn push_pair(line: &mut Line, from: Name<'_>, to: Name<'_>)
+    requires { array_string_len line.old ≤ 380 }
+    ensures bytes { line.new.bytes ≡ line.old.bytes
+        ++ (from.entry.text.now ++ (codes " to " ++ to.entry.text.now)) }
     ensures len { array_string_len line.new ≤ array_string_len line.old + 132 }
 {
-    line.push_str(from);
+    line.push_str(from.text);
     line.push_str(" to ");
-    line.push_str(to);
+    line.push_str(to.text);
 }
 
 /// Returns the line that reports a missing route.
@@ -109,7 +127,7 @@ pub fn no_route_line(
         point_name(platform, to),
     );
     line.push_str(": zone ");
-    line.push_str(zone_name(platform, zone));
+    line.push_str(zone_name(platform, zone).text);
     line.push_str(", ");
     push_pair(&mut line, child_name(platform, a), child_name(platform, b));
     line.push_str("\n");

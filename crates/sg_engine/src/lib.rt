@@ -17,6 +17,7 @@ mod laws;
 mod output;
 mod plan;
 mod printing;
+mod report;
 mod roles;
 mod rounds;
 mod seating;
@@ -29,7 +30,9 @@ mod whole_run;
 
 pub use ended::Ended;
 pub use laws::more_parts_change_nothing;
+pub use output::Output;
 pub use plan::Terms;
 pub use setup::Setup;
+pub use sg_kernel::Stop;
 pub use show::Show;
 pub use whole_run::run;

@@ -13,7 +13,19 @@ pub struct Output<'o, O: Sinks> {
     ghost failed: { IsTrue broken → 0 < O.faults sink.now },
 }
 
-impl<O: Sinks> Output<'_, O> {
+impl<'o, O: Sinks> Output<'o, O> {
+    /// Makes an output of streams to which no write has failed.
+    pub fn new(sink: &'o mut O) -> Output<'o, O>
+        requires { O.faults sink.now ≡ 0 }
+        ensures now { result.sink.now ≡ sink.entry.now }
+        ensures same { result.sink.ghost_name ≡ sink.entry.ghost_name }
+    {
+        Output {
+            sink,
+            broken: false,
+        }
+    }
+
     /// Appends a text to a stream. It fails without a write if one has failed before.
     pub fn append(&mut self, to: Stream, text: &[u8]) -> Result<(), Failed>
         ensures wrote { OnOk result (O.contents self.new.sink.now to

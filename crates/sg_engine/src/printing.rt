@@ -1,6 +1,6 @@
 //! The lines on Out. They are put into the buffer, and those of a scheduling round or a time advance are written
 //! together.
-ghost use Rattle.std.specs.Prelude.{◌≡◌, ◌<◌, ◌++◌, [], slice_index_or, IfSome, OnOk};
+ghost use Rattle.std.specs.Prelude.{◌≡◌, ◌<◌, ◌++◌, [], slice_index_or, if◌then◌else◌, IfSome, OnOk};
 ghost use Rattle.sg_actor_states.specs.Actors.{actor_at};
 ghost use Rattle.sg_actor_states.specs.Records.{AreRecords, IsRecord};
 ghost use Rattle.sg_kernel_calls.specs.World.{IsActor};
@@ -51,10 +51,7 @@ fn put_records<O: Sinks>(
         buffer.new result out.old.sink out.new.sink }
 {
     for answered in records {
-        match put_record(plan, answered, buffer, out) {
-            Ok(()) => {}
-            Err(Failed) => return Err(Failed),
-        }
+        put_record(plan, answered, buffer, out)?;
     }
     Ok(())
 }
@@ -73,10 +70,8 @@ fn write_lines<O: Sinks>(
         out.old.sink out.new.sink }
     ensures empty { OnOk result (buffer.new ≡ []) }
 {
-    match put_records(plan, records, buffer, out) {
-        Ok(()) => buffer.flush(out),
-        Err(Failed) => Err(Failed),
-    }
+    put_records(plan, records, buffer, out)?;
+    buffer.flush(out)
 }
 
 /// Writes a trace line for each record of a scheduling round or a time advance, if all is shown: in one write, unless
@@ -117,27 +112,6 @@ pub fn put_last<O: Sinks>(
     buffer.put_ending(&last, plan, out)
 }
 
-/// Puts two last lines into the buffer.
-pub fn put_two<O: Sinks>(
-    plan: &Plan<'_>,
-    first: Last,
-    second: Last,
-    buffer: &mut Buffer,
-    out: &mut Output<'_, O>,
-) -> Result<(), Failed>
-    requires first { IsLastOf plan.now.platform.now plan.now.deployment.now first }
-    requires second { IsLastOf plan.now.platform.now plan.now.deployment.now second }
-    ensures { Puts O.contents O.faults
-        (buffer.old ++ (ending_in plan.now first ++ ending_in plan.now second)) buffer.new result
-        out.old.sink out.new.sink }
-{
-    match put_last(plan, first, buffer, out) {
-        Ok(()) => {}
-        Err(Failed) => return Err(Failed),
-    }
-    put_last(plan, second, buffer, out)
-}
-
 // Returns the line for an actor that can't continue.
 fn stuck(end: &Final<'_, '_>, actor: ActorId) -> Option<Last>
     requires { IsActor end.now.kernel.now.core actor.0 }
@@ -149,14 +123,12 @@ fn stuck(end: &Final<'_, '_>, actor: ActorId) -> Option<Last>
     if kernel.suspended(actor) && kernel.alive(actor) {
         return Some(Last::Suspended(actor));
     }
-    match kernel.blocked(actor) {
-        Some(call) => Some(Last::Blocked(actor, call)),
-        None => None,
-    }
+    let call = kernel.blocked(actor)?;
+    Some(Last::Blocked(actor, call))
 }
 
-// Puts a line into the buffer, if there is one.
-fn put_if<O: Sinks>(
+/// Puts a line into the buffer, if there is one.
+pub fn put_if<O: Sinks>(
     plan: &Plan<'_>,
     told: Option<Last>,
     buffer: &mut Buffer,
@@ -185,31 +157,27 @@ fn put_all_stuck<O: Sinks>(
 {
     for i in 0..end.kernel.actors() {
         let told = stuck(end, ActorId(i as u32 + 1));
-        match put_if(&end.plan, told, buffer, out) {
-            Ok(()) => {}
-            Err(Failed) => return Err(Failed),
-        }
+        put_if(&end.plan, told, buffer, out)?;
     }
     Ok(())
 }
 
-/// Puts a last line into the buffer, and after it one for each actor that is suspended or blocked, in rising id.
+/// Does the same if these actors are to be reported.
 pub fn put_stuck<O: Sinks>(
     end: &Final<'_, '_>,
-    last: Last,
+    told: bool,
     buffer: &mut Buffer,
     out: &mut Output<'_, O>,
 ) -> Result<(), Failed>
-    requires { IsLastOf end.now.plan.platform.now end.now.plan.deployment.now last }
     ensures { Puts O.contents O.faults (buffer.old
-        ++ (ending_in end.now.plan last ++ stuck_in end.now.plan end.now.kernel.now.core))
-        buffer.new result out.old.sink out.new.sink }
+        ++ (if told then stuck_in end.now.plan end.now.kernel.now.core else [])) buffer.new result
+        out.old.sink out.new.sink }
 {
-    match put_last(&end.plan, last, buffer, out) {
-        Ok(()) => {}
-        Err(Failed) => return Err(Failed),
+    if told {
+        put_all_stuck(end, buffer, out)
+    } else {
+        Ok(())
     }
-    put_all_stuck(end, buffer, out)
 }
 
 // Returns the line for the energy of a host, if it has power.
@@ -240,10 +208,7 @@ pub fn put_energy<O: Sinks>(
     let rows = end.plan.platform.hosts();
     for (i, row) in rows.iter().enumerate() {
         let told = energy(end.kernel, PointId(i as u32), row);
-        match put_if(&end.plan, told, buffer, out) {
-            Ok(()) => {}
-            Err(Failed) => return Err(Failed),
-        }
+        put_if(&end.plan, told, buffer, out)?;
     }
     Ok(())
 }

@@ -5,12 +5,12 @@ ghost use Rattle.sg_engine.specs.kept.Moments.{part_at, round_at};
 ghost use Rattle.sg_engine.specs.Run.{are_completed, next_work, work_behind};
 
 use crate::answers::answer_calls;
-use crate::ended::{Ended, end_of};
+use crate::ended::Ended;
 use crate::plan::Engine;
 use crate::simulation::Simulation;
 use crate::turns::take_turns;
 use sg_actor::Actor;
-use sg_base::{Memory, Steps};
+use sg_base::Steps;
 use sg_edge::{Files, Part};
 use sg_route::Router;
 use std::sync::ledger::Ledger;
@@ -22,7 +22,7 @@ fn round<R: Threads + Sync, F: Files>(
     router: &mut Router,
     sim: &mut Simulation,
     files: &mut F,
-) -> Result<Option<Ended>, Memory>
+) -> Result<(), Ended>
     requires { CanPlay (λ b. mind b) engine.now.plan (F.shows files.old) router.old sim.old }
     ensures step { LeadsTo (λ b. mind b) engine.now.plan (λ world. world.work)
         (round_at engine.now.plan router.old sim.old.kernel) result
@@ -42,7 +42,7 @@ pub fn round_or_pass<R: Threads + Sync, F: Files, L: Ledger>(
     sim: &mut Simulation,
     files: &mut F,
     steps: &mut Steps<L>,
-) -> Result<Option<Ended>, Memory>
+) -> Result<(), Ended>
     requires can { CanPlay (λ b. mind b) engine.now.plan (F.shows files.old) router.old sim.old }
     requires going { are_completed sim.old.kernel.core ≡ false }
     ensures step { LeadsTo (λ b. mind b) engine.now.plan work_behind
@@ -55,6 +55,6 @@ pub fn round_or_pass<R: Threads + Sync, F: Files, L: Ledger>(
     if sim.kernel.any_ready() {
         round(engine, router, sim, files)
     } else {
-        Ok(end_of(sim.kernel.pass(steps)))
+        Ok(sim.kernel.pass(steps)?)
     }
 }

@@ -9,7 +9,7 @@ ghost use Rattle.sg_engine.specs.kept.Stretches.{planned_output, planned_pace, S
 ghost use Rattle.sg_engine.specs.kept.Writing.{HasReason};
 
 use crate::advance::advance;
-use crate::ended::Ended;
+use crate::ended::{Ended, is_cut};
 use crate::final_state::Final;
 use crate::finish::finish;
 use crate::output::Output;
@@ -54,27 +54,11 @@ fn simulate<R: Threads + Sync, F: Files, O: Sinks, L: Ledger>(
             return Ended::Completed;
         }
         match advance(engine, router, sim, files, out, steps) {
-            None => {}
-            Some(how) => return how,
+            Ok(()) => {}
+            Err(how) => return how,
         }
     }
     Ended::Budget
-}
-
-fn is_cut(how: Ended) -> bool
-    ensures { result ≡ is_cut_spec how }
-{
-    match how {
-        Ended::WriteFault | Ended::Memory => true,
-        Ended::Completed
-        | Ended::Deadlock
-        | Ended::Starved
-        | Ended::Budget
-        | Ended::Script(_, _)
-        | Ended::NoRoute { .. }
-        | Ended::TooLong { .. }
-        | Ended::ReadFault => false,
-    }
 }
 
 // Simulates, and writes the last lines of a run that wasn't cut off.

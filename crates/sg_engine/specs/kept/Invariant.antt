@@ -1,12 +1,10 @@
 -- What holds of a simulation between the parts of a run.
-use Rattle.std.specs.Prelude.{◌≡◌, ◌≢◌, ◌+◌, ◌<◌, ◌≤◌, ◌&&◌, nat_lt, ℕ, ⊤, Bool, List, [], length, take, All, Option, None, Some, Result, MatchBool, IsTrue, true, false, vec_capacity}
+use Rattle.std.specs.Prelude.{◌≡◌, ◌≢◌, ◌+◌, ◌<◌, ◌≤◌, ◌&&◌, nat_lt, ℕ, ⊤, Bool, List, [], length, take, All, Option, None, Result, Err as Error, MatchBool, IsTrue, true, false, vec_capacity}
 use Rattle.std.specs.List.{count_by}
 use Rattle.std.specs.Borrow.{MutBor}
-use Rattle.std.specs.Result.{is_err}
 use Rattle.sg_base.specs.declared.ids.ActorId.{ActorId}
 use Rattle.sg_base.specs.Limits.{IsActorIn}
 use Rattle.sg_base.specs.Mind.{Mind}
-use Rattle.sg_base.specs.declared.memory.Memory.{Memory}
 use Rattle.sg_actor.specs.Seats.{SeatView, seat_views}
 use Rattle.sg_edge.specs.Files.{PartView}
 use Rattle.sg_edge.specs.declared.files.Part.{Part}
@@ -31,7 +29,7 @@ use Rattle.sg_actor_states.specs.declared.state.Actor.{Actor}
 use Rattle.sg_engine.specs.World.{World}
 use Rattle.sg_engine.specs.Output.{first_of}
 use Rattle.sg_engine.specs.RunContract.{IsBroken, TakesScript}
-use Rattle.sg_engine.specs.kept.Moments.{Cast, Moment, moment, moment_in, names_of, part_at, script_in, cuts, Fits, Leads, LeavesFree, StandsFor, UsesScript}
+use Rattle.sg_engine.specs.kept.Moments.{Cast, Moment, moment, moment_in, names_of, part_at, script_in, cuts, end_in, Fits, Leads, LeavesFree, StandsFor, UsesScript}
 use Rattle.sg_engine.specs.kept.SeatRules.{IsSeated, minds_of}
 use Rattle.sg_engine.specs.Run.{Answering, Progress, are_completed, work_behind}
 use Rattle.sg_engine.specs.kept.Stretches.{Trace, trace_in, Advances, CutsOff}
@@ -179,7 +177,7 @@ pub record IsKept {A : Type 0} (mind : A → Option Mind) (deployed : Deployed) 
   pub empty : sim.buffer ≡ []
 
 -- how a stretch leads from one simulation to another
-abbrev pub LeadsTo : {A : Type 0} → (A → Option Mind) → Plan → (World → ℕ) → (Answering → World → Progress) → Result (Option Ended) Memory → (Part → PartView) → (Part → PartView) → Simulation A → Simulation A → Type 0
+abbrev pub LeadsTo : {A : Type 0} → (A → Option Mind) → Plan → (World → ℕ) → (Answering → World → Progress) → Result (Unit {0}) Ended → (Part → PartView) → (Part → PartView) → Simulation A → Simulation A → Type 0
 LeadsTo mind plan spends whole result shows shown old new = Leads plan spends whole result (cast_in mind old) (cast_in mind new) (now_at plan shows old) (now_at plan shown new)
 
 -- the router has the routes of the platform, over its links
@@ -203,9 +201,9 @@ pub record IsBeginning {A : Type 0} (mind : A → Option Mind) (plan : Plan) (sh
   pub roads : AreRoadsOf plan.platform.now router
 
 -- what a part of a run has done
-abbrev pub PartIs : ℕ → Names → Trace → (Answering → Progress) → Option Ended → List ℕ → Cast → Moment → Moment → Option (List ℕ) → Option (List ℕ) → Type 0
-PartIs spent names trace whole how taken had old new before after =
-    MatchBool (cuts how) (CutsOff names trace whole taken had.contexts old.part new.part before after) (Advances spent names trace whole how taken had old new before after)
+abbrev pub PartIs : ℕ → Names → Trace → (Answering → Progress) → Result (Unit {0}) Ended → List ℕ → Cast → Moment → Moment → Option (List ℕ) → Option (List ℕ) → Type 0
+PartIs spent names trace whole result taken had old new before after =
+    MatchBool (cuts result) (CutsOff names trace whole taken had.contexts old.part new.part before after) (Advances spent names trace whole (end_in result) taken had old new before after)
 
 -- so it is in the run of a plan
 abbrev pub Holds : {A : Type 0} → (A → Option Mind) → Plan → (Part → PartView) → Simulation A → Type 0
@@ -229,9 +227,9 @@ pub record CanPlay {A : Type 0} (mind : A → Option Mind) (plan : Plan) (shows 
 
 -- What holds after calls, a scheduling round or a time advance: all is of the plan's actors still, who have their
 -- slots, and except for the script nothing was read.
-pub record GoesOn {A F : Type 0} (mind : A → Option Mind) (plan : Plan) (shows : F → Part → PartView) (result : Result (Option Ended) Memory) (before after : F) (had has : Roads) (old new : Simulation A) : Type 0 where
+pub record GoesOn {A F : Type 0} (mind : A → Option Mind) (plan : Plan) (shows : F → Part → PartView) (result : Result (Unit {0}) Ended) (before after : F) (had has : Roads) (old new : Simulation A) : Type 0 where
   pub fits : FitsNow plan (shows after) new
-  pub seats : KeepsSeats mind (is_err result) old new
+  pub seats : KeepsSeats mind (cuts result) old new
   pub script : UsesScript shows plan.script result before after had has
 
 -- a part more can be made: an actor hasn't ended
@@ -242,14 +240,14 @@ pub record CanAdvance {A : Type 0} (mind : A → Option Mind) (plan : Plan) (sho
 
 -- contexts were taken as they may be; after a part that didn't cut the run off all of that holds again, of the same
 -- setup
-pub record StaysKept {A : Type 0} (mind : A → Option Mind) (plan : Plan) (how : Option Ended) (shows : Part → PartView) (old new : Simulation A) : Type 0 where
-  pub crew : TakesCrew (cuts how) old new
+pub record StaysKept {A : Type 0} (mind : A → Option Mind) (plan : Plan) (result : Result (Unit {0}) Ended) (shows : Part → PartView) (old new : Simulation A) : Type 0 where
+  pub crew : TakesCrew (cuts result) old new
   pub setup : new.kernel.setup ≡ old.kernel.setup
-  pub kept : MatchBool (cuts how) ⊤ (Holds mind plan shows new)
+  pub kept : MatchBool (cuts result) ⊤ (Holds mind plan shows new)
 
 -- a part that ended a run by a failed write or read has its cause
-abbrev pub IsCaused : {O : Type 0} → (O → ℕ) → Plan → Option Ended → (Part → PartView) → MutBor O → MutBor O → Type 0
-IsCaused faults plan how shows old new = HasReason faults (how ≡ Some ended.WriteFault) (how ≡ Some ended.ReadFault) ((script_in plan shows).stage ≡ Broken) old new
+abbrev pub IsCaused : {O : Type 0} → (O → ℕ) → Plan → Result (Unit {0}) Ended → (Part → PartView) → MutBor O → MutBor O → Type 0
+IsCaused faults plan result shows old new = HasReason faults (result ≡ Error ended.WriteFault) (result ≡ Error ended.ReadFault) ((script_in plan shows).stage ≡ Broken) old new
 
 -- How the run of a plan has ended: the cause of a failed write or read, that running out of memory leaves Err as it was,
 -- that of all files only the script's part was read, and that the roads stay.
@@ -271,6 +269,6 @@ snapshot_of mind plan shows streams sim = record { now = now_at plan shows sim; 
 
 -- How a part of a run leads from one moment to another, with its lines on Out: of each world for which the first moment
 -- stands. Err stays.
-abbrev pub LeadsPart : Plan → Roads → Option Ended → Snapshot → Snapshot → Type 0
-LeadsPart plan roads how old new = (new.streams Err ≡ old.streams Err) × ((taken : List ℕ) (world : World) → StandsFor (names_of plan) taken old.cast old.now world →
-    PartIs (work_behind world) (names_of plan) (trace_in plan) (λ answers. part_at plan roads old.now.kernel answers world) how taken new.cast old.now new.now (old.streams Out) (new.streams Out))
+abbrev pub LeadsPart : Plan → Roads → Result (Unit {0}) Ended → Snapshot → Snapshot → Type 0
+LeadsPart plan roads result old new = (new.streams Err ≡ old.streams Err) × ((taken : List ℕ) (world : World) → StandsFor (names_of plan) taken old.cast old.now world →
+    PartIs (work_behind world) (names_of plan) (trace_in plan) (λ answers. part_at plan roads old.now.kernel answers world) result taken new.cast old.now new.now (old.streams Out) (new.streams Out))

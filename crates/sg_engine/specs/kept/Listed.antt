@@ -1,5 +1,5 @@
--- The lists of the definition from any place on, and the lines of the end by cases, for loops and branches.
-use Rattle.std.specs.Prelude.{ℕ, ◌+◌, ◌++◌, Bool, true, false, Option, None, Some, if◌then◌else◌, List, [], ◌∷◌, length, map, slice_index_or}
+-- The lists of the definition from any place on, and the report of the end by its parts, for loops and branches.
+use Rattle.std.specs.Prelude.{ℕ, ◌+◌, ◌++◌, ⊤, IfSome, Option, None, Some, if◌then◌else◌, List, [], ◌∷◌, map, slice_index_or}
 use Rattle.std.specs.List.{enumerate_from}
 use Rattle.std.specs.Option.{option_map_or}
 use Rattle.sg_base.specs.Mind.{Mind}
@@ -9,15 +9,13 @@ use Rattle.sg_platform_rows.specs.Platform.{Platform}
 use Rattle.sg_platform_rows.specs.declared.rows.ActorRow.{ActorRow}
 use Rattle.sg_platform_rows.specs.declared.rows.HostRow.{HostRow}
 use Rattle.sg_actor_states.specs.declared.state.Actor.{Actor}
-use Rattle.sg_trace.specs.Ending.{ending_of}
+use Rattle.sg_trace.specs.Ending.{IsLastOf, ending_of}
 use Rattle.sg_trace.specs.declared.last.Last.{Last}
-use Rattle.sg_trace.specs.declared.last.Last.TheVariants as last
-use Rattle.sg_engine.specs.Output.{energy_last, stuck_last}
+use Rattle.sg_engine.specs.Output.{Report as Told, lasts, fault, nothing, energy_last, stuck, stuck_last}
 use Rattle.sg_engine.specs.Roles.{mind_at}
-use Rattle.sg_engine.specs.declared.ended.Ended.{Ended}
-use Rattle.sg_engine.specs.declared.ended.Ended.TheVariants as ended
-use Rattle.sg_engine.specs.declared.show.Show.{Show}
-use Rattle.sg_engine.specs.declared.show.Show.TheVariants as show
+use Rattle.sg_engine.specs.declared.report.Lasts.{Lasts}
+use Rattle.sg_engine.specs.declared.report.Report.{Report}
+use Rattle.sg_engine.specs.declared.report.Report.TheVariants as report
 
 -- what an actor has in mind at first: nothing yet if it doesn't start
 abbrev pub first_mind : ℕ → ActorRow → Option Mind
@@ -30,11 +28,6 @@ minds_from me rows = map (λ p. first_mind p.0 p.1) (enumerate_from me rows)
 -- the minds with which they begin, whenever they begin
 abbrev pub firsts_from : ℕ → List ActorRow → List Mind
 firsts_from me rows = map (λ p. mind_at p.0 p.1) (enumerate_from me rows)
-
--- how many actors and events there were, if that is shown
-abbrev pub summary_line : Show → Platform → Deployed → ℕ → List ℕ
-summary_line show.Summary platform deployed events = ending_of (last.Summary (length deployed.actors) events) platform deployed
-summary_line other platform deployed events = []
 
 -- the text of a line, if there is one
 abbrev pub line_if : Platform → Deployed → Option Last → List ℕ
@@ -55,22 +48,31 @@ energy_lines platform deployed energies host (row ∷ rows) =
 abbrev pub all_energy : Platform → Deployed → Core → List ℕ
 all_energy platform deployed core = energy_lines platform deployed core.under.energy 0 platform.hosts
 
--- how the run has ended, and which actors can't continue
-abbrev pub how_lines : Show → Platform → Deployed → ℕ → Core → Ended → List ℕ
-how_lines show platform deployed budget core ended.Completed = summary_line show platform deployed core.events ++ ending_of (last.Time core.under.date) platform deployed
-how_lines show platform deployed budget core ended.Deadlock = ending_of (last.Deadlock core.under.date) platform deployed ++ stuck_lines platform deployed 1 core.actors
-how_lines show platform deployed budget core ended.Starved = ending_of (last.Starved core.under.date) platform deployed ++ stuck_lines platform deployed 1 core.actors
-how_lines show platform deployed budget core ended.Budget = ending_of (last.Budget budget core.under.date) platform deployed
-how_lines show platform deployed budget core other = []
+-- ---- what is reported of the end
+-- a line, if there is one
+abbrev pub listed : Option Last → List Last
+listed None = []
+listed (Some what) = what ∷ []
 
--- the energies are reported if no fault has ended the run
-abbrev pub tells_energy : Ended → Bool
-tells_energy ended.Completed = true
-tells_energy ended.Deadlock = true
-tells_energy ended.Starved = true
-tells_energy ended.Budget = true
-tells_energy other = false
+-- these lasts: perhaps one ahead, and perhaps the actors that can't continue
+abbrev pub lasts_of : Core → Lasts → List Last
+lasts_of core told = listed told.ahead ++ told.last ∷ (if told.stuck then stuck core.actors else [])
 
--- what stands on Out after the trace lines
-abbrev pub last_by : Show → Platform → Deployed → ℕ → Core → Ended → List ℕ
-last_by show platform deployed budget core how = how_lines show platform deployed budget core how ++ (if tells_energy how then all_energy platform deployed core else [])
+-- what such a report says of a run that ended with this core
+abbrev pub report_as : Core → Report → Told
+report_as core (report.Lasts told) = lasts (lasts_of core told)
+report_as core (report.Fault line) = fault line.bytes
+report_as core report.Nothing = nothing
+
+-- the lines of how the run has ended
+abbrev pub how_lines : Platform → Deployed → Core → Lasts → List ℕ
+how_lines platform deployed core told =
+    line_if platform deployed told.ahead ++ (ending_of told.last platform deployed ++ (if told.stuck then stuck_lines platform deployed 1 core.actors else []))
+
+-- its lines can be written
+abbrev pub AreLastsOf : Platform → Deployed → Lasts → Type 0
+AreLastsOf platform deployed told = IfSome told.ahead (IsLastOf platform deployed) × IsLastOf platform deployed told.last
+
+abbrev pub IsReportOf : Platform → Deployed → Report → Type 0
+IsReportOf platform deployed (report.Lasts told) = AreLastsOf platform deployed told
+IsReportOf platform deployed other = ⊤

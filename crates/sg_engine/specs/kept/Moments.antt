@@ -1,6 +1,5 @@
 -- How far a run has come between two moments, whatever its script may still give.
-use Rattle.std.specs.Prelude.{◌≡◌, ◌≢◌, ◌<◌, ◌≤◌, ◌-◌, ℕ, Bool, true, false, ◌||◌, IsTrue, List, [], ◌++◌, length, Option, None, Some, Result, Ok, IfOk, MatchResult}
-use Rattle.sg_base.specs.declared.memory.Memory.{Memory}
+use Rattle.std.specs.Prelude.{◌≡◌, ◌≢◌, ◌<◌, ◌≤◌, ◌-◌, ℕ, Bool, true, false, ◌||◌, IsTrue, List, [], ◌++◌, length, Option, None, Some, Result, Ok, Err, MatchBool}
 use Rattle.sg_base.specs.declared.trace_record.Record.{Record}
 use Rattle.sg_base.specs.declared.ids.ActorId.{ActorId}
 use Rattle.sg_base.specs.Mind.{Mind}
@@ -57,9 +56,15 @@ pub record Fits (deployed : Deployed) (now : Moment) : Type 0 where
   pub extent : extent now.kernel.setup ≡ extent_of deployed
   pub waiting : AreLimited (extent_of deployed) now.kept
 
-abbrev pub cuts : Option Ended → Bool
-cuts None = false
-cuts (Some how) = is_cut how
+-- how a stretch has ended the run; none: it continues
+abbrev pub end_in : Result (Unit {0}) Ended → Option Ended
+end_in (Ok done) = None
+end_in (Err how) = Some how
+
+-- and whether it has cut the run off
+abbrev pub cuts : Result (Unit {0}) Ended → Bool
+cuts (Ok done) = false
+cuts (Err how) = is_cut how
 
 -- the actor isn't blocked: it may call, or has ended
 pub record IsFree (core : Core) (actor : ℕ) : Type 0 where
@@ -176,24 +181,29 @@ abbrev pub FitsScript : Plan → (Part → PartView) → Reader → Known → Ty
 FitsScript plan shows reader kernel = Fits plan.deployment.now (script_moment shows reader kernel)
 
 -- a read fault is of a part that is broken
-abbrev pub IsReadFrom : Result (Option Ended) Memory → PartView → Type 0
-IsReadFrom result part = result ≡ Ok (Some ended.ReadFault) → part.stage ≡ Broken
+abbrev pub IsReadFrom : Result (Unit {0}) Ended → PartView → Type 0
+IsReadFrom result part = result ≡ Err ended.ReadFault → part.stage ≡ Broken
 
 -- What a fetch has to do with the script: nothing else was read, it cuts the run off only if memory runs out, and a read
 -- fault is of a part that is broken.
-pub record HasFetched (result : Result (Option Ended) Memory) (old new : Part → PartView) : Type 0 where
+pub record HasFetched (result : Result (Unit {0}) Ended) (old new : Part → PartView) : Type 0 where
   pub others : Only Script old new
-  pub uncut : IfOk result (λ how. cuts how ≡ false)
+  pub unwritten : result ≢ Err ended.WriteFault
   pub cause : IsReadFrom result (new Script)
 
+-- where a stretch with this result leads from a moment: to another one; or it was cut off without memory
+abbrev pub LeadsOn : ℕ → Names → (Answering → Progress) → Result (Unit {0}) Ended → List ℕ → Cast → Moment → Moment → Type 0
+LeadsOn spent names whole result taken has old new =
+    MatchBool (cuts result) (LacksMemory names whole taken has.contexts old.part new.part) (IsStretch spent names whole (ending (end_in result)) taken has old new)
+
 -- How a stretch leads from one moment to another, with this cast in the one and that in the other: of each world for
--- which the first moment stands, with so much work spent in all. Without memory it was cut off.
-abbrev pub Leads : Plan → (World → ℕ) → (Answering → World → Progress) → Result (Option Ended) Memory → Cast → Cast → Moment → Moment → Type 0
+-- which the first moment stands, with so much work spent in all.
+abbrev pub Leads : Plan → (World → ℕ) → (Answering → World → Progress) → Result (Unit {0}) Ended → Cast → Cast → Moment → Moment → Type 0
 Leads plan spends whole result had has old new = (taken : List ℕ) (world : World) → StandsFor (names_of plan) taken had old world →
-    MatchResult result (λ how. IsStretch (spends world) (names_of plan) (λ answers. whole answers world) (ending how) taken has old new) (λ _. LacksMemory (names_of plan) (λ answers. whole answers world) taken has.contexts old.part new.part)
+    LeadsOn (spends world) (names_of plan) (λ answers. whole answers world) result taken has old new
 
 -- the same if the `Cast` stays
-abbrev pub LeadsCalls : Plan → (Answering → World → Progress) → Result (Option Ended) Memory → Moment → Moment → Type 0
+abbrev pub LeadsCalls : Plan → (Answering → World → Progress) → Result (Unit {0}) Ended → Moment → Moment → Type 0
 LeadsCalls plan whole result old new = (cast : Cast) → Leads plan (λ world. world.work) whole result cast cast old new
 
 -- of all files only the script's part was read, and without a script none
@@ -208,8 +218,8 @@ pub record OnlyReads {F : Type 0} (shows : F → Part → PartView) (script : Bo
 
 -- What a stretch has to do with the script and the roads: nothing else was read, the roads stay, it cuts the run off
 -- only if memory runs out, and a read fault is only of a part that is broken.
-pub record UsesScript {F : Type 0} (shows : F → Part → PartView) (script : Bool) (result : Result (Option Ended) Memory) (old new : F) (had has : Roads) : Type 0 where
+pub record UsesScript {F : Type 0} (shows : F → Part → PartView) (script : Bool) (result : Result (Unit {0}) Ended) (old new : F) (had has : Roads) : Type 0 where
   pub reads : ReadsScript shows script old new
   pub roads : has ≡ had
-  pub uncut : IfOk result (λ how. cuts how ≡ false)
+  pub unwritten : result ≢ Err ended.WriteFault
   pub cause : IsReadFrom result (script_part script (shows new Script))

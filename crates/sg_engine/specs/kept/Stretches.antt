@@ -17,12 +17,13 @@ use Rattle.sg_engine.specs.declared.ended.Ended.{Ended}
 use Rattle.sg_engine.specs.declared.plan.Plan.{Plan}
 use Rattle.sg_engine.specs.declared.simulation.Simulation.{Simulation}
 use Rattle.sg_engine.specs.RunContract.{is_cut}
-use Rattle.sg_engine.specs.Output.{Output, first_of, run_output, trace_of, scene_of}
+use Rattle.sg_engine.specs.Output.{Output, Report, first_of, last_lines, report_of, run_output, trace_of, scene_of}
 use Rattle.sg_trace.specs.Ending.{ending_of}
 use Rattle.sg_trace.specs.declared.last.Last.{Last}
 use Rattle.sg_engine.specs.Pace.{Pace, first_parts, pace_of}
 use Rattle.sg_engine.specs.Run.{Answering, Progress, run_of}
-use Rattle.sg_engine.specs.kept.Listed.{all_energy, how_lines, last_by, stuck_lines}
+use Rattle.sg_engine.specs.declared.report.Lasts.{Lasts}
+use Rattle.sg_engine.specs.kept.Listed.{all_energy, how_lines, stuck_lines}
 use Rattle.sg_engine.specs.kept.Moments.{AreNeededBy, StaysOpen, Cast, LeavesContexts, Moment, moment, IsStretch, ending, names_of, script_in}
 
 -- how records are written as lines
@@ -83,7 +84,8 @@ pub record IsPaced (names : Names) (trace : Trace) (parts : ℕ → Answering �
 abbrev pub trace_in : Plan → Trace
 trace_in plan = trace_of plan.terms.show plan.platform.now plan.deployment.now
 
--- a line of the end, those of actors that can't continue, those of the energies, and all lines after the trace lines
+-- a line of the end, those of actors that can't continue, those of the energies, those of how the run has ended, and all
+-- lines after the trace lines
 abbrev pub ending_in : Plan → Last → List ℕ
 ending_in plan last = ending_of last plan.platform.now plan.deployment.now
 
@@ -93,11 +95,15 @@ stuck_in plan core = stuck_lines plan.platform.now plan.deployment.now 1 core.ac
 abbrev pub energy_in : Plan → Core → List ℕ
 energy_in plan core = all_energy plan.platform.now plan.deployment.now core
 
-abbrev pub how_in : Plan → Core → Ended → List ℕ
-how_in plan core how = how_lines plan.terms.show plan.platform.now plan.deployment.now plan.terms.budget core how
+abbrev pub how_in : Plan → Core → Lasts → List ℕ
+how_in plan core told = how_lines plan.platform.now plan.deployment.now core told
 
-abbrev pub last_in : Plan → Core → Ended → List ℕ
-last_in plan core how = last_by plan.terms.show plan.platform.now plan.deployment.now plan.terms.budget core how
+abbrev pub last_in : Plan → Core → Report → List ℕ
+last_in plan core report = last_lines plan.platform.now plan.deployment.now core report
+
+-- what is reported if it ended so
+abbrev pub reported : Plan → Core → Ended → Report
+reported plan core how = report_of plan.terms.show plan.platform.now (length plan.deployment.now.actors) plan.terms.budget core how
 
 -- the run of a plan with so many contexts in the pool, by its script
 abbrev pub run_by : Plan → ℕ → Answering → Progress

@@ -1,4 +1,6 @@
-use Rattle.std.proofs.Common.{◌∙◌, ◌++◌, ◌<◌, sym, subst, refl, arith, false, get_or, length}
+use Rattle.std.proofs.Common.{◌∙◌, ◌++◌, ◌<◌, ap, sym, subst, refl, arith, false, get_or, length}
+use Rattle.std.specs.Prelude.{vec_capacity}
+use Rattle.sg_engine.specs.RunContract.{is_cut}
 use Rattle.sg_kernel_calls.specs.Roads.{AreOver}
 use Rattle.sg_kernel_calls.specs.Setup.{Setup}
 use Rattle.sg_route.specs.Roads.{Roads}
@@ -8,9 +10,10 @@ use Rattle.sg_engine.specs.Run.{scene}
 use Rattle.sg_engine.proofs.Creating.{free_may}
 use Rattle.sg_engine.proofs.Crews.{crew_same, crew_then}
 use Rattle.sg_engine.proofs.Reaching.{reached_none}
-use Rattle.sg_engine.proofs.Calls.{rest_from, one_more_call, last_call, all_called, cut_later}
+use Rattle.sg_engine.proofs.Calls.{rest_from, one_more_call, all_called, ends_call}
 use Rattle.sg_engine.proofs.Files.{script_then, script_unread}
 use Rattle.sg_engine.proofs.Listing.{other_actor}
+use Rattle.sg_engine.proofs.Uncut.{exit_is}
 use Rattle.sg_engine.proofs.answers.answer_calls.Goals as goal
 
 pub loop-place-init : goal.loop-place-init
@@ -29,26 +32,44 @@ loop-place-init g c = record {
   callers = λ j d from below. free_may c.args.sim.now.kernel.core (get_or c.args.sim.now.calls.items j d).actor.0 (c.requires.callers j d below).0;
 }
 
-pub returns-in-Ok-Some-clause-step : goal.returns-in-Ok-Some-clause-step
-returns-in-Ok-Some-clause-step g c = λ taken world stands.
+pub returns-in_err-answer_one-clause-step : goal.returns-in_err-answer_one-clause-step
+returns-in_err-answer_one-clause-step g c = λ taken world stands.
     let inv = c.loop-place.invariant in
     let first = inv.reached taken world stands in
+    let how = c.in_err-answer_one.field-0.0 in
     let within : c.loop-place.place < length c.args.sim.now.calls.items = omega (arith, c.loop-place-test.true, c.len-place-end.ensures) in
-    last_call _ _ c.args.router.now c.args.sim.now.kernel.setup (firsts_of c.args.plan.now.deployment.now) c.args.plan.now.script c.args.sim.now.calls.items c.loop-place.place _ c.in-Ok-Some.how taken _ _ _ _ _ within inv.setup first
-    (rw (c.in-Ok-Some.field-0-is, inv.router, c.as_slice.ensures.value, inv.calls) at (c.in-Ok-Some.ensures.step (taken ++ first.piece) first.world first.stands))
+    rw (exit_is how c.from_residual.result c.from_residual.ensures.1)
+    (ends_call (is_cut how) _ _ c.args.router.now c.args.sim.now.kernel.setup (firsts_of c.args.plan.now.deployment.now) c.args.plan.now.script c.args.sim.now.calls.items c.loop-place.place _ how taken _ _ _ _ _ within inv.setup first
+    (rw (inv.router, c.as_slice.ensures.value, inv.calls) at (c.in_err-answer_one.ensures.step (taken ++ first.piece) first.world first.stands)))
 
-pub returns-in-Err-clause-step : goal.returns-in-Err-clause-step
-returns-in-Err-clause-step g c = λ taken world stands.
+pub returns-in_err-answer_one-clause-goes : goal.returns-in_err-answer_one-clause-goes
+returns-in_err-answer_one-clause-goes g c =
     let inv = c.loop-place.invariant in
-    let first = inv.reached taken world stands in
-    let within : c.loop-place.place < length c.args.sim.now.calls.items = omega (arith, c.loop-place-test.true, c.len-place-end.ensures) in
-    cut_later _ _ c.args.router.now c.args.sim.now.kernel.setup (firsts_of c.args.plan.now.deployment.now) c.args.plan.now.script c.args.sim.now.calls.items c.loop-place.place _ taken _ _ _ _ _ within inv.setup first
-    (rw (inv.router, c.as_slice.ensures.value, inv.calls) at (c.in-Err.ensures.step (taken ++ first.piece) first.world first.stands))
+    let how = c.in_err-answer_one.field-0.0 in
+    let one = c.in_err-answer_one.ensures.others in
+    let script = c.in_err-answer_one.ensures.script in
+    rw (exit_is how c.from_residual.result c.from_residual.ensures.1) (record {
+      fits = c.in_err-answer_one.ensures.fits;
+      seats = record {
+        setup = one.setup ∙ inv.setup;
+        number = one.seats ∙ inv.seats;
+        seated = one.manned.seated;
+        crew = crew_then (is_cut how) c.args.sim.now c.loop-place.sim c.answer_one.new.sim inv.crew one.crew;
+        calls = ap vec_capacity (one.calls ∙ inv.calls);
+        buffer = one.buffer ∙ inv.buffer;
+      };
+      script = record {
+        reads = script_then _ _ _ _ _ inv.script script.reads;
+        roads = script.roads ∙ inv.router;
+        unwritten = script.unwritten;
+        cause = script.cause;
+      };
+    })
 
 pub loop-place-preserved : goal.loop-place-preserved
 loop-place-preserved g c =
     let inv = c.loop-place.invariant in
-    let one = c.in-Ok-None.ensures.others in
+    let one = (c.in_ok-answer_one.ensures {u = tt}).others in
     let calls = c.args.sim.now.calls.items in
     let within : c.loop-place.place < length calls = omega (arith, c.loop-place-test.true, c.len-place-end.ensures) in
     let free = rw (c.as_slice.ensures.value, inv.calls) at one.free in
@@ -56,10 +77,10 @@ loop-place-preserved g c =
       reached = λ taken world stands.
           let first = inv.reached taken world stands in
           one_more_call _ _ c.args.router.now c.args.sim.now.kernel.setup (firsts_of c.args.plan.now.deployment.now) c.args.plan.now.script calls c.loop-place.place _ taken _ _ _ _ _ within inv.setup first
-          (rw (c.in-Ok-None.field-0-is, inv.router, c.as_slice.ensures.value, inv.calls) at (c.in-Ok-None.ensures.step (taken ++ first.piece) first.world first.stands));
-      fits = c.in-Ok-None.ensures.fits;
-      script = script_then _ _ _ _ _ inv.script c.in-Ok-None.ensures.script.reads;
-      router = c.in-Ok-None.ensures.script.roads ∙ inv.router;
+          (rw (inv.router, c.as_slice.ensures.value, inv.calls) at ((c.in_ok-answer_one.ensures {u = tt}).step (taken ++ first.piece) first.world first.stands));
+      fits = (c.in_ok-answer_one.ensures {u = tt}).fits;
+      script = script_then _ _ _ _ _ inv.script (c.in_ok-answer_one.ensures {u = tt}).script.reads;
+      router = (c.in_ok-answer_one.ensures {u = tt}).script.roads ∙ inv.router;
       setup = one.setup ∙ inv.setup;
       room = omega (arith, inv.room, one.room);
       calls = one.calls ∙ inv.calls;

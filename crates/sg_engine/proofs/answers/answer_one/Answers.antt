@@ -1,16 +1,17 @@
-use Rattle.std.proofs.Common.{◌≡◌, ◌-◌, ◌∙◌, ap, arith, cond, false, None, refl, sym, true}
+use Rattle.std.proofs.Common.{◌≡◌, ◌-◌, ◌∙◌, ap, arith, cond, false, None, Some, refl, sym, true}
 use Rattle.std.specs.Prelude.{◌&&◌, is_ok}
 use Rattle.sg_kernel_calls.specs.Calls.{answered}
 use Rattle.sg_kernel_calls.specs.World.{Core, state_of}
 use Rattle.sg_script.proofs.Chains.{reads_none}
 use Rattle.sg_actor_states.specs.Actors.{is_ended}
 use Rattle.sg_engine.specs.Roles.{firsts_of}
-use Rattle.sg_engine.specs.Run.{ask_step, at_world, created_by, in_world, is_ask, scene}
+use Rattle.sg_engine.specs.Run.{ask_step, at_world, created_by, in_world, is_ask, scene, ended_by}
 use Rattle.sg_engine.specs.kept.Moments.{ending}
 use Rattle.sg_engine.proofs.Calls.{broken_scripted, fits_scripted, not_unscripted, script_answers, scripted_fits, stepped}
 use Rattle.sg_engine.proofs.Creating.{as_answered, as_asked, as_created, as_killed, free_ended}
 use Rattle.sg_engine.proofs.Leaving.{answered_fits, answered_others}
 use Rattle.sg_engine.proofs.Reaching.{matched_as, reached_as, reached_none}
+use Rattle.sg_engine.proofs.Uncut.{exit_is, goes_so, stop_uncut, stops_so}
 use Rattle.sg_engine.proofs.answers.answer_one.Goals as goal
 
 pub returns-then-not-alive-clause-step : goal.returns-then-not-alive-clause-step
@@ -44,31 +45,41 @@ pub returns-in-Ask-clause-script : goal.returns-in-Ask-clause-script
 returns-in-Ask-clause-script g c = record {
   reads = record { others = c.answer_ask.ensures.script.others; unscripted = λ isnt. not_unscripted c.args.plan.now.script c.if-plan.true isnt };
   roads = refl;
-  uncut = c.answer_ask.ensures.script.uncut;
+  unwritten = c.answer_ask.ensures.script.unwritten;
   cause = λ is. broken_scripted c.args.plan.now.script _ c.if-plan.true (c.answer_ask.ensures.script.cause is);
 }
 
--- ---- the kernel answers
-pub returns-in_default-clause-step : goal.returns-in_default-clause-step
-returns-in_default-clause-step g c = λ taken world stands.
+-- ---- the kernel answers, or stops
+pub returns-in_err-answer-in_default-clause-step : goal.returns-in_err-answer-in_default-clause-step
+returns-in_err-answer-in_default-clause-step g c = λ taken world stands.
     let old = c.args.sim.now.kernel in
     let at = scene c.args.router.now old.setup (firsts_of c.args.plan.now.deployment.now) c.args.plan.now.script in
     let none : created_by c.args.made.call ≡ None = grind arith in
     let other : (c.args.plan.now.script && is_ask c.args.made.call) ≡ false = grind arith in
-    reached_as _ (λ answers. in_world world (answered c.args.router.now old.setup world.core c.args.made.actor.0 c.args.made.call)) _ (ending c.end_of.result) taken _ _ _
+    rw (exit_is (ended_by c.in_err-answer-in_default.field-0.0) c.from_residual.result c.from_residual.ensures.1, stop_uncut c.in_err-answer-in_default.field-0.0) (reached_as _ (λ answers. in_world world (answered c.args.router.now old.setup world.core c.args.made.actor.0 c.args.made.call)) _ (ending (Some (ended_by c.in_err-answer-in_default.field-0.0))) taken _ _ _
     (λ answers. as_answered at answers c.args.made.actor.0 c.args.made.call old.core world stands.core (sym c.alive.ensures ∙ c.if-not-alive.false) none other)
-    (stepped _ taken _ _ _ old c.answer.new.self (old.room - cond (is_ok c.answer.result) 1 0) world (λ core. answered c.args.router.now old.setup core c.args.made.actor.0 c.args.made.call) c.end_of.result c.requires.can.fits.begun stands c.answer.ensures.step (c.end_of.ensures.is (answered c.args.router.now old.setup old.core c.args.made.actor.0 c.args.made.call).stop c.answer.ensures.result))
+    (stepped _ taken _ _ _ old c.answer.new.self (old.room - cond (is_ok c.answer.result) 1 0) world (λ core. answered c.args.router.now old.setup core c.args.made.actor.0 c.args.made.call) (Some (ended_by c.in_err-answer-in_default.field-0.0)) c.requires.can.fits.begun stands c.answer.ensures.step
+    (stops_so c.in_err-answer-in_default.field-0.0 (answered c.args.router.now old.setup old.core c.args.made.actor.0 c.args.made.call).stop c.in_err-answer-in_default.ensures.result)))
 
-pub returns-in_default-clause-fits : goal.returns-in_default-clause-fits
-returns-in_default-clause-fits g c = answered_fits _ _ _ c.args.router.now c.args.sim.now.kernel c.answer.new.self c.args.made.actor.0 c.args.made.call _ c.requires.caller.is.from c.answer.ensures.step c.requires.can.fits
+pub returns-in_err-answer-in_default-clause-fits : goal.returns-in_err-answer-in_default-clause-fits
+returns-in_err-answer-in_default-clause-fits g c = answered_fits _ _ _ c.args.router.now c.args.sim.now.kernel c.answer.new.self c.args.made.actor.0 c.args.made.call _ c.requires.caller.is.from c.answer.ensures.step c.requires.can.fits
 
-pub returns-in_default-clause-script : goal.returns-in_default-clause-script
-returns-in_default-clause-script g c = record {
-  reads = record { others = λ q away. refl; unscripted = λ isnt. refl };
-  roads = c.answer.ensures.router;
-  uncut = c.end_of.ensures.uncut;
-  cause = λ is. absurd (c.end_of.ensures.no_fault (cc is));
-}
+pub returns-in_err-answer-in_default-clause-others : goal.returns-in_err-answer-in_default-clause-others
+returns-in_err-answer-in_default-clause-others g c = rw (exit_is (ended_by c.in_err-answer-in_default.field-0.0) c.from_residual.result c.from_residual.ensures.1, stop_uncut c.in_err-answer-in_default.field-0.0) (answered_others _ c.args.router.now c.args.sim.now c.answer.new.self c.args.made.actor.0 c.args.made.call _ c.requires.caller.is.from c.requires.can.manned c.answer.ensures.step)
 
-pub returns-in_default-clause-others : goal.returns-in_default-clause-others
-returns-in_default-clause-others g c = answered_others _ c.args.router.now c.args.sim.now c.answer.new.self c.args.made.actor.0 c.args.made.call _ c.requires.caller.is.from c.requires.can.manned c.answer.ensures.step
+pub returns-in_ok-answer-in_default-clause-step : goal.returns-in_ok-answer-in_default-clause-step
+returns-in_ok-answer-in_default-clause-step g c = λ taken world stands.
+    let old = c.args.sim.now.kernel in
+    let at = scene c.args.router.now old.setup (firsts_of c.args.plan.now.deployment.now) c.args.plan.now.script in
+    let none : created_by c.args.made.call ≡ None = grind arith in
+    let other : (c.args.plan.now.script && is_ask c.args.made.call) ≡ false = grind arith in
+    (reached_as _ (λ answers. in_world world (answered c.args.router.now old.setup world.core c.args.made.actor.0 c.args.made.call)) _ (ending (None)) taken _ _ _
+    (λ answers. as_answered at answers c.args.made.actor.0 c.args.made.call old.core world stands.core (sym c.alive.ensures ∙ c.if-not-alive.false) none other)
+    (stepped _ taken _ _ _ old c.answer.new.self (old.room - cond (is_ok c.answer.result) 1 0) world (λ core. answered c.args.router.now old.setup core c.args.made.actor.0 c.args.made.call) (None) c.requires.can.fits.begun stands c.answer.ensures.step
+    (goes_so c.in_ok-answer-in_default.field-0 (answered c.args.router.now old.setup old.core c.args.made.actor.0 c.args.made.call).stop (c.in_ok-answer-in_default.ensures {u = tt}).result)))
+
+pub returns-in_ok-answer-in_default-clause-fits : goal.returns-in_ok-answer-in_default-clause-fits
+returns-in_ok-answer-in_default-clause-fits g c = answered_fits _ _ _ c.args.router.now c.args.sim.now.kernel c.answer.new.self c.args.made.actor.0 c.args.made.call _ c.requires.caller.is.from c.answer.ensures.step c.requires.can.fits
+
+pub returns-in_ok-answer-in_default-clause-others : goal.returns-in_ok-answer-in_default-clause-others
+returns-in_ok-answer-in_default-clause-others g c = (answered_others _ c.args.router.now c.args.sim.now c.answer.new.self c.args.made.actor.0 c.args.made.call _ c.requires.caller.is.from c.requires.can.manned c.answer.ensures.step)

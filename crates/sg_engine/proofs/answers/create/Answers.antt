@@ -11,28 +11,31 @@ use Rattle.sg_engine.specs.kept.SeatRules.{IsSeated}
 use Rattle.sg_engine.proofs.Creating.{created_short, created_to, crew_given}
 use Rattle.sg_engine.proofs.Crews.{front_all, front_less}
 use Rattle.sg_engine.proofs.Leaving.{created_free, created_number}
+use Rattle.sg_engine.proofs.Uncut.{exit_is}
+use Rattle.sg_engine.specs.declared.ended.Ended.TheVariants as ended
 use Rattle.sg_engine.proofs.answers.create.Goals as goal
 
-pub returns-in-Ok-clause-step : goal.returns-in-Ok-clause-step
-returns-in-Ok-clause-step g c = λ part begun taken world stands.
+pub returns-clause-step : goal.returns-clause-step
+returns-clause-step g c = λ part begun taken world stands.
     let turned = with_items_is c.args.sim.now.seats c.seat_if.new.seats (c.seat_if.auto.seats ∙ c.as_mut_slice-seats.ensures.len) in
-    let minds = rw c.as_mut_slice-seats.ensures.value at c.in-Ok.ensures.minds in
+    let minds = rw c.as_mut_slice-seats.ensures.value at (c.in_ok-seat_if.ensures {u = tt}).minds in
     created_to _ taken _ _ part _ c.args.sim.now.kernel c.create.new.self _ world _ c.args.actor.0 c.args.target c.args.given begun stands c.requires.unused c.requires.given
-    (ap₂ (λ (m : List (Option Mind)) (n : ℕ). record { minds = m; contexts = n }) (rw turned minds) (front_less c.args.sim.now.crew.items c.seat_if.new.crew.items _ c.in-Ok.ensures.crew).1) c.create.ensures
+    (ap₂ (λ (m : List (Option Mind)) (n : ℕ). record { minds = m; contexts = n }) (rw turned minds) (front_less c.args.sim.now.crew.items c.seat_if.new.crew.items _ (c.in_ok-seat_if.ensures {u = tt}).crew).1) c.create.ensures
 
-pub returns-in-Err-clause-step : goal.returns-in-Err-clause-step
-returns-in-Err-clause-step g c = λ part begun taken world stands.
-    created_short _ taken _ _ part _ c.args.sim.now.kernel world _ c.args.actor.0 c.args.target c.args.given begun stands c.requires.unused c.requires.given (front_less c.args.sim.now.crew.items c.seat_if.new.crew.items _ c.in-Err.ensures.crew).1
+pub returns-in_err-seat_if-clause-step : goal.returns-in_err-seat_if-clause-step
+returns-in_err-seat_if-clause-step g c = λ part begun taken world stands.
+    rw (exit_is ended.Memory c.from_residual.result c.from_residual.ensures.1)
+    (created_short _ taken _ _ part _ c.args.sim.now.kernel world _ c.args.actor.0 c.args.target c.args.given begun stands c.requires.unused c.requires.given (front_less c.args.sim.now.crew.items c.seat_if.new.crew.items _ c.in_err-seat_if.ensures.crew).1)
 
-pub returns-in-Ok-clause-others : goal.returns-in-Ok-clause-others
-returns-in-Ok-clause-others g c =
+pub returns-clause-others : goal.returns-clause-others
+returns-clause-others g c =
     let can = c.requires.can in
     let old = c.args.sim.now.kernel in
     let new = c.create.new.self in
     let actor = c.args.actor.0 in
     let turned = with_items_is c.args.sim.now.seats c.seat_if.new.seats (c.seat_if.auto.seats ∙ c.as_mut_slice-seats.ensures.len) in
     let seats : length c.seat_if.new.seats ≡ length c.args.sim.now.seats.items = c.seat_if.auto.seats ∙ ap length c.as_mut_slice-seats.ensures.value in
-    let less = front_less c.args.sim.now.crew.items c.seat_if.new.crew.items _ c.in-Ok.ensures.crew in
+    let less = front_less c.args.sim.now.crew.items c.seat_if.new.crew.items _ (c.in_ok-seat_if.ensures {u = tt}).crew in
     let setup = ap (λ (k : Known). k.setup) c.create.ensures in
     let limits : extent new.setup ≡ extent_of c.args.plan.now.deployment.now = ap (λ (k : Known). extent k.setup) c.create.ensures ∙ can.limits in
     record {
@@ -42,7 +45,7 @@ returns-in-Ok-clause-others g c =
       seats = ap length turned ∙ seats;
       manned = record {
         number = ap length turned ∙ seats ∙ can.manned.number ∙ sym (created_number c.args.given old new actor c.args.target _ can.caller.from c.create.ensures);
-        seated = rw turned (subst (λ (e : Extent). All (IsSeated e) (seat_views (λ b. (goal.Actor-dyn g (b.vtable, b.value)).mind b.value) c.seat_if.new.seats)) (sym limits) c.in-Ok.ensures.seats.seated);
+        seated = rw turned (subst (λ (e : Extent). All (IsSeated e) (seat_views (λ b. (goal.Actor-dyn g (b.vtable, b.value)).mind b.value) c.seat_if.new.seats)) (sym limits) (c.in_ok-seat_if.ensures {u = tt}).seats.seated);
         blank = front_all (λ b. (goal.Actor-dyn g (b.vtable, b.value)).mind b.value ≡ None) _ _ less.0 can.manned.blank;
       };
       crew = record {

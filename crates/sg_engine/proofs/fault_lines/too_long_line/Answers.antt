@@ -18,6 +18,6 @@ returns c =
     let begun : c.push_str.new.self.bytes ≡ head = c.push_str.ensures.bytes ∙ ap (λ (l : List ℕ). l ++ head) c.new-line.ensures in
     let pair : c.push_pair.new.line.bytes ≡ head ++ (from ++ (sep ++ to)) =
     c.push_pair.ensures.bytes
-    ∙ ap (λ (l : List ℕ). l ++ (c.point_name.result.now ++ (sep ++ c.point_name-2.result.now))) begun
-    ∙ ap₂ (λ (a b : List ℕ). head ++ (a ++ (sep ++ b))) c.point_name.ensures.name c.point_name-2.ensures.name in
+    ∙ ap (λ (l : List ℕ). l ++ (c.point_name.result.text.now ++ (sep ++ c.point_name-2.result.text.now))) begun
+    ∙ ap₂ (λ (a b : List ℕ). head ++ (a ++ (sep ++ b))) c.point_name.ensures c.point_name-2.ensures in
     c.push_str-2.ensures.bytes ∙ ap (λ (l : List ℕ). l ++ tail) pair ∙ pair_then head from to sep tail
