@@ -7,7 +7,8 @@
 //! for the run, and on `anyhow` for errors.
 #![tactic(auto)]
 
-ghost use Rattle.std.specs.Prelude.{◌≡◌, ◌≢◌, ◌<◌, ◌≤◌, IfOk, IsTrue};
+ghost use Rattle.std.specs.Prelude.{◌≡◌, ◌≢◌, ◌≤◌, IfOk, IsTrue};
+ghost use Rattle.sg_base.specs.Ledgers.{IsBlankOf};
 ghost use Rattle.sg_edge.specs.declared.files.Stage.TheVariants.{Fresh};
 ghost use Rattle.sg_edge.specs.MemFiles.{mem_view};
 ghost use Rattle.sg_edge.specs.MemSinks.{mem_faults};
@@ -90,9 +91,7 @@ fn simulate<R: Threads + Sync, L: Ledger>(
     blank: Blank,
 ) -> Result<Ended>
     requires sound { mem_faults out.old ≡ 0 }
-    requires name { blank.name ≡ L.name }
-    requires parts { blank.parts ≡ L.parts }
-    requires some { 0 < blank.parts }
+    requires ledger { IsBlankOf L.name L.parts blank }
 {
     let mut files = script(alloc)?;
     let mut steps = Steps::<L>::new(blank);

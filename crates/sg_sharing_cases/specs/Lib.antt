@@ -1,4 +1,3 @@
 pub mod Ends
-pub mod Ledgers
 pub mod OneEach
 pub mod Pairs

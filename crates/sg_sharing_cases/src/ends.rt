@@ -2,14 +2,13 @@
 ghost use Rattle.std.specs.Prelude.{◌≡◌, ◌+◌, ◌<◌, ◌^◌, All, IfOk, OnOk, length};
 ghost use Rattle.sg_activity.specs.Hosts.{IsHost};
 ghost use Rattle.sg_sharing_cases.specs.Ends.{HasHosts, KeepsHosts};
-ghost use Rattle.sg_sharing_cases.specs.Ledgers.{IsBlankOf};
 
+use crate::counted::{self, Counted};
 use sg_activity::{Activities, HostCap};
 use sg_base::{Memory, PointId, Steps};
 use std::alloc::Global;
-use std::marker::Brand;
 use std::process::Abort;
-use std::sync::ledger::{Blank, Ledger};
+use std::sync::ledger::Ledger;
 use std::test::Fail;
 
 const MEGA: u64 = 1_000_000;
@@ -122,19 +121,24 @@ fn compute_long<L: Ledger>(
 }
 
 // The same on hosts of their own.
-fn ends_as_stated<L: Ledger>(rt: &impl Abort, alloc: Global, blank: Blank) -> Result<(), Memory>
-    requires { IsBlankOf L.name L.parts blank }
-{
-    let mut steps = Steps::<L>::new(blank);
-    let mut noted = Vec::new(alloc);
-    let hosts = hosts_of_speeds(alloc)?;
-    let mut doing = Activities::new(alloc, &hosts, &[])?;
-    compute_long(rt, &mut doing, &mut noted, &mut steps)
+struct Ends;
+
+impl Counted for Ends {
+    fn run<R: Abort, L: Ledger>(
+        &self,
+        rt: &R,
+        alloc: Global,
+        steps: &mut Steps<L>,
+    ) -> Result<(), Memory> {
+        let mut noted = Vec::new(alloc);
+        let hosts = hosts_of_speeds(alloc)?;
+        let mut doing = Activities::new(alloc, &hosts, &[])?;
+        compute_long(rt, &mut doing, &mut noted, steps)
+    }
 }
 
 // An implementation that visits all hosts, or copies all uses, at each end doesn't finish in time.
 #[test]
 fn touched_scale(rt: HostRuntime) -> Result<(), Fail> {
-    ends_as_stated::<Brand>(&rt, rt.alloc(), Blank::new(1))?;
-    Ok(())
+    counted::run(&Ends, &rt, rt.alloc())
 }

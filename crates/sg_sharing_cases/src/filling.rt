@@ -1,12 +1,10 @@
 //! Worked systems: what each flow gets.
-ghost use Rattle.sg_sharing_cases.specs.Ledgers.{IsBlankOf};
-
+use crate::counted::{self, Counted};
 use sg_base::{Memory, Steps};
 use sg_maxmin::System;
 use std::alloc::Global;
-use std::marker::Brand;
 use std::process::Abort;
-use std::sync::ledger::{Blank, Ledger};
+use std::sync::ledger::Ledger;
 use std::test::Fail;
 
 // Two links, a flow over each and one over both, and one that no link carries.
@@ -93,20 +91,25 @@ fn by_weight_and_bound<L: Ledger>(alloc: Global, steps: &mut Steps<L>) -> Result
 }
 
 // All of them, worked by hand.
-fn hold<L: Ledger>(rt: &impl Abort, alloc: Global, blank: Blank) -> Result<(), Memory>
-    requires { IsBlankOf L.name L.parts blank }
-{
-    let mut steps = Steps::<L>::new(blank);
-    assert_eq!(rt; over_two_links(alloc, &mut steps)?, [2, 2, 2, 7]);
-    assert_eq!(rt; as_flows_change(alloc, &mut steps)?, [8, 2, 8, 0, 7, 3]);
-    assert_eq!(rt; as_bounds_change(alloc, &mut steps)?, [8, 2, 8, 2, 5, 15]);
-    assert_eq!(rt; by_priority(alloc, &mut steps)?, [6, 3]);
-    assert_eq!(rt; by_weight_and_bound(alloc, &mut steps)?, [3, 2, 4]);
-    Ok(())
+struct Worked;
+
+impl Counted for Worked {
+    fn run<R: Abort, L: Ledger>(
+        &self,
+        rt: &R,
+        alloc: Global,
+        steps: &mut Steps<L>,
+    ) -> Result<(), Memory> {
+        assert_eq!(rt; over_two_links(alloc, steps)?, [2, 2, 2, 7]);
+        assert_eq!(rt; as_flows_change(alloc, steps)?, [8, 2, 8, 0, 7, 3]);
+        assert_eq!(rt; as_bounds_change(alloc, steps)?, [8, 2, 8, 2, 5, 15]);
+        assert_eq!(rt; by_priority(alloc, steps)?, [6, 3]);
+        assert_eq!(rt; by_weight_and_bound(alloc, steps)?, [3, 2, 4]);
+        Ok(())
+    }
 }
 
 #[test]
 fn worked_systems(rt: HostRuntime) -> Result<(), Fail> {
-    hold::<Brand>(&rt, rt.alloc(), Blank::new(1))?;
-    Ok(())
+    counted::run(&Worked, &rt, rt.alloc())
 }

@@ -1,15 +1,14 @@
 //! What a second execution on a host, and another speed of it, change among 100 hosts, and how many visits that takes.
 ghost use Rattle.std.specs.Prelude.{◌<◌, ◌≤◌, ◌+◌, OnOk};
-ghost use Rattle.sg_sharing_cases.specs.Ledgers.{IsBlankOf};
 ghost use Rattle.sg_sharing_cases.specs.OneEach.{HasOneAt, IsCalm, IsIdle, IsOneEach};
 
+use crate::counted::{self, Counted};
 use sg_base::{Memory, Steps};
 use sg_lazy::Lazy;
 use sg_maxmin::System;
 use std::alloc::Global;
-use std::marker::Brand;
 use std::process::Abort;
-use std::sync::ledger::{Blank, Ledger};
+use std::sync::ledger::Ledger;
 use std::test::Fail;
 
 const HOSTS: usize = 100;
@@ -67,23 +66,28 @@ fn changes_two<L: Ledger>(
 }
 
 // The same on each host, every time on a system of its own.
-fn changes_two_of_100<L: Ledger>(rt: &impl Abort, alloc: Global, blank: Blank) -> Result<(), Memory>
-    requires { IsBlankOf L.name L.parts blank }
-{
-    let mut steps = Steps::<L>::new(blank);
-    for host in 0..HOSTS {
-        let mut flows = Vec::new(alloc);
-        let system = System::new(alloc, &[10; HOSTS])?;
-        let mut lazy = Lazy::new(alloc, system)?;
-        changes_two(rt, &mut lazy, &mut flows, host, &mut steps)?;
+struct SecondExecution;
+
+impl Counted for SecondExecution {
+    fn run<R: Abort, L: Ledger>(
+        &self,
+        rt: &R,
+        alloc: Global,
+        steps: &mut Steps<L>,
+    ) -> Result<(), Memory> {
+        for host in 0..HOSTS {
+            let mut flows = Vec::new(alloc);
+            let system = System::new(alloc, &[10; HOSTS])?;
+            let mut lazy = Lazy::new(alloc, system)?;
+            changes_two(rt, &mut lazy, &mut flows, host, steps)?;
+        }
+        Ok(())
     }
-    Ok(())
 }
 
 #[test]
 fn second_execution_changes_two(rt: HostRuntime) -> Result<(), Fail> {
-    changes_two_of_100::<Brand>(&rt, rt.alloc(), Blank::new(1))?;
-    Ok(())
+    counted::run(&SecondExecution, &rt, rt.alloc())
 }
 
 // Changes the speed of a host, and updates the rates with no more visits than its one flow allows.
@@ -117,21 +121,26 @@ fn changes_one<L: Ledger>(
 }
 
 // The same on each host, every time on a system of its own.
-fn changes_one_of_100<L: Ledger>(rt: &impl Abort, alloc: Global, blank: Blank) -> Result<(), Memory>
-    requires { IsBlankOf L.name L.parts blank }
-{
-    let mut steps = Steps::<L>::new(blank);
-    for host in 0..HOSTS {
-        let mut flows = Vec::new(alloc);
-        let system = System::new(alloc, &[10; HOSTS])?;
-        let mut lazy = Lazy::new(alloc, system)?;
-        changes_one(rt, &mut lazy, &mut flows, host, &mut steps)?;
+struct AnotherSpeed;
+
+impl Counted for AnotherSpeed {
+    fn run<R: Abort, L: Ledger>(
+        &self,
+        rt: &R,
+        alloc: Global,
+        steps: &mut Steps<L>,
+    ) -> Result<(), Memory> {
+        for host in 0..HOSTS {
+            let mut flows = Vec::new(alloc);
+            let system = System::new(alloc, &[10; HOSTS])?;
+            let mut lazy = Lazy::new(alloc, system)?;
+            changes_one(rt, &mut lazy, &mut flows, host, steps)?;
+        }
+        Ok(())
     }
-    Ok(())
 }
 
 #[test]
 fn another_speed_changes_one(rt: HostRuntime) -> Result<(), Fail> {
-    changes_one_of_100::<Brand>(&rt, rt.alloc(), Blank::new(1))?;
-    Ok(())
+    counted::run(&AnotherSpeed, &rt, rt.alloc())
 }

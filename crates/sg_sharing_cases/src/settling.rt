@@ -4,16 +4,15 @@ ghost use Rattle.sg_maxmin.specs.Fill.{flow};
 ghost use Rattle.sg_maxmin.specs.Sharing.{IsFlow, flow_at};
 ghost use Rattle.sg_lazy.specs.Lazily.{IsFresh};
 ghost use Rattle.sg_lazy.specs.RunningFlow.{running_at};
-ghost use Rattle.sg_sharing_cases.specs.Ledgers.{IsBlankOf};
 ghost use Rattle.sg_sharing_cases.specs.Pairs.{ArePaired, CanChange, StayPaired, twin_of};
 
+use crate::counted::{self, Counted};
 use sg_base::{Marks, Memory, Steps};
 use sg_lazy::Lazy;
 use sg_maxmin::System;
 use std::alloc::Global;
-use std::marker::Brand;
 use std::process::Abort;
-use std::sync::ledger::{Blank, Ledger};
+use std::sync::ledger::Ledger;
 use std::test::Fail;
 
 const RESOURCES: usize = 6;
@@ -241,31 +240,35 @@ fn lazy_on(alloc: Global, capacities: &[u64]) -> Result<Lazy, Memory>
     Lazy::new(alloc, system)
 }
 
-// Compares the rates on these resources, with about half of so many flows running at once.
-fn agrees_with_the_whole<L: Ledger>(
-    rt: &impl Abort,
-    alloc: Global,
-    blank: Blank,
+// Rates compared on these resources, with about half of so many flows running at once.
+#[derive(Drop)]
+struct Rates {
     capacities: [u64; RESOURCES],
     flows: usize,
     changes: usize,
-) -> Result<(), Memory>
-    requires blank { IsBlankOf L.name L.parts blank }
-    requires flows { 0 < flows }
-{
-    let mut steps = Steps::<L>::new(blank);
-    let mut twins = Vec::new(alloc);
-    lengthen(&mut twins, flows)?;
-    let mut picked = Marks::new(alloc);
-    picked.reserve(RESOURCES)?;
-    let mut draw = Draw {
-        state: 1,
-        changes,
-        picked,
-    };
-    let mut whole = System::new(alloc, &capacities)?;
-    let mut lazy = lazy_on(alloc, &capacities)?;
-    settle_often(rt, &mut draw, &mut lazy, &mut whole, &mut twins, &mut steps)
+    ghost some: { 0 < flows },
+}
+
+impl Counted for Rates {
+    fn run<R: Abort, L: Ledger>(
+        &self,
+        rt: &R,
+        alloc: Global,
+        steps: &mut Steps<L>,
+    ) -> Result<(), Memory> {
+        let mut twins = Vec::new(alloc);
+        lengthen(&mut twins, self.flows)?;
+        let mut picked = Marks::new(alloc);
+        picked.reserve(RESOURCES)?;
+        let mut draw = Draw {
+            state: 1,
+            changes: self.changes,
+            picked,
+        };
+        let mut whole = System::new(alloc, &self.capacities)?;
+        let mut lazy = lazy_on(alloc, &self.capacities)?;
+        settle_often(rt, &mut draw, &mut lazy, &mut whole, &mut twins, steps)
+    }
 }
 
 #[test]
@@ -281,14 +284,12 @@ fn rates_are_those_of_the_whole(rt: HostRuntime) -> Result<(), Fail> {
         (uneven, 60, 5),
     ];
     for (capacities, flows, changes) in table {
-        agrees_with_the_whole::<Brand>(
-            &rt,
-            rt.alloc(),
-            Blank::new(1),
+        let rates = Rates {
             capacities,
-            flows.max(1),
+            flows: flows.max(1),
             changes,
-        )?;
+        };
+        counted::run(&rates, &rt, rt.alloc())?;
     }
     Ok(())
 }

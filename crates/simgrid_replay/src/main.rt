@@ -24,9 +24,10 @@ mod tests;
 mod unscripted;
 mod whole_call;
 
-ghost use Rattle.std.specs.Prelude.{◌≡◌, ◌<◌, length, map, All, None, IfOk, IfErr, string_bytes};
+ghost use Rattle.std.specs.Prelude.{◌≡◌, length, map, All, None, IfOk, IfErr, string_bytes};
 ghost use Rattle.std.specs.Process.{exit_status};
 ghost use Rattle.std.specs.Vec.Iter.{into_iter_items};
+ghost use Rattle.sg_base.specs.Ledgers.{IsBlankOf};
 ghost use Rattle.sg_base.specs.Status.{status_code};
 ghost use Rattle.sg_edge.specs.Sinks.{one_if};
 ghost use Rattle.simgrid_replay.specs.Exit.{Exits, FitsWords, words_in};
@@ -91,9 +92,7 @@ fn start<R: Threads + Sync, L: Ledger>(
     requires sound { one_if out.broken ≡ 0 }
     requires contexts { length crew.old.items ≡ 4096 }
     requires blank { All (λ b. mind b ≡ None) crew.old.items }
-    requires name { blank.name ≡ L.name }
-    requires parts { blank.parts ≡ L.parts }
-    requires some { 0 < blank.parts }
+    requires ledger { IsBlankOf L.name L.parts blank }
     ensures { Exits (exit_status result) (FitsWords (map string_bytes words.now) 4096) }
 {
     let mut files = RealFiles::new(host);

@@ -1,5 +1,6 @@
 //! Jobs over parts and streams in memory: the tables of `sg_job_cases`.
-ghost use Rattle.std.specs.Prelude.{◌≡◌, ◌<◌, All, None, IfOk};
+ghost use Rattle.std.specs.Prelude.{◌≡◌, All, None, IfOk};
+ghost use Rattle.sg_base.specs.Ledgers.{IsBlankOf};
 ghost use Rattle.sg_edge.specs.declared.files.Part.{Part};
 ghost use Rattle.sg_edge.specs.declared.files.Stage.TheVariants.{Fresh};
 
@@ -64,9 +65,7 @@ fn code_of<R: Threads + Sync, F: Files, O: Sinks, L: Ledger>(
     requires fresh { (part : Part) → (F.shows files.old part).stage ≡ Fresh }
     requires blank { All (λ b. mind b ≡ None) crew.old.items }
     requires sound { O.faults out.old ≡ 0 }
-    requires name { blank.name ≡ L.name }
-    requires parts { blank.parts ≡ L.parts }
-    requires some { 0 < blank.parts }
+    requires ledger { IsBlankOf L.name L.parts blank }
 {
     let mut steps = Steps::<L>::new(blank);
     simgrid(host.rt, host.alloc, words, files, out, crew, &mut steps).code()

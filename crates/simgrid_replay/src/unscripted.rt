@@ -1,5 +1,6 @@
 //! A run of the engine without a script over an actor that replays: the program refuses one, and no job leads to it.
-ghost use Rattle.std.specs.Prelude.{◌≡◌, ◌≢◌, ◌<◌, ◌≤◌, IfOk, IsTrue};
+ghost use Rattle.std.specs.Prelude.{◌≡◌, ◌≢◌, ◌≤◌, IfOk, IsTrue};
+ghost use Rattle.sg_base.specs.Ledgers.{IsBlankOf};
 ghost use Rattle.sg_edge.specs.declared.files.Stage.TheVariants.{Fresh};
 ghost use Rattle.sg_route.specs.Roads.{roads_of};
 ghost use Rattle.sg_platform_rows.specs.Deployment.{started_number};
@@ -70,9 +71,7 @@ fn run_counted<R: Threads + Sync + Abort, F: Files, O: Sinks, L: Ledger>(
 ) -> Ended
     requires begun { IsTrue setup.old.script → (F.shows files.old Part.Script).stage ≢ Fresh }
     requires sound { O.faults out.old ≡ 0 }
-    requires name { blank.name ≡ L.name }
-    requires parts { blank.parts ≡ L.parts }
-    requires some { 0 < blank.parts }
+    requires ledger { IsBlankOf L.name L.parts blank }
 {
     let mut steps = Steps::<L>::new(blank);
     assert!(rt; are_enough(&setup.deployment, crew.len()));
