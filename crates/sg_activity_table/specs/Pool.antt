@@ -29,6 +29,10 @@ SameSlots old new = (key : ℕ) → slot_at new key ≡ slot_at old key
 abbrev pub goes_on : Live → Bool
 goes_on live = not (is_held live.kind)
 
+-- the activity with what is left of it at another stamp, and its rate since
+abbrev pub with_stamp : ℕ → ℕ → ℕ → Live → Live
+with_stamp kept stamp rate live = record live { kept = kept; stamp = stamp; rate = rate }
+
 -- how many links the route of a communication has
 abbrev pub links_of : Place → ℕ
 links_of (place.Over sender receiver links) = links

@@ -8,16 +8,16 @@ use crate::lives::Live;
 /// An activity as it is kept.
 #[derive(Clone, Copy)]
 pub(crate) struct Cell {
-    kept: u128,
-    stamp: u128,
-    serial: u64,
-    rate: u64,
+    pub(crate) kept: u128,
+    pub(crate) stamp: u128,
+    pub(crate) serial: u64,
+    pub(crate) rate: u64,
     bound: u64,
     bytes: u64,
     flow: usize,
     place: Place,
     weight: u32,
-    kind: PhaseKind,
+    pub(crate) kind: PhaseKind,
     has_bound: bool,
 }
 

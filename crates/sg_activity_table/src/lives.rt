@@ -1,10 +1,10 @@
 //! The running activities, by key.
 
-ghost use Rattle.std.specs.Prelude.{◌≡◌, ◌<◌, ◌+◌, ◌-◌, ◌==◌, None, Some, IfSome, IsSome, MatchOption, [], if◌then◌else◌, not, count_by, length, slice_set};
+ghost use Rattle.std.specs.Prelude.{◌≡◌, ◌<◌, ◌+◌, ◌-◌, ◌==◌, None, Some, IfSome, IsSome, MatchOption, [], if◌then◌else◌, not, count_by, length, option_map, slice_set};
 ghost use Rattle.slab.specs.Slab.{get, slab_len, Updates};
 ghost use Rattle.sg_activity_table.specs.Slots.{passes};
 ghost use Rattle.sg_activity_table.specs.Kinds.{is_exec as is_exec_spec, is_held as is_held_spec, takes_share as takes_share_spec};
-ghost use Rattle.sg_activity_table.specs.Pool.{CanPut, HasFree, IsFound, IsMissing, IsSet, MakesRoom, goes_on, slot_at, uses_ahead as uses_ahead_spec};
+ghost use Rattle.sg_activity_table.specs.Pool.{CanPut, HasFree, IsFound, IsMissing, IsSet, MakesRoom, goes_on, slot_at, uses_ahead as uses_ahead_spec, with_stamp};
 ghost use Rattle.sg_activity_table.specs.Kinds.{flows_ahead as flows_ahead_spec};
 
 use crate::cells::{Cell, cell_of, live_of};
@@ -238,9 +238,23 @@ impl Lives {
         let Some(cell) = self.slab.get_mut(key) else {
             unreachable!()
         };
-        let old = live_of(cell);
+        let kind = cell.kind;
         *cell = cell_of(live);
-        self.going = self.going - going_by(old.kind) + going_by(live.kind);
+        self.going = self.going - going_by(kind) + going_by(live.kind);
+    }
+
+    /// Notes what is left of the activity under a key at another stamp, and its rate since. Nothing else is written.
+    pub fn restamp(&mut self, key: usize, kept: u128, stamp: u128, rate: u64)
+        requires { IsSome (slot_at self.old.slots key) }
+        ensures { IsSet self.old self.new key
+            (option_map (with_stamp kept stamp rate) (slot_at self.old.slots key)) }
+    {
+        let Some(cell) = self.slab.get_mut(key) else {
+            unreachable!()
+        };
+        cell.kept = kept;
+        cell.stamp = stamp;
+        cell.rate = rate;
     }
 
     /// Takes away the activity under a key, which is then free.
@@ -248,9 +262,9 @@ impl Lives {
         requires { IsSome (slot_at self.old.slots key) }
         ensures { IsSet self.old self.new key None }
     {
-        let old = live_of(&self.slab.remove(key));
-        self.by_serial.remove(old.serial);
-        self.going -= going_by(old.kind);
+        let cell = self.slab.remove(key);
+        self.by_serial.remove(cell.serial);
+        self.going -= going_by(cell.kind);
     }
 
     /// Makes room for so many more.

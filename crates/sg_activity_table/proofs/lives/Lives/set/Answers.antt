@@ -26,10 +26,10 @@ overflow_sub-self c =
     let s = c.self.inside in
     let slots = lives_in s.keys s.slab in
     let key = c.args.key in
-    let old = c.live_of-old.result in
+    let old = live_of c.in-Some.cell.now in
     let low : key < s.keys = (there_in s.keys key s.slab (subst (λ (p : Pool). IsSome (slot_at p.slots key)) (sym c.self.view_is) c.requires.there)).0 in
     let within : key < length slots = omega (arith, low, length-listed s.keys (live_at s.slab)) in
-    let at : slot_at slots key ≡ Some old = live_read s.keys key s.slab low ∙ ap (option_map live_of) (sym c.get_mut.ensures.value ∙ ap option_copied_mut c.in-Some.is) ∙ ap Some (sym c.live_of-old.ensures) in
+    let at : slot_at slots key ≡ Some old = live_read s.keys key s.slab low ∙ ap (option_map live_of) (sym c.get_mut.ensures.value ∙ ap option_copied_mut c.in-Some.is) in
     omega (arith, c.self.invariant.goes, c.going_by.ensures, counts_set slots key None within, ap {B = ℕ} (λ o. cond (passes goes_on o) 1 0) at)
 
 pub overflow_add-self : goal.overflow_add-self
@@ -38,10 +38,10 @@ overflow_add-self c =
     let slots = lives_in s.keys s.slab in
     let key = c.args.key in
     let live = c.args.live in
-    let old = c.live_of-old.result in
+    let old = live_of c.in-Some.cell.now in
     let low : key < s.keys = (there_in s.keys key s.slab (subst (λ (p : Pool). IsSome (slot_at p.slots key)) (sym c.self.view_is) c.requires.there)).0 in
     let within : key < length slots = omega (arith, low, length-listed s.keys (live_at s.slab)) in
-    let at : slot_at slots key ≡ Some old = live_read s.keys key s.slab low ∙ ap (option_map live_of) (sym c.get_mut.ensures.value ∙ ap option_copied_mut c.in-Some.is) ∙ ap Some (sym c.live_of-old.ensures) in
+    let at : slot_at slots key ≡ Some old = live_read s.keys key s.slab low ∙ ap (option_map live_of) (sym c.get_mut.ensures.value ∙ ap option_copied_mut c.in-Some.is) in
     omega (arith, c.self.invariant.goes, c.going_by.ensures, c.going_by-2.ensures, counts_set slots key (Some live) within, ap {B = ℕ} (λ o. cond (passes goes_on o) 1 0) at, count_by-le-length (passes goes_on) (set slots key (Some live)), length-set slots key (Some live), length-listed s.keys (live_at s.slab))
 
 pub invariant_of-self : goal.invariant_of-self
@@ -50,11 +50,11 @@ invariant_of-self c =
     let slots = lives_in s.keys s.slab in
     let key = c.args.key in
     let live = c.args.live in
-    let old = c.live_of-old.result in
+    let old = live_of c.in-Some.cell.now in
     let there = there_in s.keys key s.slab (subst (λ (p : Pool). IsSome (slot_at p.slots key)) (sym c.self.view_is) c.requires.there) in
     let low : key < s.keys = there.0 in
     let within : key < length slots = omega (arith, low, length-listed s.keys (live_at s.slab)) in
-    let at : slot_at slots key ≡ Some old = live_read s.keys key s.slab low ∙ ap (option_map live_of) (sym c.get_mut.ensures.value ∙ ap option_copied_mut c.in-Some.is) ∙ ap Some (sym c.live_of-old.ensures) in
+    let at : slot_at slots key ≡ Some old = live_read s.keys key s.slab low ∙ ap (option_map live_of) (sym c.get_mut.ensures.value ∙ ap option_copied_mut c.in-Some.is) in
     let at_pool : slot_at c.args.self.now.slots key ≡ Some old = ap (λ (p : Pool). slot_at p.slots key) (sym c.self.view_is) ∙ at in
     let same : old.serial ≡ live.serial = subst (λ o. IfSome o (λ (l : Live). l.serial ≡ live.serial)) at_pool c.requires.same in
     let next : Slab Cell = with_value s.slab key c.cell_of.result in
