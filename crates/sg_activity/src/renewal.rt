@@ -68,20 +68,6 @@ pub(crate) fn left_at(live: &Live, date: u128) -> u128
         .saturating_sub(u128::from(live.rate).saturating_mul(date - live.stamp))
 }
 
-// Returns the activity with its remaining work at a date, from which on it has this rate.
-fn at_rate(live: &Live, rate: u64, date: u128) -> Live
-    requires { live.now.stamp ≤ date }
-    ensures { let left = left_at_spec live.now.kept live.now.rate live.now.stamp date in
-        result ≡ record live.now { kept = left; stamp = date; rate = rate } }
-{
-    Live {
-        kept: left_at(live, date),
-        stamp: date,
-        rate,
-        ..*live
-    }
-}
-
 // Returns the key of the activity of a flow.
 fn key_of(by_flow: &[usize], id: usize) -> usize
     requires { id < length by_flow.now }
@@ -106,10 +92,11 @@ pub(crate) fn restamp(
     let changed = lazy.changed();
     for id in changed {
         let key = key_of(by_flow, *id);
-        if let Some(live) = lives.get(key) {
-            lives.set(key, at_rate(&live, lazy.rate(*id), date));
-            fresh.insert(key);
-        }
+        let Some(live) = lives.get(key) else {
+            unreachable!()
+        };
+        lives.restamp(key, left_at(&live, date), date, lazy.rate(*id));
+        fresh.insert(key);
     }
 }
 

@@ -5,14 +5,13 @@ use Rattle.sg_base.specs.MarkSet.{MarkSet, is_in, with_mark}
 use Rattle.sg_lazy.specs.Lazily.{Lazily}
 use Rattle.sg_lazy.specs.RunningFlow.{RunningFlow, running_at}
 use Rattle.sg_activity_table.specs.declared.lives.Live.{Live}
-use Rattle.sg_activity_table.specs.Pool.{Pool, slot_at}
+use Rattle.sg_activity_table.specs.Pool.{slot_at, with_stamp}
 use Rattle.sg_activity.specs.kept.Renewal.{IsKeyed, HaveKeys, restamped, is_renewed, rate_in}
 use Rattle.sg_activity.proofs.Listing.{some_same}
 use Rattle.sg_activity.proofs.Pairing.{there_within}
 use Rattle.sg_activity.proofs.Told.{member_at}
 use Rattle.sg_activity.proofs.Renewed.{there_before, stamp_before, restamped_next, renewed_next}
 use Rattle.sg_activity.proofs.renewal.restamp.Goals as goal
-use Rattle.sg_activity.proofs.renewal.restamp.Goals.{in-Some, in_default}
 
 -- the rate that the flow was given
 rate_is : (o : Option RunningFlow) (rate : ℕ) → IsSome o → IfSome o (λ running. rate ≡ running.rate) → rate ≡ rate_in o
@@ -37,8 +36,19 @@ get-requires c =
 pub rate-requires : goal.rate-requires
 rate-requires c = (keyed_at c.args.lives.now.slots c.args.by_flow.now c.args.lazy.now c.args.date c.changed-changed.result.now c.loop-id.id-index c.requires.keys c.changed-changed.ensures c.loop-id-test.true).runs
 
-pub at_rate-requires : goal.at_rate-requires
-at_rate-requires c =
+pub unreachable-requires : goal.unreachable-requires
+unreachable-requires c =
+    let changed = c.changed-changed.result.now in
+    let i = c.loop-id.id-index in
+    let keyed = keyed_at c.args.lives.now.slots c.args.by_flow.now c.args.lazy.now c.args.date changed i c.requires.keys c.changed-changed.ensures c.loop-id-test.true in
+    let at = there_before changed c.args.by_flow.now c.args.lazy.now c.args.date c.args.lives.now.slots c.loop-id.lives.slots i c.loop-id-test.true keyed c.loop-id.invariant.slots in
+    none_some (sym c.in_default.is ∙ c.get.ensures ∙ ap (slot_at c.loop-id.lives.slots) c.key_of-key.ensures ∙ at)
+  where
+    none_some : {live : Live} → None ≡ Some live → ⊥
+    none_some e = cc e
+
+pub left_at-requires : goal.left_at-requires
+left_at-requires c =
     let changed = c.changed-changed.result.now in
     let i = c.loop-id.id-index in
     let keyed = keyed_at c.args.lives.now.slots c.args.by_flow.now c.args.lazy.now c.args.date changed i c.requires.keys c.changed-changed.ensures c.loop-id-test.true in
@@ -46,11 +56,8 @@ at_rate-requires c =
     let same = some_same (sym at ∙ ap (slot_at c.loop-id.lives.slots) (sym c.key_of-key.ensures) ∙ sym c.get.ensures ∙ c.in-Some.is) in
     subst (λ (l : Live). l.stamp ≤ c.args.date) same (stamp_before changed c.args.by_flow.now c.args.lazy.now c.args.date c.args.lives.now.slots c.loop-id.lives.slots i c.loop-id-test.true keyed c.loop-id.invariant.slots)
 
-pub set-requires-clause-there : goal.set-requires-clause-there
-set-requires-clause-there c = ap is_some (sym c.get.ensures ∙ c.in-Some.is)
-
-pub set-requires-clause-same : goal.set-requires-clause-same
-set-requires-clause-same c = subst (λ o. IfSome o (λ (l : Live). l.serial ≡ c.at_rate.result.serial)) (sym (sym c.get.ensures ∙ c.in-Some.is)) (sym (ap (λ (l : Live). l.serial) c.at_rate.ensures))
+pub restamp-requires : goal.restamp-requires
+restamp-requires c = ap is_some (sym c.get.ensures ∙ c.in-Some.is)
 
 pub loop-id-preserved : goal.loop-id-preserved
 loop-id-preserved c =
@@ -62,29 +69,23 @@ loop-id-preserved c =
     let lazy = c.args.lazy.now in
     let date = c.args.date in
     let slots = c.args.lives.now.slots in
+    let now = c.loop-id.lives.slots in
     let key = get_or by_flow id 0 in
     let keyed = keyed_at slots by_flow lazy date changed i c.requires.keys c.changed-changed.ensures c.loop-id-test.true in
     let is_key = c.key_of-key.ensures in
-    elim c.match-get.branch [
-      | in-Some w ↦
-          let at : slot_at c.loop-id.lives.slots key ≡ Some w.in-Some.live = ap (slot_at c.loop-id.lives.slots) (sym is_key) ∙ sym c.get.ensures ∙ w.in-Some.is in
-          let rate = rate_is (running_at lazy.slots id) w.rate.result keyed.runs w.rate.ensures in
-          let live : Live = w.at_rate.result in
-          let new = ap (λ (p : Pool). p.slots) w.lives-is ∙ w.set.ensures.slots ∙ ap₂ (λ n l. set c.loop-id.lives.slots n (Some l)) is_key w.at_rate.ensures in
-          let within = there_within c.loop-id.lives.slots key w.in-Some.live at in
-          let marks = ap (λ (m : MarkSet). m.members) (w.fresh-is ∙ w.insert.ensures) ∙ ap (λ n. with_mark n c.loop-id.fresh.members) is_key in
-          record {
-            slots = subst (λ l. (k : ℕ) → slot_at l k ≡ option_map (restamped (take (i + 1) changed) lazy.slots date) (slot_at slots k)) (sym new) (restamped_next changed by_flow lazy date slots c.loop-id.lives.slots i c.loop-id-test.true keyed inv.slots w.in-Some.live w.rate.result at rate);
-            long = ap length new ∙ length-set c.loop-id.lives.slots key _ ∙ inv.long;
-            room = ap (λ (p : Pool). p.room) w.lives-is ∙ w.set.ensures.room ∙ inv.room;
-            fresh = subst (λ l. (k : ℕ) → is_in k l ≡ (is_in k c.args.fresh.now.members || is_renewed (take (i + 1) changed) (slot_at slots k))) (sym marks) (renewed_next changed by_flow lazy date slots c.loop-id.lives.slots i c.loop-id-test.true keyed inv.slots c.loop-id.fresh.members c.args.fresh.now.members inv.fresh);
-            fresh_room = ap (λ (m : MarkSet). m.room) (w.fresh-is ∙ w.insert.ensures) ∙ inv.fresh_room;
-          }
-      | in_default w ↦ absurd (none_some (sym w.in_default.is ∙ c.get.ensures ∙ ap (slot_at c.loop-id.lives.slots) is_key ∙ there_before changed by_flow lazy date slots c.loop-id.lives.slots i c.loop-id-test.true keyed inv.slots))
-    ]
-  where
-    none_some : {live : Live} → None ≡ Some live → ⊥
-    none_some e = cc e
+    let live : Live = c.in-Some.live in
+    let at : slot_at now key ≡ Some live = ap (slot_at now) (sym is_key) ∙ sym c.get.ensures ∙ c.in-Some.is in
+    let rate = rate_is (running_at lazy.slots id) c.rate.result keyed.runs c.rate.ensures in
+    let slot = ap₂ (λ n o. option_map (with_stamp n date c.rate.result) o) c.left_at.ensures (ap (slot_at now) is_key ∙ at) in
+    let new = c.restamp.ensures.slots ∙ ap₂ (λ n o. set now n o) is_key slot in
+    let marks = ap (λ (m : MarkSet). m.members) c.insert.ensures ∙ ap (λ n. with_mark n c.loop-id.fresh.members) is_key in
+    record {
+      slots = subst (λ l. (k : ℕ) → slot_at l k ≡ option_map (restamped (take (i + 1) changed) lazy.slots date) (slot_at slots k)) (sym new) (restamped_next changed by_flow lazy date slots now i c.loop-id-test.true keyed inv.slots live c.rate.result at rate);
+      long = ap length new ∙ length-set now key _ ∙ inv.long;
+      room = c.restamp.ensures.room ∙ inv.room;
+      fresh = subst (λ l. (k : ℕ) → is_in k l ≡ (is_in k c.args.fresh.now.members || is_renewed (take (i + 1) changed) (slot_at slots k))) (sym marks) (renewed_next changed by_flow lazy date slots now i c.loop-id-test.true keyed inv.slots c.loop-id.fresh.members c.args.fresh.now.members inv.fresh);
+      fresh_room = ap (λ (m : MarkSet). m.room) c.insert.ensures ∙ inv.fresh_room;
+    }
 
 pub returns : goal.returns
 returns c =
