@@ -71,7 +71,7 @@ pub data Report : Type 0 where
   fault : List ℕ → Report
   nothing : Report
 
--- of one that ended so
+-- what is reported of a run of so many actors that ended so, by its state then
 abbrev pub report_of : Show → Platform → ℕ → ℕ → Core → Ended → Report
 report_of show platform actors budget core ended.Completed = lasts (summary show actors core.events ++ last.Time core.under.date ∷ [])
 report_of show platform actors budget core ended.Deadlock = lasts (last.Deadlock core.under.date ∷ stuck core.actors)
@@ -104,11 +104,11 @@ pub record Output : Type 0 where
   pub work : ℕ
   pub need : ℕ
 
--- the run ended so (each run has an end)
+-- how a run ended (each run has an end)
 abbrev pub end_of : Progress → Ended
 end_of progress = unwrap_or progress.ended ended.Budget
 
--- so it is reported
+-- what is reported of the end of a run
 abbrev pub report_at : Show → Platform → Deployed → ℕ → Progress → Report
 report_at show platform deployed budget progress = report_of show platform (length deployed.actors) budget progress.world.core (end_of progress)
 

@@ -48,7 +48,8 @@ tells_bytes (call.Send mailbox bytes message rate) = true
 tells_bytes (call.Recv mailbox) = true
 tells_bytes other = false
 
--- the answer to a call, by how its activity ended: a receive gets the message, and any other call is done
+-- the answer to a call, by how its activity ended: if it is done, a receive gets the message and any other call is done;
+-- if it failed, the call failed
 abbrev pub answer_to : How → Call → Msg → Answer
 answer_to how.Done (call.Recv mailbox) message = answer.Got message
 answer_to how.Done other message = answer.Done
