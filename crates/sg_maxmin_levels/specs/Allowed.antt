@@ -1,5 +1,5 @@
 -- What a rate update knows and spends.
-use Rattle.std.specs.Prelude.{◌≡◌, ℕ, ◌+◌, ◌≤◌, Bool, true, IsSome, max}
+use Rattle.std.specs.Prelude.{◌≡◌, ℕ, ◌+◌, ◌<◌, ◌≤◌, ◌^◌, Bool, true, IsSome, max, slice_index}
 use Rattle.sg_base.specs.MarkSet.{is_in}
 use Rattle.sg_maxmin.specs.Sharing.{Sharing, flow_at}
 use Rattle.sg_maxmin_levels.specs.declared.allowance.Allowance.{Allowance}
@@ -13,6 +13,12 @@ pub record AreNew (s : Sharing) (all : Levels) : Type 0 where
   pub held : (id : ℕ) → is_in id all.stale.members ≡ true → IsSome (flow_at s.slots id)
   pub noted : (id : ℕ) → is_in id all.stale.members ≡ true → is_in id all.moved.members ≡ true
 
+-- so many visits remain, and they suffice for as many users as flows are known
+pub record IsLeft (given : Allowance) (left : ℕ) : Type 0 where
+  pub pass : given.known ≤ left
+  pub fits : given.spent + left < 2 ^ 64
+  pub few : given.spent + left ≤ spare_looks given.known given.row given.ended
+
 -- as many more visits are counted as were made, and they are allowed
 pub record IsSpent (given : Allowance) (before now : ℕ) (next : Allowance) : Type 0 where
   pub told : now + given.spent ≤ before + next.spent
@@ -23,6 +29,10 @@ pub record KnowsUsers (given : Allowance) (users : ℕ) (next : Allowance) : Typ
   pub flows : next.known ≤ max given.known users
   pub row : next.row ≤ max given.row users
   pub ended : next.ended ≡ given.ended
+
+-- an active resource has at least so many users: no more than are counted of one
+abbrev pub HaveUsers : Levels → ℕ → Type 0
+HaveUsers all most = (n : ℕ) → ((r : ℕ) → is_in r all.active.members ≡ true → slice_index all.counts.items r ≤ n) → most ≤ n
 
 -- what is known of the flows and uses is so of the whole component
 abbrev pub IsJoined : Sharing → Levels → Allowance → Type 0

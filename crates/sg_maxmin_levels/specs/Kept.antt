@@ -10,7 +10,7 @@ use Rattle.sg_maxmin_levels.specs.declared.levels.Levels.{Levels}
 use Rattle.sg_maxmin.specs.Numbered.{below_at, flow_in, level_at, row_level, row_taken, row_waiting, weight_at}
 use Rattle.sg_maxmin_levels.specs.Demand.{demand_of}
 use Rattle.sg_maxmin.specs.Found.{PassAlong}
-use Rattle.sg_maxmin.specs.Held.{AreFilled, AreHeld, IsHold}
+use Rattle.sg_maxmin.specs.Held.{AreFilled, AreHeld, IsAtMost, IsHold}
 use Rattle.sg_maxmin_levels.specs.Settling.{AreNoted, AreSettling, AreSettlingBut, AreSettlingOn, is_active}
 
 -- there is a place for each flow and each resource of a system
@@ -289,6 +289,10 @@ pub record IsLevelAbove (s : Sharing) (resource : ℕ) (levels : List (Option �
   pub none : level ≡ None → row_waiting s.slots (below_at levels low) (users_on s.users resource) ≡ 0
   pub some : IfSome level (λ x. (0 < row_waiting s.slots (below_at levels low) (users_on s.users resource)) × (x ≡ row_level (slice_index s.capacities resource) s.slots (below_at levels low) (users_on s.users resource)))
 
+-- no flow of a row that waits there has a level below this one
+abbrev pub WaitFrom : List (Option ℕ) → ℕ → List ℕ → ℕ → Type 0
+WaitFrom levels low row least = (id : ℕ) → is_in id row ≡ true → below_at levels low id ≡ None → IsAtMost (Some least) (level_at levels id)
+
 -- a pass over the users of a resource visits each once, and so many visits suffice
 pub record IsPass (s : Sharing) (resource looks users : ℕ) : Type 0 where
   pub all : users ≡ length (users_on s.users resource)
@@ -310,6 +314,7 @@ pub record CanCount (s : Sharing) (id : ℕ) (rest : Rest) : Type 0 where
 -- what a first pass over the users of a resource found, with none of them fixed
 pub record IsFirstPass (s : Sharing) (resource : ℕ) (levels : List (Option ℕ)) (looks : ℕ) (first : Above) : Type 0 where
   pub level_is : IsLevelAbove s resource levels 0 first.level
+  pub least_is : WaitFrom levels 0 (users_on s.users resource) first.least
   pub pass : IsPass s resource looks first.users
 
 -- the visits that suffice for the hold of a resource with so many users

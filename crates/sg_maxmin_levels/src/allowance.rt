@@ -1,5 +1,6 @@
 //! The number of visits allowed in a rate update, by the size of the connected component as far as it is known.
-ghost use Rattle.std.specs.Prelude.{◌≡◌, ◌≤◌, ◌<◌, ◌+◌, ◌-◌, ◌*◌, ◌^◌, ℕ, IsTrue, None, IfSome, max};
+ghost use Rattle.std.specs.Prelude.{◌≡◌, ◌≤◌, ◌<◌, ◌+◌, ◌-◌, ◌*◌, ◌^◌, ℕ, None, IfSome, max};
+ghost use Rattle.sg_maxmin_levels.specs.Allowed.{IsLeft};
 ghost use Rattle.sg_maxmin_levels.specs.Joined.{spare_looks};
 
 /// What is known of the flows in the component, and the visits so far.
@@ -44,23 +45,28 @@ impl Allowance {
         }
     }
 
-    // Returns whether a pass over the users of any resource may be taken: if these are more than all that are known,
-    // they allow it themselves.
-    pub(crate) fn is_enough(self) -> bool
+    // Returns how many visits remain; None if a pass over the users of a resource might take more. If these are more than
+    // all that are known, they allow it themselves.
+    pub(crate) fn left(self) -> Option<u64>
         requires { self.spent ≤ spare_looks self.known self.row self.ended }
-        ensures { IsTrue result
-            → self.spent + self.known ≤ spare_looks self.known self.row self.ended }
+        ensures { IfSome result (IsLeft self) }
     {
-        self.known <= allowed(self.known, self.row, self.ended).saturating_sub(self.spent)
+        let all = allowed(self.known, self.row, self.ended);
+        let left = all.saturating_sub(self.spent);
+        if self.known <= left { Some(left) } else { None }
     }
 
-    // Returns how many visits remain with so many users; None if the users are more.
-    pub(crate) fn left_for(self, users: u64) -> Option<u64>
+    // Returns how many visits remain with so many users, if so many do without; None if the users are more.
+    pub(crate) fn left_for(self, users: u64, left: u64) -> Option<u64>
+        requires { IsLeft self left }
         ensures pass { IfSome result (λ looks. users ≤ looks) }
         ensures fits { IfSome result (λ looks. self.spent + looks < 2 ^ 64) }
         ensures few { IfSome result (λ looks. self.spent + looks
             ≤ spare_looks (max self.known users) (max self.row users) self.ended) }
     {
+        if users <= self.known.min(self.row) {
+            return Some(left);
+        }
         let all = allowed(self.known.max(users), self.row.max(users), self.ended);
         let left = all.checked_sub(self.spent)?;
         if users <= left { Some(left) } else { None }

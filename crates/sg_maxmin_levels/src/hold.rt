@@ -3,27 +3,30 @@ ghost use Rattle.std.specs.Prelude.{◌≡◌, ◌≤◌, ◌<◌, ◌+◌, ◌-
 ghost use Rattle.sg_maxmin.specs.Chained.{users_on};
 ghost use Rattle.sg_maxmin.specs.Fill.{bounded};
 ghost use Rattle.sg_maxmin.specs.Fixing.{share_of_fixed};
-ghost use Rattle.sg_maxmin.specs.Held.{IsHold};
-ghost use Rattle.sg_maxmin_levels.specs.Kept.{CanCount, CanPass, IsFirstPass, IsLevelAbove, IsPass, IsRest};
-ghost use Rattle.sg_maxmin.specs.Numbered.{below_at, flow_in, level_at, row_level, row_taken, row_waiting, weight_at, when_below};
+ghost use Rattle.sg_maxmin.specs.Held.{IsAtMost, IsHold};
+ghost use Rattle.sg_maxmin_levels.specs.Kept.{CanCount, CanPass, IsFirstPass, IsLevelAbove, IsPass, IsRest, WaitFrom};
+ghost use Rattle.sg_maxmin.specs.Numbered.{flow_in, level_at, row_level, row_taken, row_waiting, weight_at, when_below};
 
 use sg_base::Steps;
 use sg_maxmin::System;
 use sg_maxmin::rounding::{level_of, share_at};
 use std::sync::ledger::Ledger;
 
-// What fixed flows leave of a resource, the weight of the others, and how many flows there are in all.
+// What fixed flows leave of a resource, the weight of the others, of which none has a level below `least`, and how many
+// flows there are in all.
 #[derive(Clone, Copy)]
 struct Rest {
     left: u64,
     waiting: u64,
+    least: u64,
     users: u64,
 }
 
-// The level of a resource, if a flow waits there, and how many flows use it.
+// The level of a resource, if a flow waits there; a level below which no such flow is; and how many flows use it.
 #[derive(Clone, Copy)]
 pub(crate) struct Above {
     pub(crate) level: Option<u64>,
+    pub(crate) least: u64,
     pub(crate) users: u64,
 }
 
@@ -35,13 +38,31 @@ pub(crate) struct Found {
     pub(crate) looks: u64,
 }
 
-// Returns the level of a flow, if it is below another.
-fn below(levels: &[Option<u64>], flow: usize, low: u64) -> Option<u64>
-    requires { flow < length levels.now }
-    ensures { result ≡ below_at levels.now low flow }
+// Returns what stands under a number.
+pub(crate) fn under(list: &[Option<u64>], number: usize) -> Option<u64>
+    requires { number < length list.now }
+    ensures { result ≡ level_at list.now number }
 {
-    let level = levels[flow]?;
+    list[number]
+}
+
+// Returns the level, if it is below another.
+fn below(level: Option<u64>, low: u64) -> Option<u64>
+    ensures { result ≡ when_below level low }
+{
+    let level = level?;
     if level < low { Some(level) } else { None }
+}
+
+// Returns the lesser of two levels.
+fn lesser(least: u64, level: Option<u64>) -> u64
+    ensures less { result ≤ least }
+    ensures under { IsAtMost (Some result) level }
+{
+    match level {
+        None => least,
+        Some(level) => least.min(level),
+    }
 }
 
 // Returns what remains if a share is given.
@@ -51,25 +72,31 @@ fn less(left: u64, weight: u32, bound: Option<u64>, level: u64) -> u64
     left.saturating_sub(share_at(weight, bound, level))
 }
 
-// Returns the rest with one more flow on the resource, fixed or not.
-fn with_flow(system: &System, flow: usize, fixed: Option<u64>, rest: Rest) -> Rest
+// Returns the rest with one more flow of this level on the resource, fixed if it is below another.
+fn with_flow(system: &System, flow: usize, level: Option<u64>, low: u64, rest: Rest) -> Rest
     requires { CanCount system.now flow rest }
-    ensures left { result.left ≡ rest.left - share_of_fixed (flow_in system.now.slots flow) fixed }
+    ensures left { result.left ≡ rest.left
+        - share_of_fixed (flow_in system.now.slots flow) (when_below level low) }
     ensures waiting { result.waiting ≡ rest.waiting
-        + (if is_none fixed then weight_at system.now.slots flow else 0) }
+        + (if is_none (when_below level low) then weight_at system.now.slots flow else 0) }
+    ensures less { result.least ≤ rest.least }
+    ensures least { when_below level low ≡ None → IsAtMost (Some result.least) level }
     ensures users { result.users ≡ rest.users + 1 }
 {
     let weight = system.weight(flow);
-    match fixed {
+    let users = rest.users + 1;
+    match below(level, low) {
         None => Rest {
             left: rest.left,
             waiting: rest.waiting + weight as u64,
-            users: rest.users + 1,
+            least: lesser(rest.least, level),
+            users,
         },
-        Some(level) => Rest {
-            left: less(rest.left, weight, system.bound(flow), level),
+        Some(fixed) => Rest {
+            left: less(rest.left, weight, system.bound(flow), fixed),
             waiting: rest.waiting,
-            users: rest.users + 1,
+            least: rest.least,
+            users,
         },
     }
 }
@@ -86,6 +113,8 @@ fn rest_of<L: Ledger>(
     requires { CanPass system.now resource levels.now }
     ensures rest { IfSome result (λ rest.
         IsRest system.now resource levels.now low rest.left rest.waiting) }
+    ensures least { IfSome result (λ rest.
+        WaitFrom levels.now low (users_on system.now.users resource) rest.least) }
     ensures users { IfSome result (λ rest. IsPass system.now resource looks rest.users) }
     ensures spent { IfSome result (λ rest. steps.new ≡ steps.old + rest.users) }
     ensures looks { steps.new ≤ steps.old + looks }
@@ -94,6 +123,7 @@ fn rest_of<L: Ledger>(
     let mut rest = Rest {
         left: system.capacity(resource),
         waiting: 0,
+        least: u64::MAX,
         users: 0,
     };
     let mut at = system.first_on(resource);
@@ -102,7 +132,7 @@ fn rest_of<L: Ledger>(
             return None;
         }
         let one = system.look(i, steps);
-        rest = with_flow(system, one.flow, below(levels, one.flow, low), rest);
+        rest = with_flow(system, one.flow, under(levels, one.flow), low, rest);
         at = one.next_on;
     }
     Some(rest)
@@ -134,6 +164,8 @@ pub(crate) fn level_above<L: Ledger>(
     requires { CanPass system.now resource levels.now }
     ensures level { IfSome result (λ above.
         IsLevelAbove system.now resource levels.now low above.level) }
+    ensures least { IfSome result (λ above.
+        WaitFrom levels.now low (users_on system.now.users resource) above.least) }
     ensures users { IfSome result (λ above. IsPass system.now resource looks above.users) }
     ensures spent { IfSome result (λ above. steps.new ≡ steps.old + above.users) }
     ensures looks { steps.new ≤ steps.old + looks }
@@ -142,12 +174,14 @@ pub(crate) fn level_above<L: Ledger>(
     let rest = rest_of(system, resource, levels, low, looks, steps)?;
     Some(Above {
         level: level_of_rest(rest),
+        least: rest.least,
         users: rest.users,
     })
 }
 
 // Returns the level at which a resource holds its flows with these levels, after a first pass over its users with none of
-// them fixed; None if the visits don't suffice. Each step of the levels below takes another pass over the users.
+// them fixed; None if the visits don't suffice. Each step of the levels below takes another pass over the users, except
+// the last: if no flow that waits is below the level, this would find the same.
 pub(crate) fn hold_of<L: Ledger>(
     system: &System,
     resource: usize,
@@ -182,6 +216,13 @@ pub(crate) fn hold_of<L: Ledger>(
         if level == low {
             return Some(Found {
                 hold: Some(low),
+                users,
+                looks: left,
+            });
+        }
+        if level <= above.least {
+            return Some(Found {
+                hold: Some(level),
                 users,
                 looks: left,
             });

@@ -5,22 +5,15 @@ ghost use Rattle.sg_maxmin.specs.Sharing.{IsSound, flow_at, uses_at};
 ghost use Rattle.sg_maxmin.specs.Held.{AreFilled};
 ghost use Rattle.sg_maxmin_levels.specs.Kept.{AreGiven, AreHeldAt, AreParts, CanGive, CanShift, FlowsStayWithin, HasFlow, IsBetween, IsGiven, IsKept, IsWithin, KeepsFlows, Moves, NotesMoved, Shifts, is_one_of};
 ghost use Rattle.sg_maxmin.specs.Found.{IsFound, PassAlong};
-ghost use Rattle.sg_maxmin.specs.Numbered.{all_uses, level_at};
+ghost use Rattle.sg_maxmin.specs.Numbered.{all_uses};
 ghost use Rattle.sg_maxmin_levels.specs.Settling.{is_active};
 
+use crate::hold::under;
 use crate::levels::Levels;
 use crate::settling::{is_same, part_of};
 use sg_base::Steps;
 use sg_maxmin::{Filled, System};
 use std::sync::ledger::Ledger;
-
-// Returns what stands under a number.
-fn under(list: &[Option<u64>], number: usize) -> Option<u64>
-    requires { number < length list.now }
-    ensures { result ≡ level_at list.now number }
-{
-    list[number]
-}
 
 // Replaces one part in the demand on a resource by another.
 fn shift(resource: usize, before: u128, after: u128, demands: &mut Vec<u128>)

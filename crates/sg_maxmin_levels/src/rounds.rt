@@ -5,7 +5,7 @@ ghost use Rattle.sg_maxmin.specs.Chained.{users_on};
 ghost use Rattle.sg_maxmin.specs.Sharing.{IsSound, flow_at, uses_at};
 ghost use Rattle.sg_maxmin.specs.Held.{AreFilled};
 ghost use Rattle.sg_maxmin_levels.specs.Kept.{HasFlow, HasHold, HasPlaces, HasResource, IsBetween, IsBetweenBut, IsFirstPass, IsSettling, IsSettlingAt, Moves, NotesChanged, NotesMoved, Settles, SettlesUsers, StaysWithin};
-ghost use Rattle.sg_maxmin_levels.specs.Allowed.{AreNew, IsSpent, KnowsUsers, SparesLooks};
+ghost use Rattle.sg_maxmin_levels.specs.Allowed.{AreNew, HaveUsers, IsSpent, KnowsUsers, SparesLooks};
 ghost use Rattle.sg_maxmin_levels.specs.Joined.{spare_looks};
 ghost use Rattle.sg_maxmin.specs.Numbered.{all_uses, level_at};
 ghost use Rattle.sg_maxmin_levels.specs.Settling.{is_active};
@@ -20,6 +20,13 @@ use std::sync::ledger::Ledger;
 
 // With more active resources than this, solving the whole connected component is cheaper than choosing among them.
 const MOST_ACTIVE: usize = 64;
+
+// The active resource that is processed next, and how many users one of the active has at least.
+#[derive(Clone, Copy)]
+struct Next {
+    resource: usize,
+    most_users: u64,
+}
 
 // Returns whether there is neither.
 fn are_none(one: Option<u64>, other: Option<u64>) -> bool
@@ -189,11 +196,9 @@ impl Levels {
             self.put_to_rest(system, resource);
             return Some(given);
         }
-        if !given.is_enough() {
-            return None;
-        }
+        let before = given.left()?;
         let first = level_above(system, resource, &self.levels, 0, u64::MAX, steps)?;
-        let looks = given.left_for(first.users)?;
+        let looks = given.left_for(first.users, before)?;
         let left = self.look_at(system, resource, first, looks, steps)?;
         Some(given.with_row(first.users, looks.saturating_sub(left)))
     }
@@ -208,37 +213,32 @@ impl Levels {
         }
     }
 
-    // Returns the active resource of least key.
-    fn least_active(&self, system: &System) -> Option<usize>
+    // Returns the active resource of least key, and how many users an active one has at least.
+    fn next_active(&self, system: &System) -> Option<Next>
         requires { HasPlaces system.now self.now }
         ensures none { result ≡ None
             → ((r : ℕ) → is_active self.now.active.members r ≡ false) }
-        ensures some { IfSome result (λ r. r < length system.now.capacities) }
-        ensures active { IfSome result (λ r. is_active self.now.active.members r ≡ true) }
+        ensures some { IfSome result (λ next. next.resource < length system.now.capacities) }
+        ensures active { IfSome result (λ next.
+            is_active self.now.active.members next.resource ≡ true) }
+        ensures most { IfSome result (λ next. HaveUsers self.now next.most_users) }
     {
         let mut found = None;
         let mut least = u64::MAX;
+        let mut most_users = 0;
         for resource in self.active.members() {
+            most_users = self.counts[*resource].max(most_users);
             let key = self.key(system, *resource);
             if key <= least {
                 least = key;
                 found = Some(*resource);
             }
         }
-        found
-    }
-
-    // Returns how many users an active resource has at least, if it is that of most.
-    fn most_users(&self) -> u64
-        requires { self.now.active.room ≤ length self.now.counts.items }
-        ensures { (n : ℕ) → ((r : ℕ) → is_active self.now.active.members r ≡ true
-            → slice_index self.now.counts.items r ≤ n) → result ≤ n }
-    {
-        let mut most = 0;
-        for resource in self.active.members() {
-            most = self.counts[*resource].max(most);
-        }
-        most
+        let resource = found?;
+        Some(Next {
+            resource,
+            most_users,
+        })
     }
 
     // Processes active resources until none is active, or very many are, or the visits may not suffice.
@@ -266,18 +266,18 @@ impl Levels {
             spent: 0,
         };
         for _round in 0..u64::MAX {
-            let Some(resource) = self.least_active(system) else {
+            let Some(next) = self.next_active(system) else {
                 return true;
             };
             let flows = self.moved.members().len().saturating_sub(behind);
             if self.active.members().len() > MOST_ACTIVE {
                 return false;
             }
-            let known = given.with_flows(flows as u64, self.most_users());
-            let Some(next) = self.refresh(system, resource, known, steps) else {
+            let known = given.with_flows(flows as u64, next.most_users);
+            let Some(left) = self.refresh(system, next.resource, known, steps) else {
                 return false;
             };
-            given = next;
+            given = left;
         }
         false
     }

@@ -1,12 +1,13 @@
-use Rattle.std.proofs.Common.{◌-◌, suc, cond, is_none, IsSome, slice_index, refl, sym, ap, ap₂, subst, ◌∙◌, arith}
+use Rattle.std.proofs.Common.{ℕ, ◌-◌, suc, cond, is_none, Option, IsSome, slice_index, refl, sym, ap, ap₂, subst, ◌∙◌, arith}
 use Rattle.sg_maxmin.specs.Chained.{users_on}
 use Rattle.sg_maxmin.specs.Walk.{next_on, user_of}
 use Rattle.sg_maxmin.specs.Fixing.{share_of_fixed}
-use Rattle.sg_maxmin.specs.Numbered.{below_at, flow_in, row_taken, row_waiting, weight_at}
+use Rattle.sg_maxmin.specs.Numbered.{below_at, flow_in, level_at, row_taken, row_waiting, weight_at, when_below}
 use Rattle.sg_maxmin.proofs.Listed.{in_at, take_all}
 use Rattle.sg_maxmin.proofs.Walked.{can_look, goes, looked, walk_from, walk_on, nearer, walked}
 use Rattle.sg_maxmin.proofs.Users.{on_held, flow_below}
 use Rattle.sg_maxmin.proofs.OnRow.{weights_fit}
+use Rattle.sg_maxmin_levels.proofs.Passes.{wait_all, wait_next, wait_none}
 use Rattle.sg_maxmin_levels.proofs.RowRise.{taken_next, waiting_next, room_next, taken_none, waiting_none}
 use Rattle.sg_maxmin_levels.proofs.hold.rest_of.Goals as goal
 
@@ -20,6 +21,7 @@ loop-at-init g c =
         walk = walk_from next_on user_of s.uses row c.first_on-at.result c.first_on-at.ensures.leads c.first_on-at.ensures.few;
         left = omega (arith, c.capacity.ensures, taken_none s.slots fixed row);
         waiting = sym (waiting_none s.slots fixed row);
+        least = wait_none c.args.levels.now c.args.low row _;
         users = refl;
         few = omega arith;
         looks = omega arith;
@@ -38,8 +40,8 @@ loop-at-smaller g c =
     let inv = c.loop-at.invariant in
     nearer next_on user_of s.uses (users_on s.users c.args.resource) inv.0 c.loop-at.at inv.1.walk c.in-Some.i c.look-one.result c.in-Some.is c.look-one.ensures.there
 
-pub below-requires : goal.below-requires
-below-requires g c =
+pub under-requires : goal.under-requires
+under-requires g c =
     let s = c.args.system.now in
     let row = users_on s.users c.args.resource in
     let inv = c.loop-at.invariant in
@@ -67,15 +69,19 @@ loop-at-preserved g c =
     let row = users_on s.users c.args.resource in
     let inv = c.loop-at.invariant in
     let k = inv.0 in
-    let fixed = below_at c.args.levels.now c.args.low in
+    let levels = c.args.levels.now in
+    let low = c.args.low in
+    let fixed = below_at levels low in
     let r = looked next_on user_of s.uses row k c.loop-at.at inv.1.walk c.in-Some.i c.look-one.result c.in-Some.is c.look-one.ensures.there in
-    let share = ap₂ (λ o id. share_of_fixed (flow_in s.slots id) o) (c.below.ensures ∙ ap fixed r.is) r.is in
-    let weight = ap₂ (λ o id. cond (is_none o) (weight_at s.slots id) 0) (c.below.ensures ∙ ap fixed r.is) r.is in (
+    let here = ap {B = Option ℕ} (λ o. when_below o low) (c.under.ensures ∙ ap {B = Option ℕ} (level_at levels) r.is) in
+    let share = ap₂ (λ o id. share_of_fixed (flow_in s.slots id) o) here r.is in
+    let weight = ap₂ (λ o id. cond (is_none o) (weight_at s.slots id) 0) here r.is in (
       suc k,
       record {
         walk = walk_on next_on user_of s.uses row k c.loop-at.at inv.1.walk c.in-Some.i c.look-one.result c.in-Some.is c.look-one.ensures.there;
         left = omega (arith, c.with_flow-rest.ensures.left, inv.1.left, taken_next s.slots fixed row k r.less, share);
         waiting = omega (arith, c.with_flow-rest.ensures.waiting, inv.1.waiting, waiting_next s.slots fixed row k r.less, weight);
+        least = wait_next levels low row k c.loop-at.rest.least c.with_flow-rest.result.least c.look-one.result.flow c.under.result r.is c.under.ensures c.with_flow-rest.ensures.less c.with_flow-rest.ensures.least inv.1.least;
         users = omega (arith, c.with_flow-rest.ensures.users, inv.1.users);
         few = omega (arith, c.with_flow-rest.ensures.users, inv.1.few, c.if-rest-looks.false);
         looks = omega (arith, inv.1.looks, c.look-one.ensures.looks);
@@ -92,6 +98,13 @@ returns-clause-rest g c =
       left_is = inv.1.left ∙ ap (λ xs. slice_index s.capacities c.args.resource - row_taken s.slots (below_at c.args.levels.now c.args.low) xs) all;
       waiting_is = inv.1.waiting ∙ ap (λ xs. row_waiting s.slots (below_at c.args.levels.now c.args.low) xs) all;
     }
+
+pub returns-clause-least : goal.returns-clause-least
+returns-clause-least g c =
+    let s = c.args.system.now in
+    let row = users_on s.users c.args.resource in
+    let inv = c.loop-at.invariant in
+    wait_all c.args.levels.now c.args.low row inv.0 c.loop-at.rest.least (walked next_on user_of s.uses row inv.0 c.loop-at.at inv.1.walk c.in_default.not-Some) inv.1.least
 
 pub returns-clause-users : goal.returns-clause-users
 returns-clause-users g c =

@@ -1,6 +1,6 @@
 use Rattle.std.proofs.Common.{◌+◌, ◌≤◌, length, max, refl, sym, subst, arith}
 use Rattle.sg_maxmin.specs.Chained.{users_on}
-use Rattle.sg_maxmin_levels.specs.Kept.{IsLevelAbove}
+use Rattle.sg_maxmin_levels.specs.Kept.{IsLevelAbove, WaitFrom}
 use Rattle.sg_maxmin.specs.Numbered.{flow_in}
 use Rattle.sg_maxmin_levels.proofs.Demand.{demand_holds_none_lem, parts_demand}
 use Rattle.sg_maxmin_levels.proofs.Steps.{held_user}
@@ -28,6 +28,7 @@ put_to_rest-requires-clause-none g c =
 pub look_at-requires-clause-first : goal.look_at-requires-clause-first
 look_at-requires-clause-first g c = record {
   level_is = subst (λ ls. IsLevelAbove c.args.system.now c.args.resource ls 0 c.in_ok-first.first.level) c.deref.ensures.value c.in_ok-first.ensures.level;
+  least_is = subst (λ ls. WaitFrom ls 0 (users_on c.args.system.now.users c.args.resource) c.in_ok-first.first.least) c.deref.ensures.value c.in_ok-first.ensures.least;
   pass = record { all = c.in_ok-first.ensures.users.all; few = c.in_ok-looks.ensures.pass };
 }
 
@@ -36,8 +37,8 @@ returns-then-has_slack-clause-looks g c =
     let given = c.args.given in
     omega (arith, spare_known given.known given.row (length (users_on c.args.system.now.users c.args.resource)) given.ended given.spent c.requires.given)
 
-pub returns-then-not-is_enough-clause-looks : goal.returns-then-not-is_enough-clause-looks
-returns-then-not-is_enough-clause-looks g c =
+pub returns-in_err-before-clause-looks : goal.returns-in_err-before-clause-looks
+returns-in_err-before-clause-looks g c =
     let given = c.args.given in
     omega (arith, spare_known given.known given.row (length (users_on c.args.system.now.users c.args.resource)) given.ended given.spent c.requires.given)
 
@@ -45,7 +46,7 @@ pub returns-in_err-looks-clause-looks : goal.returns-in_err-looks-clause-looks
 returns-in_err-looks-clause-looks g c =
     let given = c.args.given in
     let users = c.in_ok-first.ensures.users.all in
-    omega (arith, first_fits given.known given.row (length (users_on c.args.system.now.users c.args.resource)) given.ended given.spent c.requires.given (c.is_enough.ensures c.if-not-is_enough.false), c.in_ok-first.ensures.spent, users)
+    omega (arith, first_fits given.known given.row (length (users_on c.args.system.now.users c.args.resource)) given.ended given.spent c.requires.given (omega (arith, c.in_ok-before.ensures.few, c.in_ok-before.ensures.pass)), c.in_ok-first.ensures.spent, users)
 
 pub returns-clause-looks : goal.returns-clause-looks
 returns-clause-looks g c =
