@@ -1,5 +1,5 @@
 //! Slots with dates, and the one that comes first.
-ghost use Rattle.std.specs.Prelude.{◌≡◌, ◌≤◌, ◌<◌, ◌+◌, ◌*◌, ℕ, [], None, Some, IfOk, IfNone, IfSome, IsOk, IsSome, MatchResult, length, option_map, slice_set, vec_capacity, vec_len};
+ghost use Rattle.std.specs.Prelude.{◌≡◌, ◌≤◌, ◌<◌, ◌+◌, ◌*◌, ℕ, [], None, Some, IfOk, IfNone, IfSome, IsOk, MatchResult, length, slice_set, vec_capacity, vec_len};
 ghost use Rattle.sg_base.specs.Ledgers.{IsBlankOf};
 ghost use Rattle.sg_heap.specs.Agenda.{IsLeast, digits, key, key_at, key_count, with_slots};
 ghost use Rattle.sg_heap.specs.kept.Heap.{GrowsTo};
@@ -107,27 +107,31 @@ impl Agenda {
         requires { slot < length self.old }
         ensures { self.new ≡ slice_set self.old slot (Some (key date serial)) }
     {
-        self.change_from::<Brand>(slot, Some((date, serial)), Blank::new(1));
+        self.set_from::<Brand>(slot, date, serial, Blank::new(1));
+    }
+
+    fn set_from<L: Ledger>(&mut self, slot: usize, date: u128, serial: Serial, blank: Blank)
+        requires slot { slot < length self.old }
+        requires blank { IsBlankOf L.name L.parts blank }
+        ensures { self.new ≡ slice_set self.old slot (Some (key date serial)) }
+    {
+        let mut steps = Steps::<L>::new(blank);
+        self.set_counted(slot, date, serial, &mut steps);
     }
 
     /// `clear_counted` for a caller that counts nothing.
     pub fn clear(&mut self, slot: usize)
         ensures { self.new ≡ slice_set self.old slot None }
     {
-        self.change_from::<Brand>(slot, None, Blank::new(1));
+        self.clear_from::<Brand>(slot, Blank::new(1));
     }
 
-    // Gives a slot this key, or takes the one that it has.
-    fn change_from<L: Ledger>(&mut self, slot: usize, due: Option<(u128, Serial)>, blank: Blank)
-        requires slot { IsSome due → slot < length self.old }
+    fn clear_from<L: Ledger>(&mut self, slot: usize, blank: Blank)
         requires blank { IsBlankOf L.name L.parts blank }
-        ensures { self.new ≡ slice_set self.old slot (option_map (λ k. key k.0 k.1) due) }
+        ensures { self.new ≡ slice_set self.old slot None }
     {
         let mut steps = Steps::<L>::new(blank);
-        match due {
-            Some((date, serial)) => self.set_counted(slot, date, serial, &mut steps),
-            None => self.clear_counted(slot, &mut steps),
-        }
+        self.clear_counted(slot, &mut steps);
     }
 
     /// Returns the slot whose key comes first, with its date and its activity id; `None` if no slot has a key.
