@@ -171,7 +171,7 @@ fn solve<L: Ledger>(system: &System, solver: &mut Solver, pending: &Pending, ste
 
 // Returns the crowd if the next rate update goes by levels, as many flows are connected and few rates changed; else 0.
 fn next_crowd(crowd: usize, changed: usize) -> usize {
-    if crowd < CROWD || crowd / 4 < changed {
+    if crowd < CROWD || crowd / 2 < changed {
         0
     } else {
         crowd
