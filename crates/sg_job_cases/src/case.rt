@@ -156,7 +156,6 @@ impl Case {
             "unended" => push_text(alloc, &mut self.script, text)?,
             "lines" => push_times(&mut self.script, text)?,
             "long_platform" => fill(&mut self.platform, text)?,
-            "long_deployment" => fill(&mut self.deployment, text)?,
             "long_line" => fill(&mut self.script, text)?,
             "crew" => self.take_crew(alloc, text)?,
             "meeting" => self.take_meeting(alloc, text)?,
