@@ -107,7 +107,7 @@ class Row:
 
     def take(self, key, text):
         parts = {"platform": "p", "deployment": "d", "with": "p", "script": "s", "unended": "s", "lines": "s",
-                 "long_platform": "p", "long_deployment": "d", "long_line": "s"}
+                 "long_platform": "p", "long_line": "s"}
         if key == "job":
             self.words = text.split()
         elif key == "over":

@@ -1,5 +1,0 @@
-use Rattle.sg_sharing_cases.specs.OneEach.{IsOneEach}
-use Rattle.sg_sharing_cases.proofs.hosts.one_each.Given as goal
-
-abbrev pub invariant-loop-host : goal.invariant-loop-host
-invariant-loop-host g l = IsOneEach l.host l.lazy
