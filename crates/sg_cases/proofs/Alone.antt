@@ -1,4 +1,4 @@
--- Flows that each use one resource: one that begins touches those on its own, and so does a capacity that changes.
+-- Flows that each use one resource: one that begins touches those on its own.
 use Rattle.std.proofs.Common.{◌≡◌, ◌==◌, ℕ, zero, suc, ◌+◌, ◌*◌, ◌<◌, ◌≤◌, ◌⊎◌, inl, inr, Bool, true, false, true≢false, cond, ◌||◌, ◌&&◌, eqb, eq-eqb, eqb-true, Option, None, Some, List, [], ◌∷◌, map, length, set, get_or-set_same, get_or-set_other, sum_by, refl, sym, ap, subst, ◌∙◌, arith}
 use Rattle.std.specs.List.{list_any}
 use Rattle.std.proofs.lemmas.List.Sums.{sum_by-cons}
@@ -128,25 +128,3 @@ second_works slots id resource second below free uses one calm few =
       | inl e ↦ inl (same second r (sym (get_or-set_same slots id (Some second) None below) ∙ sym (ap (running_at (set slots id (Some second))) e) ∙ at))
       | inr ne ↦ inr (sym (get_or-set_other slots id other (Some second) None ne) ∙ at)
     ]
-
-pub is_the_one : (resource c : ℕ) → is_in c (resource ∷ []) ≡ true → resource ≡ c
-is_the_one resource c e = eqb-true resource c (or_none (eqb resource c) e)
-
--- No other capacity than that of a resource with one flow at most changes, and nothing is marked: that flow alone is touched.
-pub capacity_works : (slots : List (Option RunningFlow)) (resource : ℕ) (those : List ℕ) → ((c : ℕ) → is_in c those ≡ true → resource ≡ c) → ((id : ℕ) (r : RunningFlow) → running_at slots id ≡ Some r → UsesOne r.flow) → ((id : ℕ) (r : RunningFlow) → running_at slots id ≡ Some r → r.marked ≡ false) → users_of resource slots ≤ 1 →
-    work (running_flows slots) [] those ≤ 16
-unfolding work
-capacity_works slots resource those no_other one calm few =
-    let running = running_flows slots in
-    let ones : (r : RunningFlow) → In r running → UsesOne r.flow = λ r i. let k = In-running_back slots r i in one k.0 r k.1 in
-    let none : (r : RunningFlow) → In r running → r.marked ≡ true → r.flow.uses ≡ resource ∷ [] = λ r i b. let k = In-running_back slots r i in absurd (true≢false (sym b ∙ calm k.0 r k.1)) in
-    let on = joined_on running those resource ones none no_other in
-    let g = λ (f : Flow). cond (is_on resource f) 1 0 in
-    let most : sum_by (λ (r : RunningFlow). g r.flow) running ≤ 1 = omega (arith, sum_running g slots, few) in
-    fewer_looks (touched_count running [] those) (touched_uses running [] those) (omega (arith, count_le running those resource on, most)) (omega (arith, uses_le running those resource ones on, most))
-  where
-    fewer_looks : (m u : ℕ) → m ≤ 1 → u ≤ 1 → 4 * (m + 1) * (m + u) ≤ 16
-    fewer_looks m u h k =
-        let one : 4 * (m + 1) ≤ 8 = omega (arith, h) in
-        let two : m + u ≤ 2 = omega (arith, h, k) in
-        omega (arith, mul-le-mul one two)

@@ -1,4 +1,4 @@
-//! What a second execution on a host, and another speed of it, change among 100 hosts, and how many visits that takes.
+//! What a second execution on a host changes among 100 hosts, and how many visits that takes.
 ghost use Rattle.std.specs.Prelude.{◌<◌, ◌≤◌, ◌+◌, OnOk};
 ghost use Rattle.sg_cases.specs.OneEach.{HasOneAt, IsCalm, IsIdle, IsOneEach};
 
@@ -88,59 +88,4 @@ impl Counted for SecondExecution {
 #[test]
 fn second_execution_changes_two(rt: HostRuntime) -> Result<(), Fail> {
     counted::run(&SecondExecution, &rt, rt.alloc())
-}
-
-// Changes the speed of a host, and updates the rates with no more visits than its one flow allows.
-fn slow_host<L: Ledger>(lazy: &mut Lazy, host: usize, speed: u64, steps: &mut Steps<L>)
-    requires { HasOneAt host lazy.old }
-    ensures { steps.new ≤ steps.old + 16 }
-{
-    lazy.set_capacity(host, speed);
-    lazy.settle(steps);
-}
-
-// The flow whose rate a host's speed changes is the one there.
-fn changes_one<L: Ledger>(
-    rt: &impl Abort,
-    lazy: &mut Lazy,
-    flows: &mut Vec<usize>,
-    host: usize,
-    steps: &mut Steps<L>,
-) -> Result<(), Memory>
-    requires idle { IsIdle lazy.old }
-    requires host { host < 100 }
-{
-    one_each(lazy, flows, steps)?;
-    slow_host(lazy, host, 4, steps);
-    let changed = lazy.changed();
-    assert_eq!(rt; changed.len(), 1);
-    if let Some(flow) = flows.get(host) {
-        assert!(rt; changed.contains(flow));
-    }
-    Ok(())
-}
-
-// The same on each host, every time on a system of its own.
-struct AnotherSpeed;
-
-impl Counted for AnotherSpeed {
-    fn run<R: Abort, L: Ledger>(
-        &self,
-        rt: &R,
-        alloc: Global,
-        steps: &mut Steps<L>,
-    ) -> Result<(), Memory> {
-        for host in 0..HOSTS {
-            let mut flows = Vec::new(alloc);
-            let system = System::new(alloc, &[10; HOSTS])?;
-            let mut lazy = Lazy::new(alloc, system)?;
-            changes_one(rt, &mut lazy, &mut flows, host, steps)?;
-        }
-        Ok(())
-    }
-}
-
-#[test]
-fn another_speed_changes_one(rt: HostRuntime) -> Result<(), Fail> {
-    counted::run(&AnotherSpeed, &rt, rt.alloc())
 }

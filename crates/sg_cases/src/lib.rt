@@ -1,8 +1,7 @@
 //! Tests of what no whole run shows: shares of worked systems, rates beside those of a max-min solve of the whole, how
-//! little an end touches, energies, shortest paths; reads and writes that fail or give little, turns that meet in threads,
-//! kinds of faults.
+//! little an end touches, energies, turns that meet in threads, kinds of faults.
 //! One enters by a module of tests, as `settling`; there is nothing else in it. `counted` runs those that count visits.
-//! It stands on `sg_activity`, `sg_paths`, `sg_actor`, `sg_collectives`, `sg_units`, what is below these, and `sg_job_cases`.
+//! It stands on `sg_activity`, `sg_actor`, `sg_collectives`, `sg_units`, what is below these, and `sg_job_cases`.
 #![tactic(auto)]
 
 #[cfg(test)]
@@ -17,10 +16,6 @@ mod flags;
 mod hosts;
 #[cfg(test)]
 mod meter;
-#[cfg(test)]
-mod parts;
-#[cfg(test)]
-mod paths;
 #[cfg(test)]
 mod ranks;
 #[cfg(test)]

@@ -1,8 +1,7 @@
-//! What runs of one execution cost, the greatest amounts, and a sum over all changes.
+//! What runs of one execution cost, and the greatest amounts.
 use sg_base::{Memory, PointId};
 use sg_energy::Meter;
 use std::alloc::Global;
-use std::process::Abort;
 use std::test::Fail;
 
 const HOST: PointId = PointId(1);
@@ -57,33 +56,5 @@ fn runs_cost_so_much(rt: HostRuntime) -> Result<(), Fail> {
         assert_eq!(rt; told(rt.alloc(), first, second)?, want);
     }
     assert_eq!(rt; greatest(rt.alloc())?, [GREATEST, (0, 0)]);
-    Ok(())
-}
-
-// A million changes, of which one in five sets the power that the host has, beside the sum of power times span.
-fn agrees_with_a_sum(rt: &impl Abort, alloc: Global) -> Result<(), Memory> {
-    let mut meter = Meter::new(alloc, 2)?;
-    let mut date: u128 = 0;
-    let mut sum: u128 = 0;
-    let mut state: u64 = 1;
-    for _change in 0..1_000_000_u32 {
-        state = state
-            .wrapping_mul(6_364_136_223_846_793_005)
-            .wrapping_add(1_442_695_040_888_963_407);
-        let power = (state >> 20) % 5 * 249_999_999;
-        let span = u128::from((state >> 33) as u32);
-        meter.set(HOST, power, date);
-        date += span;
-        sum += u128::from(power) * span;
-        let joules = sum / 1_000_000_000_000;
-        let rest = (sum % 1_000_000_000_000) as u64;
-        assert_eq!(rt; meter.energy(HOST, date), (joules, rest));
-    }
-    Ok(())
-}
-
-#[test]
-fn meter_tells_the_sum(rt: HostRuntime) -> Result<(), Fail> {
-    agrees_with_a_sum(&rt, rt.alloc())?;
     Ok(())
 }
