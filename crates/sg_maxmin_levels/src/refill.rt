@@ -85,7 +85,7 @@ fn give<L: Ledger>(
     ensures moves { Moves system.now flow kept.old kept.new }
     ensures looks { steps.new ≤ steps.old + length (uses_at system.now.slots flow) }
 {
-    if kept.stale.contains(flow) || !is_same(kept.level(flow), level) {
+    if !is_same(kept.level(flow), level) || kept.stale.contains(flow) {
         write_level(system, flow, level, kept, steps);
     }
 }
