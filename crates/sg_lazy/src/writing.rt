@@ -39,7 +39,7 @@ fn write_rate(flow: usize, rate: u64, began: &Marks, rates: &mut [u64], changed:
           then with_mark flow changed.old.members else changed.old.members;
     } }
 {
-    if began.contains(flow) || rates[flow] != rate {
+    if rates[flow] != rate || began.contains(flow) {
         changed.insert(flow);
     }
     rates[flow] = rate;
