@@ -13,12 +13,10 @@ const MOST: usize = 1 << 32;
 /// Numbers below a room, each once, in the order in which they came.
 #[derive(Drop)]
 pub struct Marks {
-    // all numbers below the room: first the members, in the order in which they came, and then the others
+    // the members; there is space for all numbers below the room
     order: Vec<usize>,
-    // where each number stands in it
+    // where each number stood in it last, so that one is a member if it stands there still
     place: Vec<u32>,
-    // how many members there are
-    count: usize,
 }
 
 impl Model for Marks {
@@ -26,12 +24,12 @@ impl Model for Marks {
 
     ghost Value = { MarkSet };
 
-    ghost use Rattle.std.specs.Prelude.{length, take};
+    ghost use Rattle.std.specs.Prelude.{length, vec_capacity};
     ghost use Rattle.sg_base.specs.kept.Sparse.{IsSparse};
 
-    ghost view = { λ m. record { members = take m.count m.order.items; room = length m.place.items } };
+    ghost view = { λ m. record { members = m.order.items; room = length m.place.items } };
 
-    ghost invariant = { λ m. IsSparse m.order.items m.place.items m.count };
+    ghost invariant = { λ m. IsSparse m.order.items m.place.items (vec_capacity m.order) };
 }
 
 impl Marks {
@@ -43,7 +41,6 @@ impl Marks {
         Marks {
             order: Vec::new(alloc),
             place: Vec::new(alloc),
-            count: 0,
         }
     }
 
@@ -52,7 +49,8 @@ impl Marks {
         requires { number < self.now.room }
         ensures { result ≡ is_in number self.now.members }
     {
-        (self.place[number] as usize) < self.count
+        let at = self.place[number] as usize;
+        at < self.order.len() && self.order[at] == number
     }
 
     /// Returns the members, in the order in which they came.
@@ -62,7 +60,7 @@ impl Marks {
         ensures in_range { All (λ number. number < self.now.room) result.now }
         ensures few { length result.now ≤ self.now.room }
     {
-        &self.order[..self.count]
+        self.order.as_slice()
     }
 
     /// Makes the number a member.
@@ -70,15 +68,9 @@ impl Marks {
         requires { number < self.old.room }
         ensures { self.new ≡ record self.old { members = with_mark number self.old.members } }
     {
-        let at = self.place[number] as usize;
-        if at >= self.count {
-            let last = self.count;
-            let other = self.order[last];
-            self.order[at] = other;
-            self.place[other] = at as u32;
-            self.order[last] = number;
-            self.place[number] = last as u32;
-            self.count = last + 1;
+        if !self.contains(number) {
+            self.place[number] = self.order.len() as u32;
+            self.order.push_reserved(number);
         }
     }
 
@@ -90,15 +82,13 @@ impl Marks {
             → is_in other self.new.members ≡ is_in other self.old.members }
         ensures room { self.new.room ≡ self.old.room }
     {
-        let at = self.place[number] as usize;
-        if at < self.count {
-            let last = self.count - 1;
+        if self.contains(number) {
+            let at = self.place[number] as usize;
+            let last = self.order.len() - 1;
             let other = self.order[last];
             self.order[at] = other;
             self.place[other] = at as u32;
-            self.order[last] = number;
-            self.place[number] = last as u32;
-            self.count = last;
+            self.order.truncate(last);
         }
     }
 
@@ -106,27 +96,7 @@ impl Marks {
     pub fn clear(&mut self)
         ensures { self.new ≡ record self.old { members = [] } }
     {
-        self.count = 0;
-    }
-
-    // Makes room for one more.
-    fn grow(&mut self) -> Result<(), Memory>
-        ensures { MatchResult result
-            (λ _. self.new ≡ record self.old { room = self.old.room + 1 })
-            (λ _. self.new ≡ self.old) }
-    {
-        let number = self.place.len();
-        if number >= MOST {
-            return Err(Memory);
-        }
-        self.order.push(number)?;
-        match self.place.push(number as u32) {
-            Ok(()) => Ok(()),
-            Err(_) => {
-                self.order.truncate(number);
-                Err(Memory)
-            }
-        }
+        self.order.clear();
     }
 
     /// Makes room for the numbers below this one. Only the room changes, even if memory runs out.
@@ -135,9 +105,14 @@ impl Marks {
         ensures kept { self.new ≡ record self.old { room = self.new.room } }
         ensures grows { self.old.room ≤ self.new.room }
     {
-        for _number in self.place.len()..room {
-            self.grow()?;
+        if room <= self.place.len() {
+            return Ok(());
         }
+        if room > MOST {
+            return Err(Memory);
+        }
+        self.order.reserve(room - self.order.len())?;
+        self.place.resize(room, 0)?;
         Ok(())
     }
 }
