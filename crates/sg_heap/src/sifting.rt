@@ -21,8 +21,9 @@ fn first_child<L: Ledger>(heap: &[Entry], at: usize, count: usize, steps: &mut S
 {
     let left = 2 * at + 1;
     let right = left + 1;
-    if right < count && is_before(heap[right], heap[left], steps) {
-        right
+    if right < count {
+        // Added, since no processor can foresee a jump.
+        left + usize::from(is_before(heap[right], heap[left], steps))
     } else {
         left
     }
