@@ -1,14 +1,15 @@
 -- Queues of actors, as scheduling rounds and time advances change them.
-use Rattle.std.proofs.Common.{◌≡◌, ◌≢◌, ℕ, zero, suc, ◌-◌, ◌<◌, ◌≤◌, ◌==◌, Bool, true, false, true≢false, cond, List, [], ◌∷◌, ◌++◌, length, set, get_or, count_by, nat_lt, inl, inr, refl, sym, ap, ◌∙◌, arith}
+use Rattle.std.proofs.Common.{◌≡◌, ◌≢◌, ℕ, zero, suc, ◌+◌, ◌-◌, ◌<◌, ◌≤◌, ◌==◌, Bool, true, false, true≢false, cond, List, [], ◌∷◌, ◌++◌, length, set, get_or, count_by, nat_lt, inl, inr, refl, sym, subst, ap, ◌∙◌, arith}
 use Rattle.std.specs.Prelude.{Contains, filter}
-use Rattle.std.specs.List.{list_any}
+use Rattle.std.specs.List.{list_any, remove}
 use Rattle.std.specs.List.Sorted.{IsPermutation, IsNonDecreasingBy}
 use Rattle.std.proofs.lemmas.Bool.{cases_eq, cases_lt, eqb-true, eq-eqb}
-use Rattle.std.proofs.lemmas.List.{get_or_past, get_or-set_same, get_or-set_other, length-set, length-append}
+use Rattle.std.proofs.lemmas.List.{get_or_default, get_or_past, get_or-set_same, get_or-set_other, length-set, length-append}
+use Rattle.std.proofs.lemmas.List.Edits.{length-remove}
 use Rattle.std.proofs.lemmas.List.Elements.{All-filter, All-push, filter_passes}
 use Rattle.std.proofs.lemmas.List.Kept.{AllPairs-filter}
 use Rattle.std.proofs.lemmas.List.Sorted.{All-permutation, sum_by-IsPermutation}
-use Rattle.std.proofs.lemmas.List.Sums.{sum_by-append}
+use Rattle.std.proofs.lemmas.List.Sums.{length-filter, sum_by-append}
 use Rattle.sg_base.specs.declared.ids.ActorId.{ActorId}
 use Rattle.sg_actor_states.specs.declared.state.Actor.{Actor}
 use Rattle.sg_actor_states.specs.declared.state.State.TheVariants.{Ended}
@@ -16,6 +17,7 @@ use Rattle.sg_actor_states.specs.Actors.{is_ready, not_suspended}
 use Rattle.sg_actor_states.specs.Queue.{is_ready_in, AreReady, IsIdOf, IsQueue}
 use Rattle.sg_actor_states.specs.kept.Standing.{HasAnswered}
 use Rattle.sg_actor_states.proofs.Counts.{count-cons, count_any, count_set, counted_less, counted_one}
+use Rattle.sg_actor_states.proofs.Sorted.{left_in}
 
 -- ---- counts and places
 counted_two : {X : Type 0} (p : X → Bool) (xs : List X) (i j : ℕ) (d : X) → i < j → j < length xs → p (get_or xs i d) ≡ true → p (get_or xs j d) ≡ true → 2 ≤ count_by p xs
@@ -85,6 +87,50 @@ queue_filtered actors queue old = record {
 -- what is left of a list without those that aren't ready
 pub filter_ready : (actors : List Actor) (queue : List ActorId) → AreReady actors (filter (λ (actor : ActorId). is_ready_in actors actor.0) queue)
 filter_ready actors queue = filter_passes (λ (actor : ActorId). is_ready_in actors actor.0) queue
+
+-- each actor that is ready is in the queue, if the first of them has this id
+abbrev HasReady : List Actor → ℕ → List ActorId → Type 0
+HasReady actors first queue = (k : ℕ) → k < length actors → is_ready (get_or actors k (not_suspended Ended)) ≡ true → Contains queue (record { 0 = first + k })
+
+-- then the queue is no shorter than there are ready actors
+ready_listed : (actors : List Actor) (first : ℕ) (queue : List ActorId) → HasReady actors first queue → count_by is_ready actors ≤ length queue
+ready_listed [] first queue has = omega arith
+ready_listed (actor ∷ rest) first queue has = cases (is_ready actor) refl (count-cons is_ready actor rest) (ready_listed rest (first + 1))
+  where
+    others : HasReady rest (first + 1) queue
+    others k less ready =
+        let next : first + suc k ≡ first + 1 + k = omega arith in
+        subst (λ id. Contains queue (record { 0 = id })) next (has (suc k) (omega (arith, less)) ready)
+
+    apart : (k : ℕ) (one : Contains queue (record { 0 = first + 0 })) (other : Contains queue (record { 0 = first + 1 + k })) → other.0 ≢ one.0
+    apart k one other same =
+        let here : get_or queue other.0 (record { 0 = first + 0 }) ≡ record { 0 = first + 0 } = ap (λ n. get_or queue n (record { 0 = first + 0 })) same ∙ one.2 in
+        let there = get_or_default queue other.0 (record { 0 = first + 0 }) (record { 0 = first + 1 + k }) other.1 in
+        let ids : first + 0 ≡ first + 1 + k = ap (λ (a : ActorId). a.0) (sym here ∙ (there ∙ other.2)) in
+        omega (arith, ids)
+
+    cases : (b : Bool) → is_ready actor ≡ b → count_by is_ready (actor ∷ rest) ≡ cond b 1 0 + count_by is_ready rest → ((left : List ActorId) → HasReady rest (first + 1) left → count_by is_ready rest ≤ length left) → count_by is_ready (actor ∷ rest) ≤ length queue
+    cases true is counts more =
+        let one = has 0 (omega arith) is in
+        let short = more (remove queue one.0) (λ k less ready. let other = others k less ready in left_in queue (record { 0 = first + 1 + k }) one.0 one.1 other (apart k one other)) in
+        omega (arith, counts, short, length-remove queue one.0 one.1)
+    cases false isnt counts more = omega (arith, counts, more queue others)
+
+-- a queue that is as long as there are ready actors lists these alone
+pub all_ready : (actors : List Actor) (queue : List ActorId) → IsQueue actors queue → length queue ≡ count_by is_ready actors → AreReady actors queue
+all_ready actors queue old number = λ k d within. cases k d within (passes (get_or queue k d)) refl
+  where
+    passes : ActorId → Bool
+    passes actor = is_ready_in actors actor.0
+
+    listed : HasReady actors 1 (filter passes queue)
+    listed k less ready =
+        let back : 1 + k - 1 ≡ k = omega arith in
+        (queue_filtered actors queue old).has_ready (record { 0 = 1 + k }) (omega arith) (ap (λ n. is_ready (get_or actors n (not_suspended Ended))) back ∙ ready)
+
+    cases : (k : ℕ) (d : ActorId) → k < length queue → (b : Bool) → passes (get_or queue k d) ≡ b → b ≡ true
+    cases k d within true is = refl
+    cases k d within false isnt = absurd (omega (arith, number, length-filter passes queue, ready_listed actors 1 (filter passes queue) listed, counted_less passes queue k d within isnt))
 
 -- ---- during a time advance
 none_ready : (actors : List Actor) (i : ℕ) → count_by is_ready actors ≡ 0 → is_ready (get_or actors i (not_suspended Ended)) ≡ false

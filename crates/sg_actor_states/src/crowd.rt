@@ -249,7 +249,10 @@ impl Crowd {
         requires { self.old.passing ≡ false }
         ensures { self.new ≡ record self.old { trimmed = true } }
     {
-        queue::keep_ready(&mut self.queue, &self.actors);
+        // Mostly nobody is to be removed: a queue as long as there are ready actors lists these alone.
+        if self.queue.len() != self.ready {
+            queue::keep_ready(&mut self.queue, &self.actors);
+        }
         self.trimmed = true;
     }
 
