@@ -1,11 +1,12 @@
 -- Slots in a slab of cells: what is read and written, and that a number of 32 bits is free.
-use Rattle.std.proofs.Common.{◌≡◌, ℕ, zero, suc, ◌<◌, ◌≤◌, List, [], ◌∷◌, map, length, get_or, Option, None, Some, is_some, IsSome, cond, count_by, option_map, refl, sym, ap, subst, ◌∙◌, arith}
+use Rattle.std.proofs.Common.{◌≡◌, ℕ, zero, suc, ◌<◌, ◌≤◌, List, [], ◌∷◌, map, length, get_or, Option, None, Some, is_some, IsSome, cond, count_by, min, option_map, refl, sym, ap, subst, ◌∙◌, arith}
+use Rattle.std.proofs.Math.Nat.{min-le_left, min-le_right}
 use Rattle.std.proofs.lemmas.List.Sums.{count_by-le-length, sum_by-cons, sum_by-set}
-use Rattle.slab.specs.Slab.{Slab, ContainsKey, get, slab_len, Updates, with_value}
+use Rattle.slab.specs.Slab.{Slab, ContainsKey, HasRoomFor, get, slab_len, Updates, with_value}
 use Rattle.slab.proofs.SlabLemmas.{ContainsKey-within, Updates-with_value}
 use Rattle.sg_maxmin.specs.declared.cells.Cell.{Cell}
 use Rattle.sg_maxmin.specs.declared.slots.Slot.{Slot}
-use Rattle.sg_maxmin.specs.kept.Slots.{slot_in, slots_in, taken}
+use Rattle.sg_maxmin.specs.kept.Slots.{HasNumber, nothing, slot_in, slots_in, taken}
 use Rattle.sg_maxmin.specs.kept.Linked.{KeepsRoom}
 
 -- the slot under a number is that in its cell
@@ -66,7 +67,7 @@ none_taken (suc n) [] none = refl
 none_taken (suc n) (cell ∷ cells) none = omega (arith, ap {B = ℕ} (λ o. cond (is_some o) 1 0) (none 0 (omega arith)), none_taken n cells (λ i within. none (suc i) (omega (arith, within))))
 
 -- as many are taken as long as none of them changes
-pub taken_same : (n : ℕ) (old new : List (Option Cell)) → ((i : ℕ) → i < n → get_or new i None ≡ get_or old i None) → taken n new ≡ taken n old
+taken_same : (n : ℕ) (old new : List (Option Cell)) → ((i : ℕ) → i < n → get_or new i None ≡ get_or old i None) → taken n new ≡ taken n old
 unfolding taken
 taken_same zero old new same = refl
 taken_same (suc n) [] new same = none_taken (suc n) new same
@@ -74,10 +75,21 @@ taken_same (suc n) (cell ∷ old) [] same = sym (none_taken (suc n) (cell ∷ ol
 taken_same (suc n) (cell ∷ old) (other ∷ new) same = omega (arith, ap {B = ℕ} (λ o. cond (is_some o) 1 0) (same 0 (omega arith)), taken_same n old new (λ i within. same (suc i) (omega (arith, within))))
 
 -- if one of so many numbers is free, the slab has room
-pub roomy : (n capacity : ℕ) (cells : List (Option Cell)) → length cells ≤ capacity → n ≤ capacity → taken n cells < n → count_by is_some cells < capacity
+roomy : (n capacity : ℕ) (cells : List (Option Cell)) → length cells ≤ capacity → n ≤ capacity → taken n cells < n → count_by is_some cells < capacity
 unfolding taken
 roomy zero capacity cells long fits free = absurd (omega (arith, free))
 roomy (suc n) zero cells long fits free = absurd (omega (arith, fits))
 roomy (suc n) (suc capacity) [] long fits free = omega arith
 roomy (suc n) (suc capacity) (None ∷ cells) long fits free = omega (arith, long, sum_by-cons (λ (o : Option Cell). cond (is_some o) 1 0) None cells, count_by-le-length is_some cells)
 roomy (suc n) (suc capacity) (Some cell ∷ cells) long fits free = omega (arith, sum_by-cons (λ (o : Option Cell). cond (is_some o) 1 0) (Some cell) cells, roomy n capacity cells (omega (arith, long)) (omega (arith, fits)) (omega (arith, free)))
+
+-- if a number is free, the slab has room for one more
+pub room_for_one : (slab : Slab Cell) → length slab.slots ≤ slab.capacity → HasNumber slab → HasRoomFor slab 1
+room_for_one slab long free = omega (arith, roomy (min slab.capacity nothing) slab.capacity slab.slots long (min-le_left slab.capacity nothing) free)
+
+-- a number stays free if another changes that is too large
+pub still_free : (old new : Slab Cell) (i : ℕ) (cell : Option Cell) → nothing ≤ i → Updates old new i cell → new.capacity ≡ old.capacity → HasNumber old → HasNumber new
+still_free old new i cell large up same free =
+    let n = min old.capacity nothing in
+    let taken_is : taken n new.slots ≡ taken n old.slots = taken_same n old.slots new.slots (λ k within. up.others k (λ e. absurd (omega (arith, e, within, min-le_right old.capacity nothing, large)))) in
+    rw same (omega (arith, taken_is, free))

@@ -24,7 +24,7 @@ pub(crate) struct Slot {
 const MOST: usize = 4_294_967_295;
 
 // Puts a cell under a free number of 32 bits. A slab promises a key below its capacity, which may be more than was
-// asked for: a key that is too large is given back once another was found.
+// asked for: a key that is too large is replaced. It isn't recursive itself, so that it can be inlined.
 fn insert_below(slab: &mut Slab<Cell>, cell: Cell) -> usize
     requires { HasNumber slab.old }
     ensures small { result < nothing }
@@ -38,8 +38,29 @@ fn insert_below(slab: &mut Slab<Cell>, cell: Cell) -> usize
     if i < MOST {
         return i;
     }
-    let below = insert_below(slab, cell);
-    slab.remove(i);
+    replace_above(slab, i)
+}
+
+// Moves the cell under a number that is too large to a free one of 32 bits. Its old number is given back only once
+// another was found, since the slab would give it again.
+#[cold]
+fn replace_above(slab: &mut Slab<Cell>, above: usize) -> usize
+    requires number { HasNumber slab.old }
+    requires there { IsSome (get slab.old above) }
+    requires large { nothing ≤ above }
+    ensures small { result < nothing }
+    ensures free { get slab.old result ≡ None }
+    ensures moved { get slab.new result ≡ get slab.old above }
+    ensures gone { get slab.new above ≡ None }
+    ensures others { (k : ℕ) → k ≢ above → k ≢ result → get slab.new k ≡ get slab.old k }
+    ensures len { slab_len slab.new ≡ slab_len slab.old }
+    ensures capacity { slab.new.capacity ≡ slab.old.capacity }
+{
+    let _most = slab.capacity();
+    let cell = slab[above];
+    let i = slab.insert_reserved(cell);
+    let below = if i < MOST { i } else { replace_above(slab, i) };
+    slab.remove(above);
     below
 }
 
