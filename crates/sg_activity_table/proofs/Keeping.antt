@@ -1,14 +1,14 @@
 -- The activities under the keys of a slab.
 use Rattle.std.proofs.Common.{◌≡◌, ℕ, zero, suc, ◌+◌, ◌<◌, ◌≤◌, ◌⊎◌, inl, inr, List, [], ◌∷◌, Option, None, Some, IsSome, is_some, cond, count_by, length, get_or, option_map, set, refl, sym, ap, subst, ◌∙◌, arith}
 use Rattle.std.proofs.lemmas.List.Sums.{count_by-le-length, sum_by-cons, sum_by-set}
-use Rattle.slab.specs.Slab.{Slab, get, slab_len, with_value, ContainsKey, Updates}
+use Rattle.slab.specs.Slab.{Slab, get, slab_len, with_value, ContainsKey, HasRoomFor, Updates}
 use Rattle.slab.proofs.SlabLemmas.{ContainsKey-within}
 use Rattle.sg_activity_table.specs.declared.cells.Cell.{Cell}
 use Rattle.sg_activity_table.specs.declared.lives.Live.{Live}
 use Rattle.sg_activity_table.specs.Cells.{live_of, live_at, lives_in}
-use Rattle.sg_activity_table.specs.Pool.{FindsEach, IsLives, SameSlots, goes_on, slot_at}
+use Rattle.sg_activity_table.specs.Pool.{FindsEach, HasFree, IsLives, SameSlots, goes_on, slot_at}
 use Rattle.sg_activity_table.specs.Slots.{listed, passes}
-use Rattle.sg_activity_table.proofs.Listed.{length-listed, at_listed, past_listed, set_listed}
+use Rattle.sg_activity_table.proofs.Listed.{length-listed, at_listed, past_listed, same_listed, set_listed}
 use Rattle.sg_activity_table.proofs.Pooled.{within_there}
 use Rattle.sg_activity_table.proofs.Found.{found_wider}
 
@@ -56,13 +56,26 @@ pub len_with : (slab : Slab Cell) (key : ℕ) (cell : Cell) → ContainsKey slab
 len_with slab key cell there = omega (arith, sum_by-set (λ (o : Option Cell). cond (is_some o) 1 0) slab.slots key (Some cell) None (ContainsKey-within slab key there), ap {B = ℕ} (λ b. cond b 1 0) there)
 
 -- if one of so many keys is free, the slab has room
-pub roomy : (n capacity : ℕ) (cells : List (Option Cell)) → length cells ≤ capacity → n ≤ capacity → count_by is_some (listed n (held cells)) < n → count_by is_some cells < capacity
+roomy : (n capacity : ℕ) (cells : List (Option Cell)) → length cells ≤ capacity → n ≤ capacity → count_by is_some (listed n (held cells)) < n → count_by is_some cells < capacity
 unfolding listed
 roomy zero capacity cells long fits free = absurd (omega (arith, free))
 roomy (suc n) zero cells long fits free = absurd (omega (arith, fits))
 roomy (suc n) (suc capacity) [] long fits free = omega arith
 roomy (suc n) (suc capacity) (None ∷ cells) long fits free = omega (arith, long, sum_by-cons (λ (o : Option Cell). cond (is_some o) 1 0) None cells, count_by-le-length is_some cells)
 roomy (suc n) (suc capacity) (Some cell ∷ cells) long fits free = omega (arith, sum_by-cons (λ (o : Option Cell). cond (is_some o) 1 0) (Some cell) cells, roomy n capacity cells (omega (arith, long)) (omega (arith, fits)) (omega (arith, free, sum_by-cons (λ (o : Option Live). cond (is_some o) 1 0) (held (Some cell ∷ cells) 0) (listed n (held cells)))))
+
+-- if a key is free, the slab has room for one more
+pub room_for_one : (keys : ℕ) (slab : Slab Cell) → length slab.slots ≤ slab.capacity → HasFree keys slab → HasRoomFor slab 1
+room_for_one keys slab long has = omega (arith, roomy keys slab.capacity slab.slots long has.fits has.free)
+
+-- a key below this number stays free if one changes that isn't below it
+pub still_free : (keys above : ℕ) (old new : Slab Cell) (slot : Option Cell) → keys ≤ above → Updates old new above slot → new.capacity ≡ old.capacity → HasFree keys old → HasFree keys new
+still_free keys above old new slot large up same has =
+    let lives_are : lives_in keys new ≡ lives_in keys old = same_listed keys (live_at new) (live_at old) (λ k within. ap (option_map live_of) (up.others k (λ e. absurd (omega (arith, e, within, large))))) in
+    record {
+      free = subst (λ l. count_by is_some l < keys) (sym lives_are) has.free;
+      fits = omega (arith, has.fits, same);
+    }
 
 -- ---- more keys
 lt_cases : (a b : ℕ) → (a < b) ⊎ (b ≤ a)

@@ -1,6 +1,6 @@
 //! The running activities, by key.
 
-ghost use Rattle.std.specs.Prelude.{◌≡◌, ◌<◌, ◌+◌, ◌-◌, ◌==◌, None, Some, IfSome, IsSome, MatchOption, [], if◌then◌else◌, not, count_by, length, option_map, slice_set};
+ghost use Rattle.std.specs.Prelude.{◌≡◌, ◌≢◌, ◌<◌, ◌≤◌, ◌+◌, ◌-◌, ◌==◌, ℕ, None, Some, IfSome, IsSome, MatchOption, [], if◌then◌else◌, not, count_by, length, option_map, slice_set};
 ghost use Rattle.slab.specs.Slab.{get, slab_len, Updates};
 ghost use Rattle.sg_activity_table.specs.Slots.{passes};
 ghost use Rattle.sg_activity_table.specs.Kinds.{is_exec as is_exec_spec, is_held as is_held_spec, takes_share as takes_share_spec};
@@ -112,7 +112,8 @@ fn going_by(kind: PhaseKind) -> usize
 }
 
 // Puts an activity under a free key below this number. A slab promises a key below its capacity, which may be more than
-// was asked for, and callers have no place for a key from there: it is given back once another was found.
+// was asked for, and callers have no place for a key from there: it is replaced. It isn't recursive itself, so that it
+// can be inlined.
 fn insert_below(slab: &mut Slab<Cell>, keys: usize, cell: Cell) -> usize
     requires { HasFree keys slab.old }
     ensures below { result < keys }
@@ -126,8 +127,33 @@ fn insert_below(slab: &mut Slab<Cell>, keys: usize, cell: Cell) -> usize
     if key < keys {
         return key;
     }
-    let below = insert_below(slab, keys, cell);
-    slab.remove(key);
+    replace_above(slab, keys, key)
+}
+
+// Moves the activity under a key that isn't below this number to a free one that is. Its old key is given back only
+// once another was found, since the slab would give it again.
+#[cold]
+fn replace_above(slab: &mut Slab<Cell>, keys: usize, above: usize) -> usize
+    requires free { HasFree keys slab.old }
+    requires there { IsSome (get slab.old above) }
+    requires large { keys ≤ above }
+    ensures below { result < keys }
+    ensures vacant { get slab.old result ≡ None }
+    ensures moved { get slab.new result ≡ get slab.old above }
+    ensures gone { get slab.new above ≡ None }
+    ensures others { (k : ℕ) → k ≢ above → k ≢ result → get slab.new k ≡ get slab.old k }
+    ensures len { slab_len slab.new ≡ slab_len slab.old }
+    ensures capacity { slab.new.capacity ≡ slab.old.capacity }
+{
+    let _most = slab.capacity();
+    let cell = slab[above];
+    let key = slab.insert_reserved(cell);
+    let below = if key < keys {
+        key
+    } else {
+        replace_above(slab, keys, key)
+    };
+    slab.remove(above);
     below
 }
 
