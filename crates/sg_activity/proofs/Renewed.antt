@@ -1,19 +1,20 @@
 -- One more activity is restamped, or dated anew.
-use Rattle.std.proofs.Common.{◌≡◌, ◌≢◌, ℕ, ◌+◌, ◌-◌, ◌*◌, ◌<◌, ◌≤◌, inl, inr, Bool, true, false, cond, ◌||◌, ◌&&◌, Option, None, Some, option_map, List, length, get_or, set, take, slice_index, IsTrue, refl, sym, ap, ap₂, ◌∙◌, arith}
+use Rattle.std.proofs.Common.{◌≡◌, ◌≢◌, ℕ, ◌+◌, ◌-◌, ◌*◌, ◌^◌, ◌<◌, ◌≤◌, inl, inr, Bool, true, false, not, cond, ◌||◌, ◌&&◌, Option, None, Some, option_map, List, length, get_or, set, take, slice_index, IsTrue, refl, sym, ap, ap₂, ◌∙◌, arith}
 use Rattle.std.proofs.lemmas.List.{take_more}
-use Rattle.sg_base.specs.MarkSet.{is_in, with_mark}
+use Rattle.sg_base.specs.MarkSet.{MarkSet, is_in}
 use Rattle.sg_heap.specs.Agenda.{Key, key_at}
 use Rattle.sg_lazy.specs.Lazily.{Lazily}
 use Rattle.sg_lazy.specs.RunningFlow.{RunningFlow, running_at}
 use Rattle.sg_activity_table.specs.declared.lives.Live.{Live}
 use Rattle.sg_activity_table.specs.Kinds.{takes_share}
-use Rattle.sg_activity_table.specs.Pool.{slot_at}
+use Rattle.sg_activity_table.specs.Pool.{Pool, slot_at}
 use Rattle.sg_activity.specs.kept.Stamps.{left_at}
-use Rattle.sg_activity.specs.kept.Renewal.{IsKeyed, rate_in, is_among, restamped, is_renewed, date_in}
+use Rattle.sg_activity.specs.kept.Renewal.{IsKeyed, rate_in, is_among, restamped, is_renewed, AreUnmarked, AreSmall, date_in, AreRenewed, AreRedated}
+use Rattle.sg_activity.specs.kept.State.{date_of}
 use Rattle.sg_activity.proofs.Listing.{eq_cases, some_same}
 use Rattle.sg_activity.proofs.Pairing.{there_within}
 use Rattle.sg_activity.proofs.Starts.{set_here, set_there}
-use Rattle.sg_activity.proofs.Told.{in_more, in_last, mark_self, mark_other}
+use Rattle.sg_activity.proofs.Told.{in_more, in_last}
 
 pub take_self : (xs : List ℕ) (k : ℕ) → k < length xs → is_in (get_or xs k 0) (take (k + 1) xs) ≡ true
 take_self xs k h = ap (is_in (get_or xs k 0)) (take_more xs k 0 h) ∙ in_last (get_or xs k 0) (take k xs)
@@ -93,22 +94,54 @@ module _ (changed by_flow : List ℕ) (lazy : Lazily) (date : ℕ) (slots now : 
       others k ne None e = refl
       others k ne (Some other) e = ap Some (sym (restamp_same (take (i + 1) changed) (take i changed) lazy.slots date other (not_other k other ne e)))
 
-  pub renewed_next : (marks old : List ℕ) → ((k : ℕ) → is_in k marks ≡ (is_in k old || is_renewed (take i changed) (slot_at slots k))) →
-      (k : ℕ) → is_in k (with_mark (slice_index by_flow (get_or changed i 0)) marks) ≡ (is_in k old || is_renewed (take (i + 1) changed) (slot_at slots k))
-  renewed_next marks old h k = elim (eq_cases k key) [
-    | inl e ↦
-        ap (λ n. is_in n (with_mark key marks)) e ∙ mark_self key marks ∙ sym (or_true (is_in k old))
-        ∙ ap (λ b. is_in k old || b) (sym (ap (λ n. is_renewed (take (i + 1) changed) (slot_at slots n)) e ∙ ap (is_renewed (take (i + 1) changed)) keyed.there ∙ among_now))
-    | inr ne ↦ mark_other key k marks ne ∙ h k ∙ ap (λ b. is_in k old || b) (others k ne (slot_at slots k) refl)
+  renewed_here : (k : ℕ) → k ≡ key → is_renewed (take (i + 1) changed) (slot_at slots k) ≡ true
+  renewed_here k e = ap (λ n. is_renewed (take (i + 1) changed) (slot_at slots n)) e ∙ ap (is_renewed (take (i + 1) changed)) keyed.there ∙ among_now
+
+  renewed_there : (k : ℕ) → k ≢ key → is_renewed (take i changed) (slot_at slots k) ≡ is_renewed (take (i + 1) changed) (slot_at slots k)
+  renewed_there k ne = go (slot_at slots k) refl
+    where
+      go : (o : Option Live) → slot_at slots k ≡ o → is_renewed (take i changed) o ≡ is_renewed (take (i + 1) changed) o
+      go None e = refl
+      go (Some other) e = sym (not_other k other ne e)
+
+  -- its key isn't marked any more
+  pub unmarked_next : (old marks less : List ℕ) → ((k : ℕ) → is_in k marks ≡ (is_in k old && not (is_renewed (take i changed) (slot_at slots k)))) →
+      is_in (slice_index by_flow (get_or changed i 0)) less ≡ false → ((k : ℕ) → k ≢ slice_index by_flow (get_or changed i 0) → is_in k less ≡ is_in k marks) →
+      (k : ℕ) → is_in k less ≡ (is_in k old && not (is_renewed (take (i + 1) changed) (slot_at slots k)))
+  unmarked_next old marks less h gone others k = elim (eq_cases k key) [
+    | inl e ↦ ap (λ n. is_in n less) e ∙ gone ∙ sym (and_false (is_in k old)) ∙ ap (λ b. is_in k old && not b) (sym (renewed_here k e))
+    | inr ne ↦ others k ne ∙ h k ∙ ap (λ b. is_in k old && not b) (renewed_there k ne)
   ]
     where
-      or_true : (b : Bool) → (b || true) ≡ true
-      or_true true = refl
-      or_true false = refl
+      and_false : (b : Bool) → (b && false) ≡ false
+      and_false true = refl
+      and_false false = refl
 
-      others : (k : ℕ) → k ≢ key → (o : Option Live) → slot_at slots k ≡ o → is_renewed (take i changed) o ≡ is_renewed (take (i + 1) changed) o
-      others k ne None e = refl
-      others k ne (Some other) e = sym (not_other k other ne e)
+  -- it has its date
+  pub redated_next : (old dates : List (Option Key)) (live : Live) → slice_index by_flow (get_or changed i 0) < length dates →
+      ((k : ℕ) → key_at dates k ≡ cond (is_renewed (take i changed) (slot_at slots k)) (date_in (slot_at now k)) (key_at old k)) →
+      (k : ℕ) → key_at (set dates (slice_index by_flow (get_or changed i 0)) (date_of live)) k ≡ cond (is_renewed (take (i + 1) changed) (slot_at slots k)) (date_in (slot_at (set now (slice_index by_flow (get_or changed i 0)) (Some live)) k)) (key_at old k)
+  redated_next old dates live long h k = elim (eq_cases k key) [
+    | inl e ↦
+        ap (key_at (set dates key (date_of live))) e ∙ set_here dates key (date_of live) long
+        ∙ sym (ap date_in (ap (slot_at (set now key (Some live))) e ∙ set_here now key (Some live) (there_within now key (restamped (take i changed) lazy.slots date keyed.live) there_before)))
+        ∙ ap (λ b. cond b (date_in (slot_at (set now key (Some live)) k)) (key_at old k)) (sym (renewed_here k e))
+    | inr ne ↦
+        set_there dates key k (date_of live) ne ∙ h k
+        ∙ ap (λ o. cond (is_renewed (take i changed) (slot_at slots k)) (date_in o) (key_at old k)) (sym (set_there now key k (Some live) ne))
+        ∙ ap (λ b. cond b (date_in (slot_at (set now key (Some live)) k)) (key_at old k)) (renewed_there k ne)
+  ]
+
+  -- what is left of it is small
+  pub left_small : (cur : Live) → slot_at now (slice_index by_flow (get_or changed i 0)) ≡ Some cur → AreSmall slots → left_at cur.kept cur.rate cur.stamp date ≤ 10 ^ 24
+  left_small cur at small =
+      let less = go (is_among (take i changed) keyed.live) in
+      let same : cur.kept ≡ (restamped (take i changed) lazy.slots date keyed.live).kept = ap (λ (l : Live). l.kept) (some_same (sym at ∙ there_before)) in
+      omega (arith, less, same, (small key keyed.live keyed.there).amount)
+    where
+      go : (b : Bool) → (cond b (stamped_at lazy.slots date keyed.live) keyed.live).kept ≤ keyed.live.kept
+      go true = omega arith
+      go false = omega arith
 
 -- ---- dated anew
 pub dated_next : (old now : List (Option Key)) (slots : List (Option Live)) (keys : List ℕ) (i : ℕ) (date : Option Key) → i < length keys → get_or keys i 0 < length now → date ≡ date_in (slot_at slots (get_or keys i 0)) →
@@ -119,3 +152,16 @@ dated_next old now slots keys i date within long is h k = elim (eq_cases k (get_
       ∙ sym (ap (λ n. cond (is_in n (take (i + 1) keys)) (date_in (slot_at slots n)) (key_at old n)) e ∙ ap (λ b. cond b (date_in (slot_at slots (get_or keys i 0))) (key_at old (get_or keys i 0))) (take_self keys i within))
   | inr ne ↦ set_there now (get_or keys i 0) k date ne ∙ h k ∙ ap (λ b. cond b (date_in (slot_at slots k)) (key_at old k)) (sym (take_other k keys i within ne))
 ]
+
+-- those that were marked and those whose flows changed have their dates now
+pub all_dated : (old mid new : List (Option Key)) (was now : Pool) (marks less : MarkSet) (lazy : Lazily) → AreRedated old mid was now lazy → AreUnmarked was marks less lazy → AreRenewed mid new now.slots less.members →
+    (k : ℕ) → key_at new k ≡ cond (is_in k marks.members || is_renewed lazy.changed (slot_at was.slots k)) (date_in (slot_at now.slots k)) (key_at old k)
+all_dated old mid new was now marks less lazy redated unmarked renewed k =
+    renewed k ∙ ap₂ (λ b o. cond b (date_in (slot_at now.slots k)) o) (unmarked.members k) (redated.dates k)
+    ∙ go (is_in k marks.members) (is_renewed lazy.changed (slot_at was.slots k)) (date_in (slot_at now.slots k)) (key_at old k)
+  where
+    go : (a b : Bool) (x y : Option Key) → cond (a && not b) x (cond b x y) ≡ cond (a || b) x y
+    go true true x y = refl
+    go true false x y = refl
+    go false true x y = refl
+    go false false x y = refl

@@ -17,7 +17,7 @@ use Rattle.sg_activity.specs.kept.Stamps.{left_at}
 use Rattle.sg_activity_table.specs.Pool.{Pool, slot_at}
 use Rattle.sg_activity.specs.kept.State.{State, links_at, task_from, task_of, stamp_of, asked_by, date_of, is_so, key_from, is_marked, told_at, told_by, changed_at, changed_by, under_of, doing_of}
 use Rattle.sg_activity.specs.kept.Sound.{IsHeld, AreApart, IsKept, slot_ahead, slot_uses, run_of}
-use Rattle.sg_activity.specs.kept.Renewal.{IsKeyed, HaveKeys, rate_in, is_among, restamped, is_renewed, AreRestamped, AreSmall, date_in, AreRenewed}
+use Rattle.sg_activity.specs.kept.Renewal.{IsKeyed, HaveKeys, rate_in, is_among, restamped, is_renewed, AreRestamped, AreSmall, date_in}
 use Rattle.sg_activity_table.proofs.Listed.{length-listed, same_listed}
 use Rattle.sg_activity.proofs.Listing.{eq_cases, some_same}
 use Rattle.sg_activity_table.specs.Slots.{listed, passes}
@@ -28,7 +28,6 @@ use Rattle.sg_activity.proofs.Rates.{rate_told, task_missed}
 use Rattle.sg_activity.proofs.Stamping.{is_another, is_same, rerated_there}
 use Rattle.std.proofs.lemmas.List.{get_or_default}
 use Rattle.sg_activity.proofs.Pairing.{sum_alike}
-use Rattle.sg_activity_table.proofs.Pooled.{within_there}
 use Rattle.sg_activity.proofs.Told.{member_at, doing_same, made_same}
 
 mapped_false : (n : ℕ) (f : ℕ → Option Bool) → ((i : ℕ) → passes is_so (f i) ≡ false) → map (passes is_so) (listed n f) ≡ replicate n false
@@ -83,8 +82,9 @@ kept_rate old new id was now by a b not = elim (eq_cases now.rate was.rate) [
   | inr ne ↦ absurd (true≢false (sym ((by.changes id).1 (subst (λ o. DidChange o (running_at new.slots id)) (sym a) (subst (λ o. DidChange (Some was) o) (sym b) (inr ne)))) ∙ not))
 ]
 
-module _ (s : State) (lazy new : Lazily) (pool : Pool) (marks more : MarkSet) (keys : List (Option Key)) (is : IsKept s) (runs : lazy.slots ≡ s.runs) (caps : lazy.capacities ≡ capacities_of s.capacities) (by : IsSettled lazy new)
-    (fresh : marks.members ≡ s.fresh) (old : Pool) (slots : old.slots ≡ s.slots) (stamped : AreRestamped old pool marks more new s.date) (renewed : AreRenewed s.keys keys pool.slots more.members) where
+module _ (s : State) (lazy new : Lazily) (pool : Pool) (marks : MarkSet) (keys : List (Option Key)) (is : IsKept s) (runs : lazy.slots ≡ s.runs) (caps : lazy.capacities ≡ capacities_of s.capacities) (by : IsSettled lazy new)
+    (fresh : marks.members ≡ s.fresh) (old : Pool) (slots : old.slots ≡ s.slots) (stamped : AreRestamped old pool new s.date)
+    (dated : (key : ℕ) → key_at keys key ≡ cond (is_in key marks.members || is_renewed new.changed (slot_at old.slots key)) (date_in (slot_at pool.slots key)) (key_at s.keys key)) where
   abbrev pub settled_state : State
   settled_state = record s { slots = pool.slots; keys = keys; runs = new.slots; fresh = []; ended = new.ended; resources = new.resources; settled = true; arrived = false }
 
@@ -117,12 +117,12 @@ module _ (s : State) (lazy new : Lazily) (pool : Pool) (marks more : MarkSet) (k
       ∙ ap₂ (λ x m. Some (record { flow = asked_by s key live; rate = n; began = x; marked = m })) c d
 
   date_there : (key : ℕ) (live : Live) (w : WasStamped new.changed new.slots s.date s.slots key live) → slot_at pool.slots key ≡ Some live → key_at keys key ≡ date_of live
-  date_there key live w at = renewed key ∙ go (is_in key more.members) refl
+  date_there key live w at = dated key ∙ go (is_in key marks.members || is_renewed new.changed (slot_at old.slots key)) refl
     where
-      go : (b : Bool) → is_in key more.members ≡ b → cond b (date_in (slot_at pool.slots key)) (key_at s.keys key) ≡ date_of live
+      go : (b : Bool) → (is_in key marks.members || is_renewed new.changed (slot_at old.slots key)) ≡ b → cond b (date_in (slot_at pool.slots key)) (key_at s.keys key) ≡ date_of live
       go true e = ap date_in at
       go false e =
-          let both = neither (is_in key marks.members) (is_renewed new.changed (slot_at old.slots key)) (sym (stamped.fresh key) ∙ e) in
+          let both = neither (is_in key marks.members) (is_renewed new.changed (slot_at old.slots key)) e in
           let stale : is_in key s.fresh ≡ false = ap (is_in key) (sym fresh) ∙ both.0 in
           let same : live ≡ w.old = elim w.which [
             | inl c ↦ absurd (true≢false (sym c.0 ∙ ap (is_renewed new.changed) (sym (ap (λ l. slot_at l key) slots ∙ w.there)) ∙ both.1))
@@ -215,7 +215,7 @@ module _ (s : State) (lazy new : Lazily) (pool : Pool) (marks more : MarkSet) (k
     each = each;
     idle = λ key none.
         let was : slot_at s.slots key ≡ None = back (slot_at s.slots key) (ap (λ l. option_map (restamped new.changed new.slots s.date) (slot_at l key)) (sym slots) ∙ sym (stamped.slots key) ∙ none) in
-        renewed key ∙ gone (is_in key more.members) key none (is.idle key was);
+        dated key ∙ gone (is_in key marks.members || is_renewed new.changed (slot_at old.slots key)) key none (is.idle key was);
     apart = apart;
     back = λ id q e.
         let r = ran_before id q e in
@@ -402,6 +402,17 @@ keyed_flows s lazy new is runs by id changed = go (running_at lazy.slots id) (ru
           alone = λ key other at full same. sym ((is.each key other at).flow full).known ∙ ap (slice_index s.by_flow) same;
         }
 
+-- each amount is small before, and each stamp
+pub small_before : (s : State) → IsKept s → s.date < 10 ^ 34 → AreSmall s.slots × (s.date < 10 ^ 34)
+small_before s is early = (
+  λ key live at. let h = is.each key live at in record {
+    amount = h.small;
+    stamp = omega (arith, early, h.stamped);
+  },
+  early,
+)
+
+-- and after
 pub small_lives : (s : State) (flows : List ℕ) (runs : List (Option RunningFlow)) (slots : List (Option Live)) → IsKept s → s.date < 10 ^ 34 → ((key : ℕ) → slot_at slots key ≡ option_map (restamped flows runs s.date) (slot_at s.slots key)) → AreSmall slots
 small_lives s flows runs slots is early stamped key live at =
     let w = was_stamped flows runs s.date s.slots key live (sym (stamped key) ∙ at) in
@@ -418,22 +429,15 @@ small_lives s flows runs slots is early stamped key live at =
     ]
 
 -- ---- what the marks name
-or_cases : (a b : Bool) → (a || b) ≡ true → (a ≡ true) ⊎ (b ≡ true)
-or_cases true b e = inl refl
-or_cases false b e = inr e
+and_first : (a b : Bool) → (a && b) ≡ true → a ≡ true
+and_first true b e = refl
+and_first false b e = absurd (true≢false (sym e))
 
-renewed_there : (flows : List ℕ) (o : Option Live) → is_renewed flows o ≡ true → IsSome o
-renewed_there flows None e = absurd (true≢false (sym e))
-renewed_there flows (Some live) e = refl
-
--- each key that is to be dated anew is one
-pub marked_below : (s : State) (flows members : List ℕ) (slots : List (Option Live)) → IsKept s → ((key : ℕ) → is_in key members ≡ (is_in key s.fresh || is_renewed flows (slot_at s.slots key))) → length slots ≡ length s.slots → All (λ key. key < length slots) members
+-- each key that is still marked is one
+pub marked_below : (s : State) (flows members : List ℕ) (slots : List (Option Live)) → IsKept s → ((key : ℕ) → is_in key members ≡ (is_in key s.fresh && not (is_renewed flows (slot_at s.slots key)))) → length slots ≡ length s.slots → All (λ key. key < length slots) members
 marked_below s flows members slots is marked long k d within =
     let key = get_or members k 0 in
-    let there : key < length s.slots = elim (or_cases (is_in key s.fresh) (is_renewed flows (slot_at s.slots key)) (sym (marked key) ∙ member_at members k within)) [
-      | inl e ↦ is.fresh key e
-      | inr e ↦ within_there s.slots key (renewed_there flows (slot_at s.slots key) e)
-    ] in
+    let there : key < length s.slots = is.fresh key (and_first (is_in key s.fresh) (not (is_renewed flows (slot_at s.slots key))) (sym (marked key) ∙ member_at members k within)) in
     let less : key < length slots = omega (arith, there, long) in
     subst (λ n. n < length slots) (get_or_default members k 0 d within) less
 

@@ -406,6 +406,7 @@ impl Activities {
         self.kept.lazy.settle(steps);
         restamp(
             &mut self.kept.lives,
+            &mut self.kept.agenda,
             &mut self.kept.fresh,
             &self.kept.by_flow,
             &self.kept.lazy,

@@ -1,10 +1,10 @@
 //! What remains of activities, and when they complete, as their rates change.
 
-ghost use Rattle.std.specs.Prelude.{◌≡◌, ◌<◌, ◌≤◌, ℕ, All, length, slice_index, slice_set};
+ghost use Rattle.std.specs.Prelude.{◌≡◌, ◌^◌, ◌<◌, ◌≤◌, ℕ, All, length, slice_index, slice_set};
 ghost use Rattle.std.specs.Int.{div_ceil};
 ghost use Rattle.sg_activity.specs.Underway.{wait as wait_spec};
 ghost use Rattle.sg_activity.specs.kept.Stamps.{due_of as due_of_spec, left_at as left_at_spec};
-ghost use Rattle.sg_activity.specs.kept.Renewal.{AreRestamped, AreRenewed, AreSmall, HaveKeys, IsSmall};
+ghost use Rattle.sg_activity.specs.kept.Renewal.{AreRedated, AreRenewed, AreRestamped, AreSmall, AreUnmarked, HaveKeys, IsSmall};
 ghost use Rattle.sg_activity.specs.kept.State.{date_of, due_at};
 
 use sg_activity_table::{Live, Lives, PhaseKind};
@@ -76,10 +76,11 @@ fn key_of(by_flow: &[usize], id: usize) -> usize
     by_flow[id]
 }
 
-/// Notes the new rates of the flows whose rates changed, with the remaining work of their activities now, and that
-/// these are to be dated anew.
+/// Notes the new rates of the flows whose rates changed, with the remaining work of their activities now, and dates
+/// these anew. They are no longer fresh, so `renew` leaves them out.
 pub(crate) fn restamp(
     lives: &mut Lives,
+    agenda: &mut Agenda,
     fresh: &mut Marks,
     by_flow: &[usize],
     lazy: &Lazy,
@@ -87,7 +88,11 @@ pub(crate) fn restamp(
 )
     requires keys { HaveKeys lives.old.slots by_flow.now lazy.now date }
     requires fresh { length lives.old.slots ≤ fresh.old.room }
-    ensures { AreRestamped lives.old lives.new fresh.old fresh.new lazy.now date }
+    requires agenda { length lives.old.slots ≤ length agenda.old }
+    requires small { AreSmall lives.old.slots × (date < 10 ^ 34) }
+    ensures stamps { AreRestamped lives.old lives.new lazy.now date }
+    ensures dates { AreRedated agenda.old agenda.new lives.old lives.new lazy.now }
+    ensures fresh { AreUnmarked lives.old fresh.old fresh.new lazy.now }
 {
     let changed = lazy.changed();
     for id in changed {
@@ -95,8 +100,15 @@ pub(crate) fn restamp(
         let Some(live) = lives.get(key) else {
             unreachable!()
         };
-        lives.restamp(key, left_at(&live, date), date, lazy.rate(*id));
-        fresh.insert(key);
+        let now = Live {
+            kept: left_at(&live, date),
+            stamp: date,
+            rate: lazy.rate(*id),
+            ..live
+        };
+        lives.restamp(key, now.kept, date, now.rate);
+        date_anew(agenda, key, &now);
+        fresh.remove(key);
     }
 }
 

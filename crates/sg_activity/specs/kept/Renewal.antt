@@ -1,5 +1,5 @@
 -- What bringing the rates up to date changes of the activities and their dates.
-use Rattle.std.specs.Prelude.{◌≡◌, ℕ, ◌^◌, ◌<◌, ◌≤◌, Bool, false, ◌||◌, ◌&&◌, Option, None, Some, option_map, if◌then◌else◌, List, length, slice_index, IsTrue, IsSome}
+use Rattle.std.specs.Prelude.{◌≡◌, ℕ, ◌^◌, ◌<◌, ◌≤◌, Bool, false, not, ◌&&◌, Option, None, Some, option_map, if◌then◌else◌, List, length, slice_index, IsTrue, IsSome}
 use Rattle.sg_base.specs.MarkSet.{MarkSet, is_in}
 use Rattle.sg_heap.specs.Agenda.{Key, key_at}
 use Rattle.sg_lazy.specs.Lazily.{Lazily}
@@ -45,12 +45,16 @@ abbrev pub is_renewed : List ℕ → Option Live → Bool
 is_renewed flows None = false
 is_renewed flows (Some live) = is_among flows live
 
-pub record AreRestamped (old new : Pool) (marks more : MarkSet) (lazy : Lazily) (date : ℕ) : Type 0 where
+-- The activities whose flows changed continue from now at their new rates, and the others are as before.
+pub record AreRestamped (old new : Pool) (lazy : Lazily) (date : ℕ) : Type 0 where
   pub slots : (key : ℕ) → slot_at new.slots key ≡ option_map (restamped lazy.changed lazy.slots date) (slot_at old.slots key)
   pub long : length new.slots ≡ length old.slots
   pub room : new.room ≡ old.room
-  pub fresh : (key : ℕ) → is_in key more.members ≡ (is_in key marks.members || is_renewed lazy.changed (slot_at old.slots key))
-  pub fresh_room : more.room ≡ marks.room
+
+-- The activities whose flows changed aren't marked any more, and the others are as before.
+pub record AreUnmarked (pool : Pool) (old new : MarkSet) (lazy : Lazily) : Type 0 where
+  pub members : (key : ℕ) → is_in key new.members ≡ (is_in key old.members && not (is_renewed lazy.changed (slot_at pool.slots key)))
+  pub room : new.room ≡ old.room
 
 -- an amount and a stamp are small
 pub record IsSmall (live : Live) : Type 0 where
@@ -69,3 +73,8 @@ date_in (Some live) = date_of live
 -- under these keys are the dates of the activities, and under the others what was there
 abbrev pub AreRenewed : List (Option Key) → List (Option Key) → List (Option Live) → List ℕ → Type 0
 AreRenewed old new slots keys = (key : ℕ) → key_at new key ≡ (if is_in key keys then date_in (slot_at slots key) else key_at old key)
+
+-- The activities whose flows changed have their dates, and under the other keys is what was there.
+pub record AreRedated (old new : List (Option Key)) (was now : Pool) (lazy : Lazily) : Type 0 where
+  pub dates : (key : ℕ) → key_at new key ≡ (if is_renewed lazy.changed (slot_at was.slots key) then date_in (slot_at now.slots key) else key_at old key)
+  pub long : length new ≡ length old
