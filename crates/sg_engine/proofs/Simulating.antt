@@ -72,15 +72,19 @@ pub scene_as : {spent : ℕ} (names : Names) (roads : Roads) (firsts : List Mind
 scene_as {spent} names roads firsts script setup setup' how taken cast world old new same reached =
     subst (λ (s : Setup). IsStretch spent names (λ answers. round_or_pass (scene roads s firsts script) answers world) (ending how) taken cast old new) same reached
 
--- a part was made and printed
-pub advances : {spent : ℕ} (names : Names) (trace : Trace) (whole : Answering → Progress) (how : Option Ended) (taken : List ℕ) (cast : Cast) (part part' : PartView) (kept kept' : Kept) (old mid new : Known) (before after : Option (List ℕ)) →
-    IsStretch spent names whole (ending how) taken cast (moment part kept mid) (moment part' kept' new) → mid.records ≡ [] → old.records ≡ [] → mid.setup ≡ old.setup → after ≡ gain before (trace new.records) → (new' : Known) → new'.core ≡ new.core → new'.setup ≡ new.setup →
-    Advances spent names trace whole how taken cast (moment part kept old) (moment part' kept' new') before after
-advances names trace whole how taken cast part part' kept kept' old mid new before after reached none none' setup printed new' core setup' =
-    let made : new.records ≡ reached.made = reached.records ∙ ap (λ (l : List Record). l ++ reached.made) none in
+-- A part was made and printed. Room was made for it before, and its records are cleared since.
+pub advanced : {spent : ℕ} (names : Names) (trace : Trace) (roads : Roads) (firsts : List Mind) (script : Bool) (how : Option Ended) (taken : List ℕ) (cast : Cast) (world : World) (part part' : PartView) (kept kept' : Kept) (old mid new cleared : Known) (before after : Option (List ℕ)) →
+    mid ≡ record old { room = mid.room } → IsStretch spent names (λ answers. round_or_pass (scene roads mid.setup firsts script) answers world) (ending how) taken cast (moment part kept mid) (moment part' kept' new) →
+    old.records ≡ [] → (written : List Record) → written ≡ new.records → after ≡ gain before (trace written) → cleared ≡ record new { records = [] } →
+    Advances spent names trace (λ answers. round_or_pass (scene roads old.setup firsts script) answers world) how taken cast (moment part kept old) (moment part' kept' cleared) before after
+advanced names trace roads firsts script how taken cast world part part' kept kept' old mid new cleared before after same stretch none written is printed clears =
+    let setup : mid.setup ≡ old.setup = ap (λ (k : Known). k.setup) same in
+    let reached = scene_as names roads firsts script old.setup mid.setup how taken cast world (moment part kept mid) (moment part' kept' new) setup stretch in
+    let made : written ≡ reached.made = is ∙ reached.records ∙ ap (λ (l : List Record). l ++ reached.made) (ap (λ (k : Known). k.records) same ∙ none) in
     record {
       records = reached.made;
-      reached = with_records names whole (ending how) taken cast part part' kept kept' mid new old (record new' { records = reached.made }) [] reached none' (sym setup) core setup' refl;
+      reached = with_records names (λ answers. round_or_pass (scene roads old.setup firsts script) answers world) (ending how) taken cast part part' kept kept' mid new old (record cleared { records = reached.made }) [] reached none (sym setup)
+          (ap (λ (k : Known). k.core) clears) (ap (λ (k : Known). k.setup) clears) refl;
       printed = subst (λ (l : List Record). after ≡ gain before (trace l)) made printed;
     }
 

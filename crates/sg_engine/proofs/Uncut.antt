@@ -14,14 +14,10 @@ use Rattle.sg_engine.specs.declared.ended.Ended.{Ended}
 use Rattle.sg_engine.specs.declared.ended.Ended.TheVariants as ended
 use Rattle.sg_engine.specs.Run.{ended_at, ended_by}
 use Rattle.sg_engine.specs.RunContract.{is_cut}
-use Rattle.sg_engine.specs.kept.Moments.{cuts}
 use Rattle.sg_engine.specs.kept.Writing.{HasReason}
 
 uncut_not : (b : Bool) → b ≡ true → b ≡ false → ⊥
 uncut_not b is isnt = absurd (let e : true ≡ false = sym is ∙ isnt in cc e)
-
-pub uncut_write : (result : Result (Unit {0}) Ended) → cuts result ≡ false → result ≡ Err ended.WriteFault → ⊥
-uncut_write result uncut is = uncut_not (cuts result) (ap cuts is) uncut
 
 pub not_write : (how : Ended) → is_cut how ≡ false → how ≡ ended.WriteFault → ⊥
 not_write how uncut is = uncut_not (is_cut how) (ap is_cut is) uncut

@@ -48,5 +48,7 @@ pub fn advance<R: Threads + Sync, F: Files, O: Sinks, L: Ledger>(
     }
     write_trace(&engine.plan, sim.kernel.records(), &mut sim.buffer, out)?;
     sim.kernel.clear_records();
-    done
+    // So only an error is copied, and nearly no part ends in one.
+    done?;
+    Ok(())
 }

@@ -1,9 +1,9 @@
-use Rattle.std.proofs.Common.{◌≡◌, ◌≤◌, ◌+◌, ◌∙◌, sym, ap, arith, refl, rules, subst, ℕ, Bool, true, false, List, length, None}
+use Rattle.std.proofs.Common.{◌≡◌, ◌≤◌, ◌+◌, ◌∙◌, sym, ap, arith, refl, rules, subst, ℕ, Bool, true, false, List, length, None, Ok}
 use Rattle.std.specs.Prelude.{take}
 use Rattle.sg_base.specs.declared.trace_record.Record.{Record}
 use Rattle.sg_edge.specs.declared.files.Part.TheVariants.{Script}
 use Rattle.sg_edge.specs.declared.sinks.Stream.TheVariants.{Out}
-use Rattle.sg_edge.specs.Sinks.{gain, GainsFront}
+use Rattle.sg_edge.specs.Sinks.{GainsFront}
 use Rattle.sg_kernel_calls.specs.Known.{Known}
 use Rattle.sg_kernel_calls.specs.Roads.{AreOver}
 use Rattle.sg_kernel_calls.specs.Setup.{Setup}
@@ -17,10 +17,10 @@ use Rattle.sg_engine.specs.Roles.{firsts_of}
 use Rattle.sg_engine.specs.Run.{next_work, scene, round_or_pass}
 use Rattle.sg_engine.proofs.Parts.{room_for}
 use Rattle.sg_engine.proofs.Files.{script_unread}
-use Rattle.sg_engine.proofs.Simulating.{advances, cuts_off_at, cuts_off_by, kept_on, lacks_room, lacks_scene, part_is, part_kept, part_short, scene_as, short_kept}
+use Rattle.sg_engine.proofs.Simulating.{advanced, cuts_off_at, cuts_off_by, kept_on, lacks_room, lacks_scene, part_is, part_kept, part_short, scene_as, short_kept}
 use Rattle.sg_engine.proofs.Crews.{crew_cut, crew_same, front_all}
 use Rattle.sg_engine.proofs.Endings.{in_cut, in_over}
-use Rattle.sg_engine.proofs.Uncut.{exit_is, no_cause, uncut_write}
+use Rattle.sg_engine.proofs.Uncut.{exit_is, no_cause}
 use Rattle.sg_engine.specs.declared.simulation.Simulation.{Simulation}
 use Rattle.sg_engine.specs.kept.Invariant.{still_unstarted, unstarted, TakesCrew}
 use Rattle.sg_engine.proofs.advance.advance.Goals as goal
@@ -152,59 +152,43 @@ pub returns-clause-part : goal.returns-clause-part
 returns-clause-part g c = (
   (c.in_ok-write_trace.ensures {u = tt}).writes.err_held,
   λ taken world stands.
-      let names = known_in c.args.engine.now.plan.deployment.now in
-      let trace = trace_of c.args.engine.now.plan.terms.show c.args.engine.now.plan.platform.now c.args.engine.now.plan.deployment.now in
-      let done = c.round_or_pass-done.result in
-      let uncut = sym c.cuts.ensures ∙ c.if-cuts.false in
+      let plan = c.args.engine.now.plan in
       let old = c.args.sim.now.kernel in
-      let mid = c.reserve_round.new.self in
       let new = c.round_or_pass-done.new.sim.kernel in
-      let new' = c.clear_records.new.self in
-      let part = script_part c.args.engine.now.plan.script (g.F.Files.shows c.args.files.now Script) in
-      let part' = script_part c.args.engine.now.plan.script (g.F.Files.shows c.round_or_pass-done.new.files Script) in
-      let kept = kept_of c.args.sim.now.script in
-      let kept' = kept_of c.round_or_pass-done.new.sim.script in
-      let same : mid ≡ record old { room = mid.room } = (c.in_ok-reserve_round.ensures {u = tt}).kept in
-      let reached = in_over _ (cuts done) uncut (c.round_or_pass-done.ensures.step taken world (record { script = stands.script; core = ap (λ (k : Known). k.core) same ∙ stands.core; cast = stands.cast })) in
-      let before = g.O.Sinks.contents c.args.out.now.sink.now Out in
-      let after = g.O.Sinks.contents c.write_trace.new.out.sink.now Out in
-      let printed : after ≡ gain before (trace new.records) =
-      subst (λ (l : List Record). after ≡ gain before (trace l)) c.records.ensures.are (c.in_ok-write_trace.ensures {u = tt}).writes.out_held in
-      part_is names trace _ done taken _ _ _ before after uncut
-      (advances names trace (λ answers. round_or_pass (scene c.args.router.now old.setup (firsts_of c.args.engine.now.plan.deployment.now) c.args.engine.now.plan.script) answers world) (end_in done) taken _ part part' kept kept' old mid new before after
-      (scene_as names c.args.router.now (firsts_of c.args.engine.now.plan.deployment.now) c.args.engine.now.plan.script old.setup mid.setup (end_in done) taken _ world (moment part kept mid) (moment part' kept' new) (ap (λ (k : Known). k.setup) same) reached)
-      (ap (λ (k : Known). k.records) same ∙ c.requires.kept.cleared)
-      c.requires.kept.cleared
-      (ap (λ (k : Known). k.setup) same)
-      printed
-      new'
-      (ap (λ (k : Known). k.core) c.clear_records.ensures)
-      (ap (λ (k : Known). k.setup) c.clear_records.ensures)),
+      let same : c.reserve_round.new.self ≡ record old { room = c.reserve_round.new.self.room } = (c.in_ok-reserve_round.ensures {u = tt}).kept in
+      advanced (known_in plan.deployment.now) (trace_of plan.terms.show plan.platform.now plan.deployment.now) c.args.router.now (firsts_of plan.deployment.now) plan.script None taken _ world
+      (script_part plan.script (g.F.Files.shows c.args.files.now Script))
+      (script_part plan.script (g.F.Files.shows c.round_or_pass-done.new.files Script))
+      (kept_of c.args.sim.now.script)
+      (kept_of c.round_or_pass-done.new.sim.script)
+      old c.reserve_round.new.self new c.clear_records.new.self
+      (g.O.Sinks.contents c.args.out.now.sink.now Out)
+      (g.O.Sinks.contents c.write_trace.new.out.sink.now Out)
+      same
+      ((c.in_ok-done.ensures {u = tt}).step taken world (record { script = stands.script; core = ap (λ (k : Known). k.core) same ∙ stands.core; cast = stands.cast }))
+      c.requires.kept.cleared c.records.result.now c.records.ensures.are (c.in_ok-write_trace.ensures {u = tt}).writes.out_held c.clear_records.ensures,
 )
 
 pub returns-clause-cause : goal.returns-clause-cause
 returns-clause-cause g c = record {
   same = (c.in_ok-write_trace.ensures {u = tt}).writes.same;
-  write = λ is. absurd (uncut_write c.round_or_pass-done.result (sym c.cuts.ensures ∙ c.if-cuts.false) is);
+  write = λ is. absurd (cc is);
   sound = λ isnt. (c.in_ok-write_trace.ensures {u = tt}).writes.sound;
-  read = c.round_or_pass-done.ensures.goes.script.cause;
+  read = λ is. absurd (cc is);
 }
 
 pub returns-clause-kept : goal.returns-clause-kept
 returns-clause-kept g c =
     let kept = c.requires.kept in
     let room = (c.in_ok-reserve_round.ensures {u = tt}).kept in
-    let uncut = sym c.cuts.ensures ∙ c.if-cuts.false in
-    let seats = c.round_or_pass-done.ensures.goes.seats in
-    let setup = seats.setup ∙ ap (λ (k : Known). k.setup) room in
-    let before = record c.args.sim.now { kernel = c.reserve_round.new.self } in
+    let goes = (c.in_ok-done.ensures {u = tt}).goes in
+    let setup = goes.seats.setup ∙ ap (λ (k : Known). k.setup) room in
     let sim = record c.round_or_pass-done.new.sim { kernel = c.clear_records.new.self; buffer = c.write_trace.new.buffer } in
-    let crew : TakesCrew false before c.round_or_pass-done.new.sim = subst (λ (cut : Bool). TakesCrew cut before c.round_or_pass-done.new.sim) uncut seats.crew in
-    part_kept _ _ c.round_or_pass-done.result _ _ _ uncut
-    (takes_as false c.args.sim.now c.round_or_pass-done.new.sim sim c.reserve_round.new.self room crew refl (ap (λ (k : Known). k.core) c.clear_records.ensures))
+    part_kept _ _ (Ok tt) _ _ _ refl
+    (takes_as false c.args.sim.now c.round_or_pass-done.new.sim sim c.reserve_round.new.self room goes.seats.crew refl (ap (λ (k : Known). k.core) c.clear_records.ensures))
     (ap (λ (k : Known). k.setup) c.clear_records.ensures ∙ setup)
-    (kept_on _ c.args.engine.now.plan.deployment.now _ sim c.round_or_pass-done.new.sim.kernel c.round_or_pass-done.ensures.goes.fits c.clear_records.ensures (ap (λ (s : Setup). length s.homes) setup ∙ kept.homes) seats.seated
-    (seats.number ∙ kept.number) (omega (arith, seats.calls, kept.calls)) kept.few (front_all (λ b. (goal.Actor-dyn g (b.vtable, b.value)).mind b.value ≡ None) _ _ seats.crew.front kept.blank) (c.in_ok-write_trace.ensures {u = tt}).empty)
+    (kept_on _ c.args.engine.now.plan.deployment.now _ sim c.round_or_pass-done.new.sim.kernel goes.fits c.clear_records.ensures (ap (λ (s : Setup). length s.homes) setup ∙ kept.homes) goes.seats.seated
+    (goes.seats.number ∙ kept.number) (omega (arith, goes.seats.calls, kept.calls)) kept.few (front_all (λ b. (goal.Actor-dyn g (b.vtable, b.value)).mind b.value ≡ None) _ _ goes.seats.crew.front kept.blank) (c.in_ok-write_trace.ensures {u = tt}).empty)
 
 pub returns-clause-steps : goal.returns-clause-steps
 returns-clause-steps g c = next_as c.args.sim.now.kernel c.reserve_round.new.self c.args.steps.now c.round_or_pass-done.new.steps (c.in_ok-reserve_round.ensures {u = tt}).kept c.round_or_pass-done.ensures.steps
@@ -213,6 +197,51 @@ pub returns-clause-script : goal.returns-clause-script
 returns-clause-script g c =
     let script = c.round_or_pass-done.ensures.goes.script in
     record { reads = script.reads; roads = script.roads }
+
+-- ---- and the run has ended
+pub returns-in_err-done-clause-part : goal.returns-in_err-done-clause-part
+returns-in_err-done-clause-part g c = (
+  (c.in_ok-write_trace.ensures {u = tt}).writes.err_held,
+  λ taken world stands.
+      let plan = c.args.engine.now.plan in
+      let names = known_in plan.deployment.now in
+      let trace = trace_of plan.terms.show plan.platform.now plan.deployment.now in
+      let done = c.round_or_pass-done.result in
+      let is : c.from_residual-in_err-done.result ≡ done = exit_is _ c.from_residual-in_err-done.result c.from_residual-in_err-done.ensures.1 ∙ sym (c.in_err-done.was {u = tt}) in
+      let uncut = sym c.cuts.ensures ∙ c.if-cuts.false in
+      let old = c.args.sim.now.kernel in
+      let new = c.round_or_pass-done.new.sim.kernel in
+      let before = g.O.Sinks.contents c.args.out.now.sink.now Out in
+      let after = g.O.Sinks.contents c.write_trace.new.out.sink.now Out in
+      let same : c.reserve_round.new.self ≡ record old { room = c.reserve_round.new.self.room } = (c.in_ok-reserve_round.ensures {u = tt}).kept in
+      rw is (part_is names trace _ done taken _ _ _ before after uncut
+      (advanced names trace c.args.router.now (firsts_of plan.deployment.now) plan.script (end_in done) taken _ world
+      (script_part plan.script (g.F.Files.shows c.args.files.now Script))
+      (script_part plan.script (g.F.Files.shows c.round_or_pass-done.new.files Script))
+      (kept_of c.args.sim.now.script)
+      (kept_of c.round_or_pass-done.new.sim.script)
+      old c.reserve_round.new.self new c.clear_records.new.self before after same
+      (in_over _ (cuts done) uncut (c.round_or_pass-done.ensures.step taken world (record { script = stands.script; core = ap (λ (k : Known). k.core) same ∙ stands.core; cast = stands.cast })))
+      c.requires.kept.cleared c.records.result.now c.records.ensures.are (c.in_ok-write_trace.ensures {u = tt}).writes.out_held c.clear_records.ensures)),
+)
+
+pub returns-in_err-done-clause-kept : goal.returns-in_err-done-clause-kept
+returns-in_err-done-clause-kept g c =
+    let kept = c.requires.kept in
+    let room = (c.in_ok-reserve_round.ensures {u = tt}).kept in
+    let done = c.round_or_pass-done.result in
+    let is : c.from_residual-in_err-done.result ≡ done = exit_is _ c.from_residual-in_err-done.result c.from_residual-in_err-done.ensures.1 ∙ sym (c.in_err-done.was {u = tt}) in
+    let uncut = sym c.cuts.ensures ∙ c.if-cuts.false in
+    let seats = c.round_or_pass-done.ensures.goes.seats in
+    let setup = seats.setup ∙ ap (λ (k : Known). k.setup) room in
+    let before = record c.args.sim.now { kernel = c.reserve_round.new.self } in
+    let sim = record c.round_or_pass-done.new.sim { kernel = c.clear_records.new.self; buffer = c.write_trace.new.buffer } in
+    let crew : TakesCrew false before c.round_or_pass-done.new.sim = subst (λ (cut : Bool). TakesCrew cut before c.round_or_pass-done.new.sim) uncut seats.crew in
+    part_kept _ _ c.from_residual-in_err-done.result _ _ _ (ap cuts is ∙ uncut)
+    (takes_as false c.args.sim.now c.round_or_pass-done.new.sim sim c.reserve_round.new.self room crew refl (ap (λ (k : Known). k.core) c.clear_records.ensures))
+    (ap (λ (k : Known). k.setup) c.clear_records.ensures ∙ setup)
+    (kept_on _ c.args.engine.now.plan.deployment.now _ sim c.round_or_pass-done.new.sim.kernel c.round_or_pass-done.ensures.goes.fits c.clear_records.ensures (ap (λ (s : Setup). length s.homes) setup ∙ kept.homes) seats.seated
+    (seats.number ∙ kept.number) (omega (arith, seats.calls, kept.calls)) kept.few (front_all (λ b. (goal.Actor-dyn g (b.vtable, b.value)).mind b.value ≡ None) _ _ seats.crew.front kept.blank) (c.in_ok-write_trace.ensures {u = tt}).empty)
 
 pub round_or_pass-done-requires-clause-can : goal.round_or_pass-done-requires-clause-can
 round_or_pass-done-requires-clause-can g c κs within =
